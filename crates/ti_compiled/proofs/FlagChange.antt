@@ -4,7 +4,7 @@ use Rattle.std.proofs.lemmas.List.{length-append, set-append_left, set-append_ri
 use Rattle.ti_caps.specs.Tables.{capability}
 use Rattle.ti_caps.specs.declared.capability.Kind.TheVariants.{Flag, Number, Text}
 use Rattle.ti_layout.specs.declared.layout.Format.TheVariants.{Legacy}
-use Rattle.ti_layout.specs.declared.layout.Header.{Header}
+use Rattle.ti_layout.specs.declared.header.Header.{Header}
 use Rattle.ti_layout.specs.Image.{image, below, even_gap, flag_value, flags_below, format_of, image_limit, numbers_below, of_kind, offsets_below, texts_below, written_count}
 use Rattle.ti_layout.specs.Layout.{header, number_section, entry_size, width}
 use Rattle.ti_layout.specs.Laws.{without_cancel}

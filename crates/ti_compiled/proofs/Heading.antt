@@ -2,9 +2,9 @@
 use Rattle.std.proofs.Common.{◌≡◌, ℕ, suc, ◌+◌, ◌-◌, ◌≤◌, ◌<◌, List, [], ◌∷◌, length, drop, take, sym, ap, ◌∙◌, subst, arith}
 use Rattle.std.proofs.lemmas.List.{length-append, take-take}
 use Rattle.ti_caps.specs.declared.capability.Kind.TheVariants.{Flag, Number, Text}
-use Rattle.ti_layout.specs.declared.layout.Header.{Header}
+use Rattle.ti_layout.specs.declared.header.Header.{Header}
 use Rattle.ti_layout.specs.Image.{image, format_of, sections_of, written_count, texts_below}
-use Rattle.ti_layout.specs.Reading.{names_section, names_size, word_at}
+use Rattle.ti_layout.specs.Reading.{IsHeaderAt, names_section, names_size, word_at}
 use Rattle.ti_layout.specs.inside.Writing.{HasSizes, at_most_max}
 use Rattle.ti_layout.specs.Values.{Contents}
 use Rattle.ti_layout.proofs.Below.{length-below}
@@ -12,7 +12,6 @@ use Rattle.ti_layout.proofs.ImageReading.{Sound, sections-sound, counts}
 use Rattle.ti_layout.proofs.Parts.{Found, found}
 use Rattle.ti_layout.proofs.Sizes.{strings_small}
 use Rattle.ti_compiled.specs.inside.Image.{names_in, contents_in, IsImaged, IsImage}
-use Rattle.ti_layout.specs.inside.Sections.{IsHeaderAt}
 
 pub found_image : (names : List ℕ) (c : Contents) → IsImaged names c → Found (image names c) (format_of c) (sections_of (format_of c) names c)
 unfolding image

@@ -4,7 +4,7 @@ use Rattle.ti_caps.specs.Tables.{capability}
 use Rattle.ti_caps.specs.declared.capability.Kind.TheVariants.{Number, Text}
 use Rattle.ti_layout.specs.declared.layout.Format.{Format}
 use Rattle.ti_layout.specs.declared.layout.Format.TheVariants.{Legacy, Extended}
-use Rattle.ti_layout.specs.declared.layout.Header.{Header}
+use Rattle.ti_layout.specs.declared.header.Header.{Header}
 use Rattle.ti_layout.specs.Image.{image, below, format_of, is_there, image_limit, number_value, of_kind, offsets_below, texts_below, written_count}
 use Rattle.ti_layout.specs.Layout.{absent_mark, header, number_bytes, number_section, width}
 use Rattle.ti_layout.specs.inside.Writing.{HasSizes, at_most_max}

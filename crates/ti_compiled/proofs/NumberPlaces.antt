@@ -6,7 +6,7 @@ use Rattle.ti_caps.specs.Tables.{capability}
 use Rattle.ti_caps.specs.declared.capability.Kind.TheVariants.{Flag, Number, Text}
 use Rattle.ti_layout.specs.declared.layout.Format.{Format}
 use Rattle.ti_layout.specs.declared.layout.Format.TheVariants.{Legacy, Extended}
-use Rattle.ti_layout.specs.declared.layout.Header.{Header}
+use Rattle.ti_layout.specs.declared.header.Header.{Header}
 use Rattle.ti_layout.specs.Image.{image, below, even_gap, flags_below, format_of, numbers_below, number_value, of_kind, offsets_below, texts_below, written_count}
 use Rattle.ti_layout.specs.Layout.{absent_mark, first_negative, number_section, width}
 use Rattle.ti_layout.specs.Laws.{without_cancel}

@@ -3,7 +3,7 @@ use Rattle.std.proofs.Common.{◌≡◌, ℕ, suc, ◌+◌, ◌-◌, ◌*◌, �
 use Rattle.ti_caps.specs.Tables.{capability}
 use Rattle.ti_caps.specs.declared.capability.Kind.TheVariants.{Text}
 use Rattle.ti_layout.specs.declared.layout.Format.{Format}
-use Rattle.ti_layout.specs.declared.layout.Header.{Header}
+use Rattle.ti_layout.specs.declared.header.Header.{Header}
 use Rattle.ti_layout.specs.Image.{image, format_of, is_there, image_limit, of_kind, text_piece, texts_below, written_count}
 use Rattle.ti_layout.specs.Layout.{width}
 use Rattle.ti_layout.specs.inside.Writing.{HasSizes}

@@ -5,7 +5,7 @@ use Rattle.std.proofs.lemmas.List.{length-append}
 use Rattle.ti_caps.specs.Tables.{capability}
 use Rattle.ti_caps.specs.declared.capability.Kind.TheVariants.{Text}
 use Rattle.ti_layout.specs.declared.layout.Format.TheVariants.{Legacy}
-use Rattle.ti_layout.specs.declared.layout.Header.{Header}
+use Rattle.ti_layout.specs.declared.header.Header.{Header}
 use Rattle.ti_layout.specs.Image.{image, below, image_limit, of_kind, offset_value, text_piece, texts_below, written_count}
 use Rattle.ti_layout.specs.Layout.{header, number_section}
 use Rattle.ti_layout.specs.inside.Writing.{HasSizes}

@@ -14,7 +14,7 @@ ghost use Rattle.ti_compiled.specs.inside.Image.{names_in, contents_in, IsImage}
 use crate::bytes::resize_part;
 use crate::changing::{Change, make_change};
 use crate::header::{header_of, write_header};
-use ti_layout::{HEADER_SIZE, Header, WriteError};
+use ti_layout::{Header, WriteError};
 
 // One more than the last boolean that is set, 0 if none is.
 fn last_set(flags: &[u8]) -> usize
@@ -36,7 +36,7 @@ fn sizes_with_flag(bytes: &[u8], old: &Header, index: usize, on: bool) -> Header
     requires index { index < count_of Flag }
     ensures { HasSizes (names_in bytes.now) (with_content (contents_in bytes.now) (capability Flag index) (flag_content on)) result }
 {
-    let start = HEADER_SIZE + old.names;
+    let start = old.flags_offset();
     let flags = if on {
         old.flags.max(index + 1)
     } else if index + 1 == old.flags {
@@ -63,9 +63,9 @@ fn change_flag(bytes: &mut Vec<u8>, old: &Header, new: &Header, index: usize, on
     requires room { length (image_with bytes.old.items (capability Flag index) (flag_content on)) ≤ vec_capacity bytes.old }
     ensures { bytes.new.items ≡ image_with bytes.old.items (capability Flag index) (flag_content on) }
 {
-    let start = HEADER_SIZE + old.names;
-    let size = old.flags + (old.names + old.flags) % 2;
-    let wanted = new.flags + (new.names + new.flags) % 2;
+    let start = old.flags_offset();
+    let size = old.flags + old.gap();
+    let wanted = new.flags + new.gap();
     resize_part(bytes, start, size, wanted, 0);
     if index < wanted {
         bytes[start + index] = flag_byte(on);

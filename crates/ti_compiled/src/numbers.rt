@@ -8,7 +8,7 @@ ghost use Rattle.ti_caps.specs.Tables.{capability, count_of};
 ghost use Rattle.ti_caps.specs.declared.capability.Kind.TheVariants.{Number};
 ghost use Rattle.ti_layout.specs.Image.{image, below, format_of};
 ghost use Rattle.ti_layout.specs.Layout as layout;
-ghost use Rattle.ti_layout.specs.Layout.{FitsTwoBytes, number_section, number_bytes};
+ghost use Rattle.ti_layout.specs.Layout.{number_section, number_bytes};
 ghost use Rattle.ti_layout.specs.inside.Writing.{HasSizes};
 ghost use Rattle.ti_layout.specs.Values.{Contents};
 ghost use Rattle.ti_compiled.specs.inside.Changes.{image_with, BytesFitWith, BytesAreOverWith, number_content, wide_value, with_number, HasNumbers};
@@ -20,20 +20,8 @@ use crate::changing::{Change, make_change};
 use crate::header::{header_of, write_header};
 use byteorder::{ByteOrder, LittleEndian};
 use ti_caps::NUMBER_COUNT;
-use ti_layout::{Format, HEADER_SIZE, Header, WriteError, number};
+use ti_layout::{ABSENT_NUMBER, Format, Header, WriteError, number};
 use ti_text::limits::LEGACY_NUMBER_MAX;
-
-// The number that means absent, in either format.
-const ABSENT: u32 = u32::MAX;
-
-// Where the numbers begin.
-fn numbers_place(header: &Header) -> usize
-    requires names { FitsTwoBytes header.now.names }
-    requires flags { FitsTwoBytes header.now.flags }
-    ensures { result ≡ layout.header_size + header.now.names + header.now.flags + (header.now.names + header.now.flags) % 2 }
-{
-    HEADER_SIZE + header.names + header.flags + (header.names + header.flags) % 2
-}
 
 // The numbers of an image, each as it is written.
 fn read_numbers(bytes: &[u8], header: &Header) -> [u32; NUMBER_COUNT]
@@ -41,8 +29,8 @@ fn read_numbers(bytes: &[u8], header: &Header) -> [u32; NUMBER_COUNT]
     requires sizes { HasSizes (names_in bytes.now) (contents_in bytes.now) header.now }
     ensures { result ≡ below (wide_value (contents_in bytes.now)) (count_of Number) }
 {
-    let mut values = [ABSENT; NUMBER_COUNT];
-    let place = numbers_place(header);
+    let mut values = [ABSENT_NUMBER; NUMBER_COUNT];
+    let place = header.numbers_offset();
     let width = header.format.width();
     for at in 0..header.numbers {
         let number = number(bytes, place + width * at, header.format);
@@ -58,7 +46,7 @@ fn format_for(values: &[u32]) -> Format
     ensures { (c : Contents) → values.now ≡ below (wide_value c) (count_of Number) → HasNumbers c → result ≡ format_of c }
 {
     for value in values {
-        if *value > LEGACY_NUMBER_MAX && *value != ABSENT {
+        if *value > LEGACY_NUMBER_MAX && *value != ABSENT_NUMBER {
             return Format::Extended;
         }
     }
@@ -72,7 +60,7 @@ fn last_number(values: &[u32]) -> usize
     ensures past { (j : ℕ) → result ≤ j → j < length values.now → slice_index values.now j ≡ layout.absent_mark Format.Extended }
 {
     let mut end = values.len();
-    while end > 0 && values[end - 1] == ABSENT {
+    while end > 0 && values[end - 1] == ABSENT_NUMBER {
         end -= 1;
     }
     end
@@ -116,7 +104,7 @@ fn numbers_with(
     ensures { result ≡ below (wide_value (with_number bytes.now index number)) (count_of Number) }
 {
     let mut values = read_numbers(bytes, old);
-    values[index] = number.unwrap_or(ABSENT);
+    values[index] = number.unwrap_or(ABSENT_NUMBER);
     values
 }
 
@@ -150,7 +138,7 @@ fn change_numbers(bytes: &mut Vec<u8>, old: &Header, new: &Header, values: &[u32
         → BytesFitWith bytes.old.items (capability Number i) (number_content n)
         → bytes.new.items ≡ image_with bytes.old.items (capability Number i) (number_content n) }
 {
-    let place = numbers_place(old);
+    let place = old.numbers_offset();
     let size = old.format.width() * old.numbers;
     let wanted = new.format.width() * new.numbers;
     resize_part(bytes, place, size, wanted, 0);

@@ -8,7 +8,7 @@ ghost use Rattle.ti_caps.specs.Tables.{capability, count_of};
 ghost use Rattle.ti_caps.specs.declared.capability.Kind.TheVariants.{Text};
 ghost use Rattle.ti_layout.specs.Image.{image, below, texts_below};
 ghost use Rattle.ti_layout.specs.Layout as layout;
-ghost use Rattle.ti_layout.specs.Layout.{FitsTwoBytes, number_section};
+ghost use Rattle.ti_layout.specs.Layout.{number_section};
 ghost use Rattle.ti_layout.specs.Reading.{word_at};
 ghost use Rattle.ti_layout.specs.inside.Writing.{HasSizes};
 ghost use Rattle.ti_compiled.specs.inside.Changes.{image_with, BytesFitWith, BytesAreOverWith, text_lent};
@@ -18,23 +18,8 @@ ghost use Rattle.ti_compiled.specs.inside.Bytes.{Replaces, moved_later, ended_te
 
 use crate::bytes::{overwrite, resize_part};
 use crate::changing::{Change, make_change};
-use crate::header::{header_of, word_bytes, write_header};
-use ti_layout::{Format, HEADER_SIZE, Header, WriteError, word};
-
-// The offset that an absent string has.
-const ABSENT: usize = 0xffff;
-
-// Where the offsets begin.
-fn offsets_place(header: &Header) -> usize
-    requires names { FitsTwoBytes header.now.names }
-    requires flags { FitsTwoBytes header.now.flags }
-    requires numbers { FitsTwoBytes header.now.numbers }
-    ensures { result ≡ layout.header_size + header.now.names + header.now.flags
-        + (header.now.names + header.now.flags) % 2 + layout.width header.now.format * header.now.numbers }
-{
-    let gap = (header.names + header.flags) % 2;
-    HEADER_SIZE + header.names + header.flags + gap + header.format.width() * header.numbers
-}
+use crate::header::{header_of, write_header};
+use ti_layout::{ABSENT_BYTE, ABSENT_WORD, Format, Header, WriteError, word, word_bytes};
 
 // Where the string of an index begins in the string table, or would begin: the first offset from it
 // on that is there, else the end of the table.
@@ -44,10 +29,10 @@ fn start_of(bytes: &[u8], header: &Header, index: usize) -> usize
     requires index { index ≤ count_of Text }
     ensures { result ≡ length (texts_below (contents_in bytes.now) index) }
 {
-    let place = offsets_place(header);
+    let place = header.offsets_offset();
     for at in index..header.texts {
         let offset = word(bytes, place + 2 * at);
-        if offset != ABSENT {
+        if offset != ABSENT_WORD {
             return offset;
         }
     }
@@ -62,7 +47,7 @@ fn last_there(bytes: &[u8], place: usize, count: usize) -> usize
     ensures past { (j : ℕ) → result ≤ j → j < count → word_at (place + 2 * j) bytes.now ≡ layout.absent_mark Format.Legacy }
 {
     let mut end = count;
-    while end > 0 && word(bytes, place + 2 * (end - 1)) == ABSENT {
+    while end > 0 && word(bytes, place + 2 * (end - 1)) == ABSENT_WORD {
         end -= 1;
     }
     end
@@ -104,7 +89,7 @@ fn move_later(
 {
     for at in from..to {
         let offset = word(bytes, place + 2 * at);
-        if offset != ABSENT {
+        if offset != ABSENT_WORD {
             let moved = (offset + added).saturating_sub(removed);
             overwrite(bytes, place + 2 * at, &word_bytes(moved));
         }
@@ -140,7 +125,7 @@ fn sizes_with_text(bytes: &[u8], old: &Header, index: usize, text: Option<&[u8]>
         },
         None => Header {
             texts: if index + 1 == old.texts {
-                last_there(bytes, offsets_place(old), index)
+                last_there(bytes, old.offsets_offset(), index)
             } else {
                 old.texts
             },
@@ -176,13 +161,13 @@ fn change_text(bytes: &mut Vec<u8>, old: &Header, new: &Header, index: usize, te
     let start = start_of(bytes, old, index);
     let removed = start_of(bytes, old, index + 1) - start;
     let added = piece_len(text);
-    let place = offsets_place(old);
+    let place = old.offsets_offset();
     let offset = match text {
         Some(_) => start,
-        None => ABSENT,
+        None => ABSENT_WORD,
     };
-    replace_text(bytes, place + 2 * old.texts + start, removed, text);
-    resize_part(bytes, place, 2 * old.texts, 2 * new.texts, 0xff);
+    replace_text(bytes, old.strings_offset() + start, removed, text);
+    resize_part(bytes, place, 2 * old.texts, 2 * new.texts, ABSENT_BYTE);
     put_offset(bytes, place, new.texts, index, offset);
     move_later(bytes, place, index + 1, new.texts, removed, added);
     write_header(bytes, new);

@@ -1,27 +1,15 @@
 -- The parts that the writer writes in turn are the entry, and its size is known before.
-use Rattle.std.proofs.Common.{◌≡◌, ℕ, suc, ◌+◌, ◌-◌, ◌%◌, ◌^◌, ◌<◌, ◌≤◌, min, List, [], ◌∷◌, ◌++◌, length, replicate, refl, sym, ap, ◌∙◌, arith, append_assoc, append-nil}
+use Rattle.std.proofs.Common.{◌≡◌, ℕ, suc, ◌+◌, ◌-◌, ◌%◌, ◌^◌, ◌<◌, ◌≤◌, min, List, [], ◌∷◌, ◌++◌, length, replicate, refl, sym, ap, ◌∙◌, arith, append-nil}
 use Rattle.ti_caps.specs.declared.capability.Kind.TheVariants.{Flag, Number, Text}
 use Rattle.ti_layout.specs.declared.layout.Format.{Format}
 use Rattle.ti_layout.specs.declared.layout.Format.TheVariants.{Legacy}
-use Rattle.ti_layout.specs.declared.layout.Header.{Header}
-use Rattle.ti_layout.specs.Layout.{entry_size, header, limit, magic, number_bytes, number_section}
+use Rattle.ti_layout.specs.declared.header.Header.{Header}
+use Rattle.ti_layout.specs.Layout.{entry_size, header, limit, number_section}
 use Rattle.ti_layout.specs.Image.{image, even_gap, flags_below, format_of, image_limit, numbers_below, offsets_below, texts_below, written_count}
 use Rattle.ti_layout.specs.inside.Writing.{HasSizes, at_most_max}
 use Rattle.ti_layout.specs.Values.{Contents}
 use Rattle.ti_layout.proofs.Below.{length-below}
 use Rattle.ti_layout.proofs.Sizes.{length-image, limit-le, strings_small}
-use Rattle.ti_layout.proofs.Whole.{header-bytes}
-
-six : (v a b c d e f : List ℕ) → (((((v ++ a) ++ b) ++ c) ++ d) ++ e) ++ f ≡ v ++ (a ++ b ++ c ++ d ++ e ++ f)
-six v a b c d e f = simp append_assoc
-
--- six numbers added in turn are a header
-pub header_pushed : (w : Format) (n f m t s : ℕ) (v0 v1 v2 v3 v4 v5 v6 : List ℕ) → v1 ≡ v0 ++ number_bytes Legacy (magic w) → v2 ≡ v1 ++ number_bytes Legacy n → v3 ≡ v2 ++ number_bytes Legacy f
-    → v4 ≡ v3 ++ number_bytes Legacy m → v5 ≡ v4 ++ number_bytes Legacy t → v6 ≡ v5 ++ number_bytes Legacy s → v6 ≡ v0 ++ header w n f m t s
-header_pushed w n f m t s v0 v1 v2 v3 v4 v5 v6 e1 e2 e3 e4 e5 e6 =
-    let W : ℕ → List ℕ = λ k. number_bytes Legacy k in
-    e6 ∙ ap (λ x. x ++ W s) (e5 ∙ ap (λ x. x ++ W t) (e4 ∙ ap (λ x. x ++ W m) (e3 ∙ ap (λ x. x ++ W f) (e2 ∙ ap (λ x. x ++ W n) e1))))
-    ∙ six v0 (W (magic w)) (W n) (W f) (W m) (W t) (W s) ∙ ap (λ x. v0 ++ x) (sym (header-bytes w n f m t s))
 
 -- a size as it is counted
 counted_size : (fixed strings : ℕ) → min (fixed + min strings (2 ^ 64 - 1)) (2 ^ 64 - 1) ≡ min (fixed + strings) (2 ^ 64 - 1)

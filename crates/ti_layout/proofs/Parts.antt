@@ -4,7 +4,7 @@ use Rattle.std.proofs.lemmas.List.{take_at, drop_at, length-append}
 use Rattle.ti_layout.specs.declared.layout.Format.{Format}
 use Rattle.ti_layout.specs.declared.layout.Format.TheVariants.{Legacy, Extended}
 use Rattle.ti_layout.specs.Layout.{Sections, header, entry_bytes, magic, number_section, width}
-use Rattle.ti_layout.specs.Reading.{word_at, AreSound, format_in, names_size, flag_count, number_count, text_count, strings_size, end_place, names_section, flags_section, numbers_section, offsets_section, strings_section}
+use Rattle.ti_layout.specs.Reading.{word_at, AreSound, format_in, names_size, flag_count, number_count, text_count, strings_size, entry_end, names_section, flags_section, numbers_section, offsets_section, strings_section}
 use Rattle.ti_layout.proofs.Spelled.{length-spelled}
 
 part_at : (b p m r : List ℕ) (x y : ℕ) → b ≡ p ++ (m ++ r) → length p ≡ x → length p + length m ≡ y → slice_range b x y ≡ m
@@ -55,7 +55,7 @@ pub record Found (b : List ℕ) (w : Format) (s : Sections) : Type 0 where
   pub number_count : number_count b ≡ length s.numbers
   pub text_count : text_count b ≡ length s.offsets
   pub strings_size : strings_size b ≡ length s.strings
-  pub whole : end_place b ≤ length b
+  pub whole : entry_end b ≤ length b
   pub names : names_section b ≡ s.names ++ 0 ∷ []
   pub flags : flags_section b ≡ s.flags
   pub numbers : numbers_section b ≡ number_section w s.numbers

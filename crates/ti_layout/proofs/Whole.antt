@@ -6,7 +6,7 @@ use Rattle.ti_layout.specs.declared.layout.Format.{Format}
 use Rattle.ti_layout.specs.declared.layout.Format.TheVariants.{Legacy}
 use Rattle.ti_layout.specs.Layout.{Sections, header, entry_bytes, magic, number_bytes, number_section, width}
 use Rattle.ti_layout.specs.Reading.{word_at, number_at, count_in, numbers_in, AreSound, IsStoredNumber, IsOffset, Reads, contents_of, format_in, names_size, flag_count}
-use Rattle.ti_layout.specs.Reading.{number_count, text_count, strings_size, flags_place, numbers_place, offsets_place, strings_place, end_place, names_section}
+use Rattle.ti_layout.specs.Reading.{number_count, text_count, strings_size, flags_begin, numbers_begin, offsets_begin, strings_begin, entry_end, names_section}
 use Rattle.ti_layout.specs.Reading.{flags_section, numbers_section, offsets_section, strings_section}
 use Rattle.ti_layout.specs.inside.Sections.{AreNames, AreFlags, AreStoredNumbers, AreOffsets, EachNumber}
 use Rattle.ti_layout.specs.inside.View.{OffsetsEnd}
@@ -74,30 +74,30 @@ pub sections_in : List ℕ → Sections
 sections_in b = record {
   names = take (length (names_section b) - 1) (names_section b);
   flags = flags_section b;
-  gap = slice_range b (flags_place b + flag_count b) (numbers_place b);
+  gap = slice_range b (flags_begin b + flag_count b) (numbers_begin b);
   numbers = numbers_in (format_in b) (numbers_section b);
   offsets = numbers_in Legacy (offsets_section b);
   strings = strings_section b;
-  rest = drop (end_place b) b;
+  rest = drop (entry_end b) b;
 }
 
 -- their lengths
 record HasLengths (b : List ℕ) : Type 0 where
   names : length (names_section b) ≡ names_size b
   flags : length (flags_section b) ≡ flag_count b
-  gap : length (slice_range b (flags_place b + flag_count b) (numbers_place b)) ≡ (names_size b + flag_count b) % 2
+  gap : length (slice_range b (flags_begin b + flag_count b) (numbers_begin b)) ≡ (names_size b + flag_count b) % 2
   numbers : length (numbers_section b) ≡ width (format_in b) * number_count b
   offsets : length (offsets_section b) ≡ 2 * text_count b
   strings : length (strings_section b) ≡ strings_size b
 
-lengths : (b : List ℕ) → end_place b ≤ length b → HasLengths b
+lengths : (b : List ℕ) → entry_end b ≤ length b → HasLengths b
 lengths b whole = record {
-  names = length-part b 12 (flags_place b) (omega arith) (omega arith) ∙ omega arith;
-  flags = length-part b (flags_place b) (flags_place b + flag_count b) (omega arith) (omega arith) ∙ omega arith;
-  gap = length-part b (flags_place b + flag_count b) (numbers_place b) (omega arith) (omega arith) ∙ omega arith;
-  numbers = length-part b (numbers_place b) (offsets_place b) (omega arith) (omega arith) ∙ omega arith;
-  offsets = length-part b (offsets_place b) (strings_place b) (omega arith) (omega arith) ∙ omega arith;
-  strings = length-part b (strings_place b) (end_place b) (omega arith) (omega arith) ∙ omega arith;
+  names = length-part b 12 (flags_begin b) (omega arith) (omega arith) ∙ omega arith;
+  flags = length-part b (flags_begin b) (flags_begin b + flag_count b) (omega arith) (omega arith) ∙ omega arith;
+  gap = length-part b (flags_begin b + flag_count b) (numbers_begin b) (omega arith) (omega arith) ∙ omega arith;
+  numbers = length-part b (numbers_begin b) (offsets_begin b) (omega arith) (omega arith) ∙ omega arith;
+  offsets = length-part b (offsets_begin b) (strings_begin b) (omega arith) (omega arith) ∙ omega arith;
+  strings = length-part b (strings_begin b) (entry_end b) (omega arith) (omega arith) ∙ omega arith;
 }
 
 -- the header that the sections' lengths spell
@@ -114,27 +114,27 @@ header_of-lengths b l named =
     let strings = l.strings in
     rw (n, flags, numbers, offsets, strings) refl
 
-pub cut_whole : (b : List ℕ) → IsBytes b → 12 ≤ length b → word_at 0 b ≡ magic (format_in b) → end_place b ≤ length b → AreNames (names_section b) → b ≡ entry_bytes (format_in b) (sections_in b)
+pub cut_whole : (b : List ℕ) → IsBytes b → 12 ≤ length b → word_at 0 b ≡ magic (format_in b) → entry_end b ≤ length b → AreNames (names_section b) → b ≡ entry_bytes (format_in b) (sections_in b)
 unfolding sections_in
 cut_whole b fits long known whole named =
     let w = format_in b in
     let l = lengths b whole in
     let H : List ℕ = header w (suc (length (sections_in b).names)) (length (flags_section b)) (length (sections_in b).numbers) (length (sections_in b).offsets) (length (strings_section b)) in
     let N : List ℕ = take (length (names_section b) - 1) (names_section b) in
-    let gap : List ℕ = slice_range b (flags_place b + flag_count b) (numbers_place b) in
+    let gap : List ℕ = slice_range b (flags_begin b + flag_count b) (numbers_begin b) in
     let h : H ++ drop 12 b ≡ b = ap (λ (x : List ℕ). x ++ drop 12 b) (header_of-lengths b l named) ∙ header_again b w fits long known in
-    let n : ((H ++ N) ++ 0 ∷ []) ++ drop (flags_place b) b ≡ b =
-    ap (λ (x : List ℕ). x ++ drop (flags_place b) b) (append_assoc H N (0 ∷ []) ∙ ap (λ (x : List ℕ). H ++ x) (sym (names_and_nul (names_section b) named)))
-    ∙ further b H 12 (flags_place b) (omega arith) h in
-    let f = further b ((H ++ N) ++ 0 ∷ []) (flags_place b) (flags_place b + flag_count b) (omega arith) n in
-    let g = further b (((H ++ N) ++ 0 ∷ []) ++ flags_section b) (flags_place b + flag_count b) (numbers_place b) (omega arith) f in
-    let m = further b ((((H ++ N) ++ 0 ∷ []) ++ flags_section b) ++ gap) (numbers_place b) (offsets_place b) (omega arith) g in
-    let o = further b (((((H ++ N) ++ 0 ∷ []) ++ flags_section b) ++ gap) ++ numbers_section b) (offsets_place b) (strings_place b) (omega arith) m in
-    let whole = further b ((((((H ++ N) ++ 0 ∷ []) ++ flags_section b) ++ gap) ++ numbers_section b) ++ offsets_section b) (strings_place b) (end_place b) (omega arith) o in
-    let numbers : number_section w (numbers_in w (numbers_section b)) ≡ numbers_section b = spelled-again w (numbers_section b) (number_count b) (bytes_of_part b (numbers_place b) (offsets_place b) fits) l.numbers in
-    let offsets : number_section Legacy (numbers_in Legacy (offsets_section b)) ≡ offsets_section b = spelled-again Legacy (offsets_section b) (text_count b) (bytes_of_part b (offsets_place b) (strings_place b) fits) l.offsets in
-    sym (ap (λ (x : List ℕ). (((((H ++ N) ++ 0 ∷ []) ++ flags_section b) ++ gap) ++ x) ++ number_section Legacy (numbers_in Legacy (offsets_section b)) ++ strings_section b ++ drop (end_place b) b) numbers
-    ∙ ap (λ (x : List ℕ). ((((((H ++ N) ++ 0 ∷ []) ++ flags_section b) ++ gap) ++ numbers_section b) ++ x) ++ strings_section b ++ drop (end_place b) b) offsets
+    let n : ((H ++ N) ++ 0 ∷ []) ++ drop (flags_begin b) b ≡ b =
+    ap (λ (x : List ℕ). x ++ drop (flags_begin b) b) (append_assoc H N (0 ∷ []) ∙ ap (λ (x : List ℕ). H ++ x) (sym (names_and_nul (names_section b) named)))
+    ∙ further b H 12 (flags_begin b) (omega arith) h in
+    let f = further b ((H ++ N) ++ 0 ∷ []) (flags_begin b) (flags_begin b + flag_count b) (omega arith) n in
+    let g = further b (((H ++ N) ++ 0 ∷ []) ++ flags_section b) (flags_begin b + flag_count b) (numbers_begin b) (omega arith) f in
+    let m = further b ((((H ++ N) ++ 0 ∷ []) ++ flags_section b) ++ gap) (numbers_begin b) (offsets_begin b) (omega arith) g in
+    let o = further b (((((H ++ N) ++ 0 ∷ []) ++ flags_section b) ++ gap) ++ numbers_section b) (offsets_begin b) (strings_begin b) (omega arith) m in
+    let whole = further b ((((((H ++ N) ++ 0 ∷ []) ++ flags_section b) ++ gap) ++ numbers_section b) ++ offsets_section b) (strings_begin b) (entry_end b) (omega arith) o in
+    let numbers : number_section w (numbers_in w (numbers_section b)) ≡ numbers_section b = spelled-again w (numbers_section b) (number_count b) (bytes_of_part b (numbers_begin b) (offsets_begin b) fits) l.numbers in
+    let offsets : number_section Legacy (numbers_in Legacy (offsets_section b)) ≡ offsets_section b = spelled-again Legacy (offsets_section b) (text_count b) (bytes_of_part b (offsets_begin b) (strings_begin b) fits) l.offsets in
+    sym (ap (λ (x : List ℕ). (((((H ++ N) ++ 0 ∷ []) ++ flags_section b) ++ gap) ++ x) ++ number_section Legacy (numbers_in Legacy (offsets_section b)) ++ strings_section b ++ drop (entry_end b) b) numbers
+    ∙ ap (λ (x : List ℕ). ((((((H ++ N) ++ 0 ∷ []) ++ flags_section b) ++ gap) ++ numbers_section b) ++ x) ++ strings_section b ++ drop (entry_end b) b) offsets
     ∙ whole)
 
 -- what reading found of the sections that the header cut
@@ -147,7 +147,7 @@ pub record IsRead (b : List ℕ) : Type 0 where
   pub numbers_fit : number_count b ≤ 39
   pub texts_fit : text_count b ≤ 414
   pub strings_fit : strings_size b < 32768
-  pub whole : end_place b ≤ length b
+  pub whole : entry_end b ≤ length b
   pub names : AreNames (names_section b)
   pub flags : AreFlags (flags_section b)
   pub numbers : AreStoredNumbers (format_in b) (numbers_section b)
@@ -185,7 +185,7 @@ sections-sound b r =
     }
 
 pub is_read : (b : List ℕ) (w : Format) (names flags numbers offsets strings : List ℕ) → IsBytes b → 12 ≤ length b → word_at 0 b ≡ magic (format_in b)
-    → names_size b < 32768 → flag_count b ≤ 44 → number_count b ≤ 39 → text_count b ≤ 414 → strings_size b < 32768 → end_place b ≤ length b
+    → names_size b < 32768 → flag_count b ≤ 44 → number_count b ≤ 39 → text_count b ≤ 414 → strings_size b < 32768 → entry_end b ≤ length b
     → w ≡ format_in b → names ≡ names_section b → flags ≡ flags_section b → numbers ≡ numbers_section b → offsets ≡ offsets_section b → strings ≡ strings_section b
     → AreNames names → AreFlags flags → AreStoredNumbers w numbers → AreOffsets offsets strings → IsRead b
 is_read b w names flags numbers offsets strings fits long known a1 a2 a3 a4 a5 whole e n f m o s named flagged numbered placed =
@@ -225,9 +225,9 @@ no_longer x n l place size same cut fits = omega arith
 -- the string table is no longer than the header says
 pub few_strings : (b strings : List ℕ) → strings_size b < 32768 → strings ≡ strings_section b → length strings < 32768
 few_strings b strings fits cut =
-    let place = strings_place b in
+    let place = strings_begin b in
     let size = strings_size b in
-    let n = end_place b - place in
+    let n = entry_end b - place in
     let same : length strings ≡ min n (length (drop place b)) = ap (λ (x : List ℕ). length x) cut ∙ length-take n (drop place b) in
     no_longer (length strings) n (length (drop place b)) place size same refl fits
 

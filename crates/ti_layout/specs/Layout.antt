@@ -84,8 +84,28 @@ entry_bytes format s =
     header format (suc (length s.names)) (length s.flags) (length s.numbers) (length s.offsets) (length s.strings)
     ++ s.names ++ ascii.nul ∷ [] ++ s.flags ++ s.gap ++ number_section format s.numbers ++ number_section Legacy s.offsets ++ s.strings ++ s.rest
 
--- how many bytes the entry has, without what follows: the names have this size with their NUL, and
--- the numbers begin at an even place
+-- ---- where the sections begin, by the numbers of the header
+
+-- the booleans: after the header and the names, which have this size with their NUL
+abbrev pub flags_offset : ℕ → ℕ
+flags_offset names = header_size + names
+
+-- the zero byte, or nothing, so that the numbers begin at an even offset
+abbrev pub gap_size : ℕ → ℕ → ℕ
+gap_size names flags = (names + flags) % 2
+
+-- the numbers: after the booleans and the gap
+abbrev pub numbers_offset : ℕ → ℕ → ℕ
+numbers_offset names flags = flags_offset names + flags + gap_size names flags
+
+-- the offsets of the strings: after the numbers
+abbrev pub offsets_offset : Format → ℕ → ℕ → ℕ → ℕ
+offsets_offset format names flags numbers = numbers_offset names flags + width format * numbers
+
+-- the string table: after the offsets
+abbrev pub strings_offset : Format → ℕ → ℕ → ℕ → ℕ → ℕ
+strings_offset format names flags numbers offsets = offsets_offset format names flags numbers + 2 * offsets
+
+-- how many bytes the entry has, without what follows
 abbrev pub entry_size : Format → ℕ → ℕ → ℕ → ℕ → ℕ → ℕ
-entry_size format names flags numbers offsets strings =
-    header_size + names + flags + (names + flags) % 2 + width format * numbers + 2 * offsets + strings
+entry_size format names flags numbers offsets strings = strings_offset format names flags numbers offsets + strings

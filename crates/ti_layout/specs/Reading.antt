@@ -9,10 +9,11 @@ use Rattle.ti_caps.specs.declared.capability.Kind.{Kind}
 use Rattle.ti_caps.specs.declared.capability.Kind.TheVariants.{Flag, Number, Text}
 use Rattle.ti_layout.specs.declared.fault.ReadError.{ReadError}
 use Rattle.ti_layout.specs.declared.fault.ReadError.TheVariants.{Short, Magic, Counts, Truncated, BadNames, BadFlag, BadNumber, BadOffset}
+use Rattle.ti_layout.specs.declared.header.Header.{Header}
 use Rattle.ti_layout.specs.declared.layout.Format.{Format}
 use Rattle.ti_layout.specs.declared.layout.Format.TheVariants.{Legacy, Extended}
 use Rattle.ti_layout.specs.Image.{below}
-use Rattle.ti_layout.specs.Layout.{Sections, absent_mark, cancelled_mark, entry_bytes, header_size, magic, first_negative, width}
+use Rattle.ti_layout.specs.Layout.{Sections, absent_mark, cancelled_mark, entry_bytes, header_size, magic, first_negative, width, flags_offset, numbers_offset, offsets_offset, strings_offset}
 use Rattle.ti_layout.specs.Values.{Content, content_true, content_number, content_text, Contents, HasNoNul}
 
 -- ---- the numbers that bytes spell
@@ -123,8 +124,7 @@ pub record Reads (bytes names : List ℕ) (contents : Contents) : Type 0 where
 abbrev pub format_in : List ℕ → Format
 format_in bytes = if word_at 0 bytes == magic Extended then Extended else Legacy
 
--- where the sections begin and end by the numbers of the header: the size of the names with their
--- NUL
+-- the size of the names with their NUL, by the header
 abbrev pub names_size : List ℕ → ℕ
 names_size bytes = word_at 2 bytes
 
@@ -144,45 +144,54 @@ text_count bytes = word_at 8 bytes
 abbrev pub strings_size : List ℕ → ℕ
 strings_size bytes = word_at 10 bytes
 
--- where the booleans begin: after the header and the names
-abbrev pub flags_place : List ℕ → ℕ
-flags_place bytes = header_size + names_size bytes
+-- the header has the format, the sizes and the counts with which the bytes begin
+pub record IsHeaderAt (bytes : List ℕ) (h : Header) : Type 0 where
+  pub format : h.format ≡ format_in bytes
+  pub names : h.names ≡ names_size bytes
+  pub flags : h.flags ≡ flag_count bytes
+  pub numbers : h.numbers ≡ number_count bytes
+  pub texts : h.texts ≡ text_count bytes
+  pub strings : h.strings ≡ strings_size bytes
 
--- where the numbers begin: after the booleans, at an even place
-abbrev pub numbers_place : List ℕ → ℕ
-numbers_place bytes = flags_place bytes + flag_count bytes + (names_size bytes + flag_count bytes) % 2
+-- where the booleans begin
+abbrev pub flags_begin : List ℕ → ℕ
+flags_begin bytes = flags_offset (names_size bytes)
 
--- where the offsets begin: after the numbers
-abbrev pub offsets_place : List ℕ → ℕ
-offsets_place bytes = numbers_place bytes + width (format_in bytes) * number_count bytes
+-- where the numbers begin
+abbrev pub numbers_begin : List ℕ → ℕ
+numbers_begin bytes = numbers_offset (names_size bytes) (flag_count bytes)
 
--- where the string table begins: after the offsets
-abbrev pub strings_place : List ℕ → ℕ
-strings_place bytes = offsets_place bytes + 2 * text_count bytes
+-- where the offsets begin
+abbrev pub offsets_begin : List ℕ → ℕ
+offsets_begin bytes = offsets_offset (format_in bytes) (names_size bytes) (flag_count bytes) (number_count bytes)
+
+-- where the string table begins
+abbrev pub strings_begin : List ℕ → ℕ
+strings_begin bytes = strings_offset (format_in bytes) (names_size bytes) (flag_count bytes) (number_count bytes) (text_count bytes)
 
 -- where the string table ends, and with it the entry
-abbrev pub end_place : List ℕ → ℕ
-end_place bytes = strings_place bytes + strings_size bytes
+abbrev pub entry_end : List ℕ → ℕ
+entry_end bytes = strings_begin bytes + strings_size bytes
 
 -- the sections, if the bytes are that long: the names with their NUL
 abbrev pub names_section : List ℕ → List ℕ
-names_section bytes = slice_range bytes header_size (flags_place bytes)
+names_section bytes = slice_range bytes header_size (flags_begin bytes)
 
 -- the booleans, a byte each
 abbrev pub flags_section : List ℕ → List ℕ
-flags_section bytes = slice_range bytes (flags_place bytes) (flags_place bytes + flag_count bytes)
+flags_section bytes = slice_range bytes (flags_begin bytes) (flags_begin bytes + flag_count bytes)
 
 -- the numbers, by the width of the format
 abbrev pub numbers_section : List ℕ → List ℕ
-numbers_section bytes = slice_range bytes (numbers_place bytes) (offsets_place bytes)
+numbers_section bytes = slice_range bytes (numbers_begin bytes) (offsets_begin bytes)
 
 -- the offsets, two bytes each
 abbrev pub offsets_section : List ℕ → List ℕ
-offsets_section bytes = slice_range bytes (offsets_place bytes) (strings_place bytes)
+offsets_section bytes = slice_range bytes (offsets_begin bytes) (strings_begin bytes)
 
 -- the string table
 abbrev pub strings_section : List ℕ → List ℕ
-strings_section bytes = slice_range bytes (strings_place bytes) (end_place bytes)
+strings_section bytes = slice_range bytes (strings_begin bytes) (entry_end bytes)
 
 -- a size is negative, or a count is negative or over its table
 abbrev pub HasBadCount : List ℕ → Type 0
@@ -218,7 +227,7 @@ abbrev pub HasReadFault : List ℕ → ReadError → Type 0
 HasReadFault bytes Short = length bytes < header_size
 HasReadFault bytes Magic = (word_at 0 bytes ≢ magic Legacy) × (word_at 0 bytes ≢ magic Extended)
 HasReadFault bytes Counts = HasBadCount bytes
-HasReadFault bytes Truncated = length bytes < end_place bytes
+HasReadFault bytes Truncated = length bytes < entry_end bytes
 HasReadFault bytes BadNames = HasBadNames (names_section bytes)
 HasReadFault bytes BadFlag = HasBadFlag (flags_section bytes)
 HasReadFault bytes BadNumber = HasBadNumber (format_in bytes) (numbers_section bytes)

@@ -1,11 +1,25 @@
-//! The two formats of a compiled entry, and the numbers of its header.
-ghost use Rattle.std.specs.Prelude.{◌≡◌, ◌≤◌, ◌^◌, ◌-◌, min};
+//! The two formats of a compiled entry, and numbers as bytes.
+ghost use Rattle.std.specs.Prelude.{◌≡◌, ◌+◌, ◌≤◌, length};
 ghost use Rattle.ti_layout.specs.Layout as layout;
+ghost use Rattle.ti_layout.specs.Reading.{word_at, number_at};
 
+use byteorder::{ByteOrder, LittleEndian};
 use ti_text::limits::{ENTRY_MAX, EXTENDED_ENTRY_MAX};
 
-/// The bytes of a header.
-pub const HEADER_SIZE: usize = 12;
+/// The first number of 16 bits that is negative as a signed one.
+pub const NEGATIVE_WORD: usize = 0x8000;
+
+/// -2 as a number of 16 bits, which means cancelled.
+pub const CANCELLED_WORD: usize = 0xfffe;
+
+/// -1 as a number of 16 bits, which means absent.
+pub const ABSENT_WORD: usize = 0xffff;
+
+/// -1 as a number of 32 bits, which means absent. Its two low bytes are [`ABSENT_WORD`].
+pub const ABSENT_NUMBER: u32 = u32::MAX;
+
+/// Each byte of -1 in either format.
+pub const ABSENT_BYTE: u8 = 0xff;
 
 /// The formats of term(5). They differ in the magic number and in the bytes that the number of a
 /// capability takes.
@@ -45,7 +59,7 @@ impl Format {
         ensures { result ≡ layout.first_negative self }
     {
         match self {
-            Format::Legacy => 0x8000,
+            Format::Legacy => NEGATIVE_WORD as u32,
             Format::Extended => 0x8000_0000,
         }
     }
@@ -55,7 +69,7 @@ impl Format {
         ensures { result ≡ layout.cancelled_mark self }
     {
         match self {
-            Format::Legacy => 0xfffe,
+            Format::Legacy => CANCELLED_WORD as u32,
             Format::Extended => 0xffff_fffe,
         }
     }
@@ -71,31 +85,33 @@ impl Format {
     }
 }
 
-/// What a header says: the format, and the sizes of the sections.
-#[derive(Clone, Copy)]
-pub struct Header {
-    pub format: Format,
-    /// The bytes of the names, with their NUL.
-    pub names: usize,
-    pub flags: usize,
-    pub numbers: usize,
-    pub texts: usize,
-    /// The bytes of the string table.
-    pub strings: usize,
+/// The 16-bit number at an offset, its low byte first.
+pub fn word(bytes: &[u8], at: usize) -> usize
+    requires { at + 2 ≤ length bytes.now }
+    ensures value { result ≡ word_at at bytes.now }
+    ensures fits { layout.FitsTwoBytes result }
+{
+    LittleEndian::read_u16(&bytes[at..]) as usize
 }
 
-impl Header {
-    /// The bytes of an entry with this header; the greatest number if they are more.
-    pub fn size(&self) -> usize
-        requires names { layout.FitsTwoBytes self.now.names }
-        requires flags { layout.FitsTwoBytes self.now.flags }
-        requires numbers { layout.FitsTwoBytes self.now.numbers }
-        requires texts { layout.FitsTwoBytes self.now.texts }
-        ensures { result ≡ min (layout.entry_size self.now.format self.now.names self.now.flags self.now.numbers self.now.texts self.now.strings) (2 ^ 64 - 1) }
-    {
-        let gap = (self.names + self.flags) % 2;
-        let numbers = self.format.width() * self.numbers;
-        let fixed = HEADER_SIZE + self.names + self.flags + gap + numbers + 2 * self.texts;
-        fixed.saturating_add(self.strings)
+/// The two bytes of a number, the low one first; what does not fit is dropped.
+pub fn word_bytes(word: usize) -> [u8; 2]
+    ensures { result ≡ layout.number_bytes Format.Legacy word }
+{
+    let mut bytes = [0; 2];
+    LittleEndian::write_u16(&mut bytes, (word % 65_536) as u16);
+    bytes
+}
+
+/// The number of a format at an offset, its low byte first.
+pub fn number(bytes: &[u8], at: usize, format: Format) -> u32
+    requires { at + layout.width format ≤ length bytes.now }
+    ensures value { result ≡ number_at format at bytes.now }
+    ensures fits { result ≤ layout.absent_mark format }
+{
+    let rest = &bytes[at..];
+    match format {
+        Format::Legacy => u32::from(LittleEndian::read_u16(rest)),
+        Format::Extended => LittleEndian::read_u32(rest),
     }
 }

@@ -3,7 +3,8 @@
 //! - `values`: the values of an entry, a finite map from capabilities
 //! - `merging`: two such maps made one; the first decides
 //! - `mentions`: such a map made of mentions of capabilities, of which the first of each decides
-//! - `layout`: the two formats, and the numbers of a header
+//! - `layout`: the two formats, and numbers as bytes
+//! - `header`: the format and the sizes with which an entry begins, and where each section begins
 //! - `writing`: an entry written from its names and values
 //! - `view`: an entry read where it is; each name and value is a slice of the caller's bytes
 //! - `view_parts`: such an entry as its sections, for a caller that holds it in another struct
@@ -13,6 +14,7 @@
 #![tactic(auto)]
 
 mod fault;
+mod header;
 mod laws;
 mod layout;
 mod mentions;
@@ -24,10 +26,10 @@ mod view_parts;
 mod writing;
 
 pub use fault::ReadError;
+pub use header::{HEADER_SIZE, Header};
 pub use laws::{images_are_of_values, images_are_read, one_reading};
-pub use layout::{Format, HEADER_SIZE, Header};
+pub use layout::{ABSENT_BYTE, ABSENT_NUMBER, ABSENT_WORD, Format, number, word, word_bytes};
 pub use mentions::Mentions;
-pub use sections::{number, word};
 pub use values::{Content, Table, Value};
 pub use view::View;
 pub use view_parts::ViewParts;

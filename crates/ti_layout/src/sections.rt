@@ -1,19 +1,14 @@
 //! The sections of a compiled entry: cut by the header's numbers, and each looked through once.
-ghost use Rattle.std.specs.Prelude.{◌≡◌, ◌+◌, ◌*◌, ◌<◌, ◌≤◌, length, MatchBool, IfOk, IfErr};
+ghost use Rattle.std.specs.Prelude.{◌≡◌, ◌<◌, length, MatchBool, IfOk, IfErr};
 ghost use Rattle.ti_layout.specs.Layout as layout;
-ghost use Rattle.ti_layout.specs.Reading.{word_at, number_at, FailsToRead, HasBadNames, HasBadFlag, HasBadNumber, HasBadOffset};
+ghost use Rattle.ti_layout.specs.Reading.{FailsToRead, HasBadNames, HasBadFlag, HasBadNumber, HasBadOffset};
 ghost use Rattle.ti_layout.specs.inside.Sections.{HasHeader, IsCutIntoSections, AreNames, AreFlags, AreStoredNumbers, AreOffsets};
 
 use crate::fault::ReadError;
-use crate::layout::{Format, HEADER_SIZE, Header};
-use byteorder::{ByteOrder, LittleEndian};
+use crate::header::{HEADER_SIZE, Header};
+use crate::layout::{CANCELLED_WORD, Format, NEGATIVE_WORD, number, word};
 use memchr::{memchr, memrchr};
 use ti_caps::{FLAG_COUNT, NUMBER_COUNT, TEXT_COUNT};
-
-// The first size or offset that is negative as a signed number of 16 bits.
-const NEGATIVE: usize = 0x8000;
-// -2, a cancelled offset; -1 is an absent one.
-const CANCELLED: usize = 0xfffe;
 
 /// The sections of an entry, as they are in its bytes; the names with their NUL.
 #[derive(Clone, Copy)]
@@ -26,28 +21,6 @@ pub struct Sections<'a> {
     pub strings: &'a [u8],
 }
 
-/// The 16-bit number at a place, its low byte first.
-pub fn word(bytes: &[u8], at: usize) -> usize
-    requires { at + 2 ≤ length bytes.now }
-    ensures value { result ≡ word_at at bytes.now }
-    ensures fits { layout.FitsTwoBytes result }
-{
-    LittleEndian::read_u16(&bytes[at..]) as usize
-}
-
-/// The number of a format at a place, its low byte first.
-pub fn number(bytes: &[u8], at: usize, format: Format) -> u32
-    requires { at + layout.width format ≤ length bytes.now }
-    ensures value { result ≡ number_at format at bytes.now }
-    ensures fits { result ≤ layout.absent_mark format }
-{
-    let rest = &bytes[at..];
-    match format {
-        Format::Legacy => u32::from(LittleEndian::read_u16(rest)),
-        Format::Extended => LittleEndian::read_u32(rest),
-    }
-}
-
 // The header's numbers, or the first of Short, Magic and Counts that holds.
 fn read_header(bytes: &[u8]) -> Result<Header, ReadError>
     ensures found { IfOk result (λ h. HasHeader bytes.now h) }
@@ -56,24 +29,15 @@ fn read_header(bytes: &[u8]) -> Result<Header, ReadError>
     if bytes.len() < HEADER_SIZE {
         return Err(ReadError::Short);
     }
-    let format = match word(bytes, 0) {
-        0o432 => Format::Legacy,
-        0o1036 => Format::Extended,
-        _ => return Err(ReadError::Magic),
-    };
-    let header = Header {
-        format,
-        names: word(bytes, 2),
-        flags: word(bytes, 4),
-        numbers: word(bytes, 6),
-        texts: word(bytes, 8),
-        strings: word(bytes, 10),
-    };
-    if header.names >= NEGATIVE
+    let header = Header::read(bytes);
+    if word(bytes, 0) != header.format.magic() as usize {
+        return Err(ReadError::Magic);
+    }
+    if header.names >= NEGATIVE_WORD
         || header.flags > FLAG_COUNT
         || header.numbers > NUMBER_COUNT
         || header.texts > TEXT_COUNT
-        || header.strings >= NEGATIVE
+        || header.strings >= NEGATIVE_WORD
     {
         return Err(ReadError::Counts);
     }
@@ -90,11 +54,10 @@ pub fn cut(bytes: &[u8]) -> Result<Sections<'_>, ReadError>
     if bytes.len() < end {
         return Err(ReadError::Truncated);
     }
-    let flags = HEADER_SIZE + header.names;
-    let gap = (header.names + header.flags) % 2;
-    let numbers = flags + header.flags + gap;
-    let offsets = numbers + header.format.width() * header.numbers;
-    let strings = offsets + 2 * header.texts;
+    let flags = header.flags_offset();
+    let numbers = header.numbers_offset();
+    let offsets = header.offsets_offset();
+    let strings = header.strings_offset();
     Ok(Sections {
         format: header.format,
         names: &bytes[HEADER_SIZE..flags],
@@ -147,7 +110,7 @@ pub fn are_offsets(offsets: &[u8], strings: &[u8]) -> bool
     let ends = memrchr(0, strings).map_or(0, |last| last + 1);
     for index in 0..offsets.len() / 2 {
         let offset = word(offsets, 2 * index);
-        if offset >= ends && offset < CANCELLED {
+        if offset >= ends && offset < CANCELLED_WORD {
             return false;
         }
     }

@@ -10,15 +10,12 @@ ghost use Rattle.ti_layout.specs.Values.{plain_content};
 ghost use Rattle.ti_layout.specs.inside.View.{OffsetsEnd};
 
 use crate::fault::ReadError;
-use crate::layout::Format;
-use crate::sections::{are_flags, are_names, are_numbers, are_offsets, cut, number, word};
+use crate::layout::{Format, NEGATIVE_WORD, number, word};
+use crate::sections::{are_flags, are_names, are_numbers, are_offsets, cut};
 use crate::values::Content;
 use crate::view_parts::ViewParts;
 use memchr::memchr;
 use ti_caps::{Cap, Kind};
-
-// The first offset that is negative as a signed number of 16 bits.
-const NEGATIVE: usize = 0x8000;
 
 /// A compiled entry of term(5), in the legacy storage format or the extended number format, read
 /// where it is. It holds slices of the bytes that it was read from, so it takes no memory.
@@ -137,7 +134,7 @@ impl<'a> View<'a> {
             return None;
         }
         let offset = word(self.offsets, 2 * cap.index());
-        if offset >= NEGATIVE {
+        if offset >= NEGATIVE_WORD {
             return None;
         }
         let rest = &self.strings[offset..];

@@ -14,16 +14,14 @@ ghost use Rattle.ti_layout.specs.inside.Writing.{HasSizes};
 ghost use Rattle.ti_layout.specs.Values.{contents, content_of, entries_of, IsSorted};
 ghost use Rattle.ti_layout.specs.declared.writing.WriteError.TheVariants.{Memory};
 
-use crate::layout::{Format, Header};
+use crate::header::Header;
+use crate::layout::{ABSENT_BYTE, Format};
 use crate::values::{Table, Value};
 use byteorder::{ByteOrder, LittleEndian};
 use std::alloc::{AllocError, Global};
 use thiserror::Error;
 use ti_caps::Cap;
 use ti_text::limits::{LEGACY_NUMBER_MAX, NAMES_MAX};
-
-// Each byte of a number or an offset that is absent.
-const ABSENT: u8 = 0xFF;
 
 /// Why an entry is not written: the first of these that holds, in this order.
 #[derive(Clone, Copy, PartialEq, Eq, Debug, Error)]
@@ -147,11 +145,11 @@ fn entry_bytes(
     ensures { IfOk result (λ v. v.items ≡ image names.now (contents (entries_of entries.now))) }
 {
     let mut image = Vec::with_capacity(alloc, header.size())?;
-    push_header(&mut image, header)?;
+    image.extend_from_slice(&header.to_bytes())?;
     image.extend_from_slice(names)?;
     image.push(0)?;
     push_flags(&mut image, entries)?;
-    push_fill(&mut image, (header.names + header.flags) % 2, 0)?;
+    push_fill(&mut image, header.gap(), 0)?;
     push_numbers(&mut image, entries, header.format)?;
     push_offsets(&mut image, entries)?;
     push_texts(&mut image, entries)?;
@@ -173,26 +171,6 @@ fn push_number(image: &mut Vec<u8>, number: u32, format: Format) -> Result<(), A
     let mut bytes = [0; 4];
     LittleEndian::write_u32(&mut bytes, number);
     image.extend_from_slice(&bytes[..format.width()])
-}
-
-// Adds the six numbers of the header.
-fn push_header(image: &mut Vec<u8>, header: &Header) -> Result<(), AllocError>
-    requires names { FitsTwoBytes header.now.names }
-    requires flags { FitsTwoBytes header.now.flags }
-    requires numbers { FitsTwoBytes header.now.numbers }
-    requires texts { FitsTwoBytes header.now.texts }
-    requires strings { FitsTwoBytes header.now.strings }
-    ensures { OnOk result (image.new.items
-        ≡ image.old.items
-        ++ layout.header header.now.format header.now.names header.now.flags header.now.numbers header.now.texts header.now.strings) }
-{
-    push_number(image, u32::from(header.format.magic()), Format::Legacy)?;
-    push_number(image, header.names as u32, Format::Legacy)?;
-    push_number(image, header.flags as u32, Format::Legacy)?;
-    push_number(image, header.numbers as u32, Format::Legacy)?;
-    push_number(image, header.texts as u32, Format::Legacy)?;
-    push_number(image, header.strings as u32, Format::Legacy)?;
-    Ok(())
 }
 
 // Adds a byte for each boolean up to the last that is there.
@@ -226,7 +204,11 @@ fn push_numbers(
     let mut places = 0;
     for entry in entries {
         if let Value::Number(number) = &entry.1 {
-            push_fill(image, format.width() * (entry.0.index() - places), ABSENT)?;
+            push_fill(
+                image,
+                format.width() * (entry.0.index() - places),
+                ABSENT_BYTE,
+            )?;
             push_number(image, *number, format)?;
             places = entry.0.index() + 1;
         }
@@ -246,7 +228,7 @@ fn push_offsets(image: &mut Vec<u8>, entries: &[(Cap, Value)]) -> Result<(), All
     let mut offset = 0;
     for entry in entries {
         if let Value::Text(text) = &entry.1 {
-            push_fill(image, 2 * (entry.0.index() - places), ABSENT)?;
+            push_fill(image, 2 * (entry.0.index() - places), ABSENT_BYTE)?;
             push_number(image, offset as u32, Format::Legacy)?;
             places = entry.0.index() + 1;
             offset += text.len() + 1;

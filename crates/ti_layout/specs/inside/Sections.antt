@@ -6,20 +6,11 @@ use Rattle.ti_caps.specs.Tables.{count_of}
 use Rattle.ti_caps.specs.declared.capability.Kind.TheVariants.{Flag, Number, Text}
 use Rattle.ti_layout.specs.declared.layout.Format.{Format}
 use Rattle.ti_layout.specs.declared.layout.Format.TheVariants.{Legacy}
-use Rattle.ti_layout.specs.declared.layout.Header.{Header}
+use Rattle.ti_layout.specs.declared.header.Header.{Header}
 use Rattle.ti_layout.specs.declared.sections.Sections.{Sections}
 use Rattle.ti_layout.specs.Layout.{first_negative, header_size, magic, width}
-use Rattle.ti_layout.specs.Reading.{word_at, number_at, count_in, format_in, names_size, flag_count, number_count, text_count, strings_size, end_place}
+use Rattle.ti_layout.specs.Reading.{IsHeaderAt, word_at, number_at, count_in, format_in, names_size, flag_count, number_count, text_count, strings_size, entry_end}
 use Rattle.ti_layout.specs.Reading.{names_section, flags_section, numbers_section, offsets_section, strings_section, IsFlagByte, IsStoredNumber, IsOffset}
-
--- the header has the sizes and counts with which the bytes begin
-pub record IsHeaderAt (bytes : List ℕ) (h : Header) : Type 0 where
-  pub format : h.format ≡ format_in bytes
-  pub names : h.names ≡ names_size bytes
-  pub flags : h.flags ≡ flag_count bytes
-  pub numbers : h.numbers ≡ number_count bytes
-  pub texts : h.texts ≡ text_count bytes
-  pub strings : h.strings ≡ strings_size bytes
 
 -- the bytes begin with this header, and each size and count is within its limit
 pub record HasHeader (bytes : List ℕ) (h : Header) : Type 0 where
@@ -36,7 +27,7 @@ pub record HasHeader (bytes : List ℕ) (h : Header) : Type 0 where
 pub record IsCutIntoSections (bytes : List ℕ) (s : Sections) : Type 0 where
   pub sizes : Header
   pub header : HasHeader bytes sizes
-  pub whole : end_place bytes ≤ length bytes
+  pub whole : entry_end bytes ≤ length bytes
   pub format : s.format ≡ format_in bytes
   pub names : s.names.now ≡ names_section bytes
   pub flags : s.flags.now ≡ flags_section bytes

@@ -2,7 +2,7 @@
 use Rattle.std.specs.Prelude.{◌≡◌, ◌^◌, ◌-◌, ◌≤◌, ℕ, suc, List, length, min}
 use Rattle.ti_caps.specs.Tables.{count_of}
 use Rattle.ti_caps.specs.declared.capability.Kind.TheVariants.{Flag, Number, Text}
-use Rattle.ti_layout.specs.declared.layout.Header.{Header}
+use Rattle.ti_layout.specs.declared.header.Header.{Header}
 use Rattle.ti_layout.specs.Values.{Contents}
 use Rattle.ti_layout.specs.Image.{format_of, texts_below, written_count}
 

@@ -1,6 +1,6 @@
 use Rattle.std.proofs.Common.{◌≡◌, ◌≤◌, ℕ, List, length, Option, subst, sym, ◌∙◌, vec_capacity}
 use Rattle.ti_caps.specs.Tables.{Capability}
-use Rattle.ti_layout.specs.declared.layout.Header.{Header}
+use Rattle.ti_layout.specs.declared.header.Header.{Header}
 use Rattle.ti_layout.specs.Values.{Content}
 use Rattle.ti_layout.specs.inside.Writing.{HasSizes}
 use Rattle.ti_compiled.specs.Image.{with_content}

@@ -4,7 +4,9 @@ use Rattle.ti_compiled.proofs.flags.sizes_with_flag.Goals as goal
 use Rattle.ti_compiled.proofs.flags.sizes_with_flag.Goals.{then-on, else-on+then-index-old, else-on+else-index-old}
 
 pub slice_bounds-last_set-end : goal.slice_bounds-last_set-end
-slice_bounds-last_set-end c = let w = flags_within c.args.bytes.now c.requires.image c.args.old.now c.requires.old in omega arith
+slice_bounds-last_set-end c = let w = flags_within c.args.bytes.now c.requires.image c.args.old.now c.requires.old in
+    let s = c.flags_offset-start.ensures in
+    omega arith
 
 pub returns : goal.returns
 returns c =
@@ -19,6 +21,6 @@ returns c =
           rw w.if-on.true (sizes_set b is h has c.args.index within c.if-on.flags e)
       | else-on+then-index-old w ↦
           let last = w.last_set.ensures in
-          rw (w.if-on.false, w.flags-is) (sizes_down b is h has c.args.index within (12 + h.names) (12 + h.names + c.args.index) w.last_set.result refl refl w.if-index-old.true last.within last.last last.past)
+          rw (w.if-on.false, w.flags-is) (sizes_down b is h has c.args.index within c.flags_offset-start.result (c.flags_offset-start.result + c.args.index) w.last_set.result c.flags_offset-start.ensures refl w.if-index-old.true last.within last.last last.past)
       | else-on+else-index-old w ↦ rw (w.if-on.false, w.flags-is) (sizes_kept b is h has c.args.index within w.if-index-old.false)
     ]

@@ -32,13 +32,13 @@ piece_len-added-requires c =
     let l0 = l.removed_is in let l1 = l.ordered in let l2 = l.fits in let l3 = l.in_table in let l4 = l.head in let l5 = l.room_for in let l6 = l.added_fits in let l7 = l.kept in let l8 = l.wanted in let l9 = l.grows in
     omega arith
 
-pub overflow_add-place-2 : goal.overflow_add-place-2
-overflow_add-place-2 c =
+pub overflow_add-strings_offset : goal.overflow_add-strings_offset
+overflow_add-strings_offset c =
     let b = c.args.bytes.now.items in
     let t = option_map (λ (x : Bor (List ℕ)). x.now) c.args.text in
     let r = c.requires in
-    let l = lengths_of b r.image c.args.old.now r.old c.args.index r.index t c.args.new.now r.new r.small c.deref.result.now c.deref-2.result.now c.start_of-start.result c.start_of.result c.offsets_place-place.result (vec_capacity c.args.bytes.now) c.piece_len-added.result
-    c.deref.ensures.value c.deref-2.ensures.value c.start_of-start.ensures c.start_of.ensures c.offsets_place-place.ensures c.piece_len-added.ensures r.room in
+    let l = lengths_of b r.image c.args.old.now r.old c.args.index r.index t c.args.new.now r.new r.small c.deref.result.now c.deref-2.result.now c.start_of-start.result c.start_of.result c.offsets_offset-place.result (vec_capacity c.args.bytes.now) c.piece_len-added.result
+    c.deref.ensures.value c.deref-2.ensures.value c.start_of-start.ensures c.start_of.ensures c.offsets_offset-place.ensures c.piece_len-added.ensures r.room in
     let l0 = l.removed_is in let l1 = l.ordered in let l2 = l.fits in let l3 = l.in_table in let l4 = l.head in let l5 = l.room_for in let l6 = l.added_fits in let l7 = l.kept in let l8 = l.wanted in let l9 = l.grows in
     omega arith
 
@@ -47,8 +47,8 @@ replace_text-requires-clause-within c =
     let b = c.args.bytes.now.items in
     let t = option_map (λ (x : Bor (List ℕ)). x.now) c.args.text in
     let r = c.requires in
-    let l = lengths_of b r.image c.args.old.now r.old c.args.index r.index t c.args.new.now r.new r.small c.deref.result.now c.deref-2.result.now c.start_of-start.result c.start_of.result c.offsets_place-place.result (vec_capacity c.args.bytes.now) c.piece_len-added.result
-    c.deref.ensures.value c.deref-2.ensures.value c.start_of-start.ensures c.start_of.ensures c.offsets_place-place.ensures c.piece_len-added.ensures r.room in
+    let l = lengths_of b r.image c.args.old.now r.old c.args.index r.index t c.args.new.now r.new r.small c.deref.result.now c.deref-2.result.now c.start_of-start.result c.start_of.result c.offsets_offset-place.result (vec_capacity c.args.bytes.now) c.piece_len-added.result
+    c.deref.ensures.value c.deref-2.ensures.value c.start_of-start.ensures c.start_of.ensures c.offsets_offset-place.ensures c.piece_len-added.ensures r.room in
     let l0 = l.removed_is in let l1 = l.ordered in let l2 = l.fits in let l3 = l.in_table in let l4 = l.head in let l5 = l.room_for in let l6 = l.added_fits in let l7 = l.kept in let l8 = l.wanted in let l9 = l.grows in
     omega arith
 
@@ -57,8 +57,8 @@ replace_text-requires-clause-room c =
     let b = c.args.bytes.now.items in
     let t = option_map (λ (x : Bor (List ℕ)). x.now) c.args.text in
     let r = c.requires in
-    let l = lengths_of b r.image c.args.old.now r.old c.args.index r.index t c.args.new.now r.new r.small c.deref.result.now c.deref-2.result.now c.start_of-start.result c.start_of.result c.offsets_place-place.result (vec_capacity c.args.bytes.now) c.piece_len-added.result
-    c.deref.ensures.value c.deref-2.ensures.value c.start_of-start.ensures c.start_of.ensures c.offsets_place-place.ensures c.piece_len-added.ensures r.room in
+    let l = lengths_of b r.image c.args.old.now r.old c.args.index r.index t c.args.new.now r.new r.small c.deref.result.now c.deref-2.result.now c.start_of-start.result c.start_of.result c.offsets_offset-place.result (vec_capacity c.args.bytes.now) c.piece_len-added.result
+    c.deref.ensures.value c.deref-2.ensures.value c.start_of-start.ensures c.start_of.ensures c.offsets_offset-place.ensures c.piece_len-added.ensures r.room in
     let l0 = l.removed_is in let l1 = l.ordered in let l2 = l.fits in let l3 = l.in_table in let l4 = l.head in let l5 = l.room_for in let l6 = l.added_fits in let l7 = l.kept in let l8 = l.wanted in let l9 = l.grows in
     let a = c.piece_len-added.ensures in
     elim (gone_or_more b r.image c.args.old.now r.old c.args.index r.index t c.args.new.now r.new r.small) [
@@ -71,8 +71,8 @@ resize_part-requires-clause-within c =
     let b = c.args.bytes.now.items in
     let t = option_map (λ (x : Bor (List ℕ)). x.now) c.args.text in
     let r = c.requires in
-    let l = lengths_of b r.image c.args.old.now r.old c.args.index r.index t c.args.new.now r.new r.small c.deref.result.now c.deref-2.result.now c.start_of-start.result c.start_of.result c.offsets_place-place.result (vec_capacity c.args.bytes.now) c.piece_len-added.result
-    c.deref.ensures.value c.deref-2.ensures.value c.start_of-start.ensures c.start_of.ensures c.offsets_place-place.ensures c.piece_len-added.ensures r.room in
+    let l = lengths_of b r.image c.args.old.now r.old c.args.index r.index t c.args.new.now r.new r.small c.deref.result.now c.deref-2.result.now c.start_of-start.result c.start_of.result c.offsets_offset-place.result (vec_capacity c.args.bytes.now) c.piece_len-added.result
+    c.deref.ensures.value c.deref-2.ensures.value c.start_of-start.ensures c.start_of.ensures c.offsets_offset-place.ensures c.piece_len-added.ensures r.room in
     let l0 = l.removed_is in let l1 = l.ordered in let l2 = l.fits in let l3 = l.in_table in let l4 = l.head in let l5 = l.room_for in let l6 = l.added_fits in let l7 = l.kept in let l8 = l.wanted in let l9 = l.grows in
     let n1 = c.replace_text.ensures.len in
     let a = c.piece_len-added.ensures in
@@ -83,8 +83,8 @@ resize_part-requires-clause-room c =
     let b = c.args.bytes.now.items in
     let t = option_map (λ (x : Bor (List ℕ)). x.now) c.args.text in
     let r = c.requires in
-    let l = lengths_of b r.image c.args.old.now r.old c.args.index r.index t c.args.new.now r.new r.small c.deref.result.now c.deref-2.result.now c.start_of-start.result c.start_of.result c.offsets_place-place.result (vec_capacity c.args.bytes.now) c.piece_len-added.result
-    c.deref.ensures.value c.deref-2.ensures.value c.start_of-start.ensures c.start_of.ensures c.offsets_place-place.ensures c.piece_len-added.ensures r.room in
+    let l = lengths_of b r.image c.args.old.now r.old c.args.index r.index t c.args.new.now r.new r.small c.deref.result.now c.deref-2.result.now c.start_of-start.result c.start_of.result c.offsets_offset-place.result (vec_capacity c.args.bytes.now) c.piece_len-added.result
+    c.deref.ensures.value c.deref-2.ensures.value c.start_of-start.ensures c.start_of.ensures c.offsets_offset-place.ensures c.piece_len-added.ensures r.room in
     let l0 = l.removed_is in let l1 = l.ordered in let l2 = l.fits in let l3 = l.in_table in let l4 = l.head in let l5 = l.room_for in let l6 = l.added_fits in let l7 = l.kept in let l8 = l.wanted in let l9 = l.grows in
     let n1 = c.replace_text.ensures.len in
     let a = c.piece_len-added.ensures in
@@ -96,8 +96,8 @@ put_offset-requires c =
     let b = c.args.bytes.now.items in
     let t = option_map (λ (x : Bor (List ℕ)). x.now) c.args.text in
     let r = c.requires in
-    let l = lengths_of b r.image c.args.old.now r.old c.args.index r.index t c.args.new.now r.new r.small c.deref.result.now c.deref-2.result.now c.start_of-start.result c.start_of.result c.offsets_place-place.result (vec_capacity c.args.bytes.now) c.piece_len-added.result
-    c.deref.ensures.value c.deref-2.ensures.value c.start_of-start.ensures c.start_of.ensures c.offsets_place-place.ensures c.piece_len-added.ensures r.room in
+    let l = lengths_of b r.image c.args.old.now r.old c.args.index r.index t c.args.new.now r.new r.small c.deref.result.now c.deref-2.result.now c.start_of-start.result c.start_of.result c.offsets_offset-place.result (vec_capacity c.args.bytes.now) c.piece_len-added.result
+    c.deref.ensures.value c.deref-2.ensures.value c.start_of-start.ensures c.start_of.ensures c.offsets_offset-place.ensures c.piece_len-added.ensures r.room in
     let l0 = l.removed_is in let l1 = l.ordered in let l2 = l.fits in let l3 = l.in_table in let l4 = l.head in let l5 = l.room_for in let l6 = l.added_fits in let l7 = l.kept in let l8 = l.wanted in let l9 = l.grows in
     let n1 = c.replace_text.ensures.len in
     let a = c.piece_len-added.ensures in
@@ -109,8 +109,8 @@ move_later-requires-clause-within c =
     let b = c.args.bytes.now.items in
     let t = option_map (λ (x : Bor (List ℕ)). x.now) c.args.text in
     let r = c.requires in
-    let l = lengths_of b r.image c.args.old.now r.old c.args.index r.index t c.args.new.now r.new r.small c.deref.result.now c.deref-2.result.now c.start_of-start.result c.start_of.result c.offsets_place-place.result (vec_capacity c.args.bytes.now) c.piece_len-added.result
-    c.deref.ensures.value c.deref-2.ensures.value c.start_of-start.ensures c.start_of.ensures c.offsets_place-place.ensures c.piece_len-added.ensures r.room in
+    let l = lengths_of b r.image c.args.old.now r.old c.args.index r.index t c.args.new.now r.new r.small c.deref.result.now c.deref-2.result.now c.start_of-start.result c.start_of.result c.offsets_offset-place.result (vec_capacity c.args.bytes.now) c.piece_len-added.result
+    c.deref.ensures.value c.deref-2.ensures.value c.start_of-start.ensures c.start_of.ensures c.offsets_offset-place.ensures c.piece_len-added.ensures r.room in
     let l0 = l.removed_is in let l1 = l.ordered in let l2 = l.fits in let l3 = l.in_table in let l4 = l.head in let l5 = l.room_for in let l6 = l.added_fits in let l7 = l.kept in let l8 = l.wanted in let l9 = l.grows in
     let n1 = c.replace_text.ensures.len in
     let a = c.piece_len-added.ensures in
@@ -123,8 +123,8 @@ move_later-requires-clause-added c =
     let b = c.args.bytes.now.items in
     let t = option_map (λ (x : Bor (List ℕ)). x.now) c.args.text in
     let r = c.requires in
-    let l = lengths_of b r.image c.args.old.now r.old c.args.index r.index t c.args.new.now r.new r.small c.deref.result.now c.deref-2.result.now c.start_of-start.result c.start_of.result c.offsets_place-place.result (vec_capacity c.args.bytes.now) c.piece_len-added.result
-    c.deref.ensures.value c.deref-2.ensures.value c.start_of-start.ensures c.start_of.ensures c.offsets_place-place.ensures c.piece_len-added.ensures r.room in
+    let l = lengths_of b r.image c.args.old.now r.old c.args.index r.index t c.args.new.now r.new r.small c.deref.result.now c.deref-2.result.now c.start_of-start.result c.start_of.result c.offsets_offset-place.result (vec_capacity c.args.bytes.now) c.piece_len-added.result
+    c.deref.ensures.value c.deref-2.ensures.value c.start_of-start.ensures c.start_of.ensures c.offsets_offset-place.ensures c.piece_len-added.ensures r.room in
     let l0 = l.removed_is in let l1 = l.ordered in let l2 = l.fits in let l3 = l.in_table in let l4 = l.head in let l5 = l.room_for in let l6 = l.added_fits in let l7 = l.kept in let l8 = l.wanted in let l9 = l.grows in
     omega arith
 
@@ -133,8 +133,8 @@ write_header-requires c =
     let b = c.args.bytes.now.items in
     let t = option_map (λ (x : Bor (List ℕ)). x.now) c.args.text in
     let r = c.requires in
-    let l = lengths_of b r.image c.args.old.now r.old c.args.index r.index t c.args.new.now r.new r.small c.deref.result.now c.deref-2.result.now c.start_of-start.result c.start_of.result c.offsets_place-place.result (vec_capacity c.args.bytes.now) c.piece_len-added.result
-    c.deref.ensures.value c.deref-2.ensures.value c.start_of-start.ensures c.start_of.ensures c.offsets_place-place.ensures c.piece_len-added.ensures r.room in
+    let l = lengths_of b r.image c.args.old.now r.old c.args.index r.index t c.args.new.now r.new r.small c.deref.result.now c.deref-2.result.now c.start_of-start.result c.start_of.result c.offsets_offset-place.result (vec_capacity c.args.bytes.now) c.piece_len-added.result
+    c.deref.ensures.value c.deref-2.ensures.value c.start_of-start.ensures c.start_of.ensures c.offsets_offset-place.ensures c.piece_len-added.ensures r.room in
     let l0 = l.removed_is in let l1 = l.ordered in let l2 = l.fits in let l3 = l.in_table in let l4 = l.head in let l5 = l.room_for in let l6 = l.added_fits in let l7 = l.kept in let l8 = l.wanted in let l9 = l.grows in
     let n1 = c.replace_text.ensures.len in
     let a = c.piece_len-added.ensures in
@@ -155,13 +155,14 @@ returns c =
     let g = with_content d (capability Text i) (text_content t) in
     let rest = texts_below g (written_count g Text) in
     let front = head_of (names_in b) d ++ middle (names_in b) d in
-    let place = c.offsets_place-place.result in
+    let place = c.offsets_offset-place.result in
     let removed = c.start_of.result - c.start_of-start.result in
     let start : c.start_of-start.result ≡ length (texts_below d i) = c.start_of-start.ensures ∙ ap (λ z. length (texts_below (contents_in z) i)) c.deref.ensures.value in
     let gone = removed_found b r.image h r.old i r.index t k r.new r.small c.deref.result.now c.deref-2.result.now c.start_of-start.result c.start_of.result c.deref.ensures.value c.deref-2.ensures.value c.start_of-start.ensures c.start_of.ensures in
-    let ep = c.offsets_place-place.ensures in
+    let ep = c.offsets_offset-place.ensures in
+    let at : c.strings_offset.result + c.start_of-start.result ≡ place + 2 * h.texts + c.start_of-start.result = ap (λ x. x + c.start_of-start.result) (c.strings_offset.ensures ∙ ap (λ x. x + 2 * h.texts) (sym ep)) in
     let f : ℕ → ℕ = λ j. if j == i then offset_of g i else offset_of d j in
-    let one = table_changed b r.image h r.old i r.index t c.replace_text.new.bytes.items place (place + 2 * h.texts + c.start_of-start.result) c.start_of-start.result removed ep refl start gone c.replace_text.ensures.part in
+    let one = table_changed b r.image h r.old i r.index t c.replace_text.new.bytes.items place (c.strings_offset.result + c.start_of-start.result) c.start_of-start.result removed ep at start gone c.replace_text.ensures.part in
     let two = offsets_resized b r.image h r.old i r.index t c.replace_text.new.bytes.items c.resize_part.new.bytes.items (rest ++ []) place k.texts ep one c.resize_part.ensures.part in
     let long : length front ≡ place = length_front (names_in b) d h r.old ∙ sym ep in
     let offset : offset_of g i ≡ c.match-text.offset = elim c.match-text.branch [

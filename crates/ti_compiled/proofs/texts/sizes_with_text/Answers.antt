@@ -13,7 +13,7 @@ overflow_sub-others-2 c = removed_le c.args.bytes.now c.requires.image c.args.ol
 pub last_there-requires : goal.last_there-requires
 last_there-requires c =
     let w = texts_within c.args.bytes.now c.requires.image c.args.old.now c.requires.old in
-    let e = c.offsets_place.ensures in
+    let e = c.offsets_offset.ensures in
     let t = c.if-index-old.true in
     omega arith
 
@@ -30,7 +30,7 @@ returns-after-index-old c =
       | then-index-old w ↦
           let last = w.last_there.ensures in
           rw (c.in-None.is, w.result-is) (sizes_last b c.requires.image h c.requires.old c.args.index c.requires.index None c.start_of-start.result c.start_of-end.result c.start_of-start.ensures c.start_of-end.ensures refl
-          w.offsets_place.result w.last_there.result w.offsets_place.ensures w.if-index-old.true last.within last.last last.past)
+          w.offsets_offset.result w.last_there.result w.offsets_offset.ensures w.if-index-old.true last.within last.last last.past)
       | else-index-old w ↦
           rw (c.in-None.is, w.result-is) (sizes_other b c.requires.image h c.requires.old c.args.index c.requires.index None c.start_of-start.result c.start_of-end.result c.start_of-start.ensures c.start_of-end.ensures refl w.if-index-old.false)
     ]

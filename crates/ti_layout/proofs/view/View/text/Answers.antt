@@ -9,8 +9,8 @@ returns-then-index-self c =
     let v = c.args.self.now in
     text_past v.format v.flags.now _ v.offsets.now v.strings.now c.args.cap c.requires (omega arith)
 
-pub returns-then-offset-ge-NEGATIVE : goal.returns-then-offset-ge-NEGATIVE
-returns-then-offset-ge-NEGATIVE c =
+pub returns-then-offset-ge-NEGATIVE_WORD : goal.returns-then-offset-ge-NEGATIVE_WORD
+returns-then-offset-ge-NEGATIVE_WORD c =
     let v = c.args.self.now in
     let word = c.word-offset.ensures.value ∙ ap (λ i. word_at (2 * i) v.offsets.now) c.index-2.ensures.value in
     text_void v.format v.flags.now _ v.offsets.now v.strings.now c.args.cap c.requires _ (omega arith) word (omega arith)
