@@ -25,7 +25,9 @@ pub length_starts : (texts : List (List ℕ)) (starts : List ℕ) (n : ℕ) → 
 length_starts texts starts n e = ap length e ∙ length-map-range_with_len (lines_before texts) 0 n
 
 -- the line of one more fault was written
-pub one_more_line : (texts : List (List ℕ)) (first : ℕ) (so_far more : List SourceFault) (fault : SourceFault) (start : ℕ) (old new : List ℕ) → old ≡ flat_map (report_line texts first) so_far → more ≡ so_far ++ fault ∷ [] → start ≡ lines_before texts fault.block → new ≡ old ++ fault_line (first + start + fault.line - 1) fault.code fault.detail → new ≡ flat_map (report_line texts first) more
+pub one_more_line : (texts : List (List ℕ)) (first : ℕ) (so_far more : List SourceFault) (fault : SourceFault) (start : ℕ) (old new : List ℕ)
+    → old ≡ flat_map (report_line texts first) so_far → more ≡ so_far ++ fault ∷ [] → start ≡ lines_before texts fault.block
+    → new ≡ old ++ fault_line (first + start + fault.line - 1) fault.code fault.detail → new ≡ flat_map (report_line texts first) more
 one_more_line texts first so_far more fault start old new e m s w =
     let one : flat_map (report_line texts first) (fault ∷ []) ≡ report_line texts first fault = append-nil (report_line texts first fault) in
     rw (w, m, flat_map-append (report_line texts first) so_far (fault ∷ []), one, e, s) refl

@@ -114,7 +114,9 @@ insert-set (y ∷ ys) zero x l = refl
 insert-set (y ∷ ys) (suc at) x l = ap (λ zs. y ∷ zs) (insert-set ys at x (omega arith))
 
 -- the texts after it
-texts_after : (xs : List Slot) (change : Change) (spare : Option Slot) → IsInPlace (map text_seen xs) change → option_map (λ slot. slot.text.items) spare ≡ new_text change → map text_seen (with_exchange xs (out_position change) (put_position change) spare) ≡ list_after (map text_seen xs) change
+texts_after : (xs : List Slot) (change : Change) (spare : Option Slot) → IsInPlace (map text_seen xs) change
+    → option_map (λ slot. slot.text.items) spare ≡ new_text change
+    → map text_seen (with_exchange xs (out_position change) (put_position change) spare) ≡ list_after (map text_seen xs) change
 texts_after xs (insertion at text) None l e = absurd (none-some text e)
 texts_after xs (insertion at text) (Some new) l e = map-insert text_seen xs at new ∙ ap (insert (map text_seen xs) at) (same_Some new.text.items text e)
 texts_after xs (replacement at text) None l e = absurd (none-some text e)
@@ -289,7 +291,8 @@ edited old new change spare after id h sound n x =
 
 -- ---- the way back
 
-pub edit_undone : (old new tried back : Slots) (change : Change) (spare after : Option Slot) (id : Option ℕ) → AreRead old → IsSoundEdit (slot_texts old) change → IsNewOf old change spare → IsMade old new change spare after id → tried ≡ new → IsUndone tried back change after → slots_of back ≡ slots_of old
+pub edit_undone : (old new tried back : Slots) (change : Change) (spare after : Option Slot) (id : Option ℕ) → AreRead old → IsSoundEdit (slot_texts old) change
+    → IsNewOf old change spare → IsMade old new change spare after id → tried ≡ new → IsUndone tried back change after → slots_of back ≡ slots_of old
 edit_undone old new tried back change spare after id h sound n made same undone =
     undone
     ∙ (ap (λ s. with_exchange (slots_of s) (put_position change) (out_position change) after) same

@@ -153,7 +153,9 @@ room_back old rest new (Some at) to id (Some one) (Some gone) slot fits is put =
     let room = subst (λ (s : Slot). HasRoomFor rest (reading_of s.block)) (sym (same_Some gone is.0 is.1)) is.2.room in
     λ back again taken. fits_again rest new back to slot again id fits put taken (reading_of gone.block) room
 
-pub exchanged_put : (old rest new : Slots) (out : Option ℕ) (to id : ℕ) (spare taken after : Option Slot) (slot : Slot) → CanExchange old out (Some to) spare → IsOut old rest out taken → PutsIn rest new to slot id → Some slot ≡ slot_put taken spare → after ≡ slot_left taken spare → IsExchanged old new out (Some to) spare after (Some id)
+pub exchanged_put : (old rest new : Slots) (out : Option ℕ) (to id : ℕ) (spare taken after : Option Slot) (slot : Slot) → CanExchange old out (Some to) spare
+    → IsOut old rest out taken → PutsIn rest new to slot id → Some slot ≡ slot_put taken spare → after ≡ slot_left taken spare
+    → IsExchanged old new out (Some to) spare after (Some id)
 exchanged_put old rest new out to id spare taken after slot can is put e f =
     let left = is_left old rest out taken is in
     let fits = put_fits old rest out to spare taken can is in

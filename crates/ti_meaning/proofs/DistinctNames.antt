@@ -52,7 +52,8 @@ among-distinct_after n before (name ∷ names) =
     let later = among-distinct_after n (before ++ name ∷ []) names in
     let whole = list_any-append n (cond c [] (name ∷ [])) rest in
     let prefix : is_among n (before ++ name ∷ []) ≡ (is_among n before || bytes_eq n name) = list_any-append n before (name ∷ []) ∙ ap (λ v. is_among n before || v) (or_false (bytes_eq n name)) in
-    let parts : is_among n (distinct_after before (name ∷ names)) ≡ (is_among n (cond c [] (name ∷ [])) || (is_among n names && not (is_among n before || bytes_eq n name))) = whole ∙ (ap (λ v. is_among n (cond c [] (name ∷ [])) || v) later ∙ ap (λ v. is_among n (cond c [] (name ∷ [])) || (is_among n names && not v)) prefix) in
+    let parts : is_among n (distinct_after before (name ∷ names)) ≡ (is_among n (cond c [] (name ∷ [])) || (is_among n names && not (is_among n before || bytes_eq n name))) =
+    whole ∙ (ap (λ v. is_among n (cond c [] (name ∷ [])) || v) later ∙ ap (λ v. is_among n (cond c [] (name ∷ [])) || (is_among n names && not v)) prefix) in
     elim (cases_Bool (bytes_eq n name)) [
       | inl same ↦ parts ∙ (rw same (step_same (is_among n before) c (is_among n names) (is_among n (cond c [] (name ∷ []))) (among_one n name c same) (same_among n name before same)))
       | inr other ↦ parts ∙ (rw other (step_other (is_among n before) (is_among n names) (is_among n (cond c [] (name ∷ []))) (among_other n name c other)))
@@ -113,7 +114,9 @@ places_step name names rest true other h i n e = let w = h i n e in (suc w.0, fi
 places_step name names rest false other h zero n e = (0, record { stands = e; first = λ k l. absurd (omega arith) })
 places_step name names rest false other h (suc i) n e = let w = h i n e in (suc w.0, first_later name n names w.0 (other i n e) w.1)
 
-order_later : (name : List ℕ) (names rest : List (List ℕ)) → ((i : ℕ) (n : List ℕ) → slice_get rest i ≡ Some n → name ≡ n → ⊥) → Order names rest → (i j : ℕ) (n m : List ℕ) (at behind : ℕ) → i < j → slice_get rest i ≡ Some n → slice_get rest j ≡ Some m → IsFirstPlace (name ∷ names) n at → IsFirstPlace (name ∷ names) m behind → at < behind
+order_later : (name : List ℕ) (names rest : List (List ℕ)) → ((i : ℕ) (n : List ℕ) → slice_get rest i ≡ Some n → name ≡ n → ⊥) → Order names rest
+    → (i j : ℕ) (n m : List ℕ) (at behind : ℕ) → i < j → slice_get rest i ≡ Some n → slice_get rest j ≡ Some m → IsFirstPlace (name ∷ names) n at
+    → IsFirstPlace (name ∷ names) m behind → at < behind
 order_later name names rest other h i j n m at behind l e f p q =
     let a = first_back name n names at (other i n e) p in
     let b = first_back name m names behind (other j m f) q in

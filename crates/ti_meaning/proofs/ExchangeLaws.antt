@@ -165,7 +165,9 @@ users_depend = λ e at user b name h d own s u.
 
 -- what holds of the block put in, of the users of touched names and with each block of its users
 -- holds of all dependents
-pub dependent_holds : (e : Exchange) (P : ℕ → Type 0) → ((at : ℕ) → IsPutAt e.put at → P at) → ((user : ℕ) (b : Reading) (name : List ℕ) → slice_get (new_list e) user ≡ Some b → Uses b.items name → is_among name (touched_names e) ≡ true → P user) → ((user at : ℕ) → UsesBlock (new_list e) user at → P at → P user) → (at : ℕ) → IsDependent e at → P at
+pub dependent_holds : (e : Exchange) (P : ℕ → Type 0) → ((at : ℕ) → IsPutAt e.put at → P at)
+    → ((user : ℕ) (b : Reading) (name : List ℕ) → slice_get (new_list e) user ≡ Some b → Uses b.items name → is_among name (touched_names e) ≡ true → P user)
+    → ((user at : ℕ) → UsesBlock (new_list e) user at → P at → P user) → (at : ℕ) → IsDependent e at → P at
 dependent_holds e P put touching using at d =
     elim d.2 [
       | inl here ↦ put at here

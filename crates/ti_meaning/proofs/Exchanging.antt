@@ -69,7 +69,9 @@ module _ (test : List ℕ → Bool) (rest : List Reading) (o p : Option PlacedBl
   pub owned_in_both : (n : List ℕ) → IsFree (owner_block (with_block rest o)) test n → owner_block (with_block rest p) n ≡ owner_block (with_block rest o) n
   owned_in_both n free = sym (agree n (free [] n refl))
 
-  pub reaches_in_both : (items : List ReadItem) (n : List ℕ) (way : List (List ℕ)) (to : List ℕ) → Uses items n → IsUseWay (owner_block (with_block rest o)) n way to → test to ≡ true → (m : List ℕ) × (test m ≡ true) × ((from : List ℕ) × (way : List (List ℕ)) × Uses items from × IsUseWay (owner_block (with_block rest p)) from way m)
+  pub reaches_in_both : (items : List ReadItem) (n : List ℕ) (way : List (List ℕ)) (to : List ℕ) → Uses items n
+      → IsUseWay (owner_block (with_block rest o)) n way to → test to ≡ true
+      → (m : List ℕ) × (test m ≡ true) × ((from : List ℕ) × (way : List (List ℕ)) × Uses items from × IsUseWay (owner_block (with_block rest p)) from way m)
   reaches_in_both items n way to u w t =
       let v = way-both test (owner_block (with_block rest o)) (owner_block (with_block rest p)) agree way n to w t in
       (v.1, v.3, (n, v.0, u, v.2))

@@ -24,7 +24,9 @@ pick-append o xs ys =
     ap (λ zs. map (λ (f : ℕ × SourceFault). f.1) zs) (filter-append (λ (f : ℕ × SourceFault). nat_eq f.0 o) xs ys)
     ∙ map-append (λ (f : ℕ × SourceFault). f.1) (filter (λ (f : ℕ × SourceFault). nat_eq f.0 o) xs) (filter (λ (f : ℕ × SourceFault). nat_eq f.0 o) ys)
 
-pick_local : (v : Bool) (at : ℕ) (f : ReadFault) (xs : List (ℕ × SourceFault)) (fs : List ReadFault) → map (λ (g : ℕ × SourceFault). g.1) xs ≡ map (local_fault at) fs → map (λ (g : ℕ × SourceFault). g.1) (cond v (fault_with_ordinal at f ∷ xs) xs) ≡ map (local_fault at) (cond v (f ∷ fs) fs)
+pick_local : (v : Bool) (at : ℕ) (f : ReadFault) (xs : List (ℕ × SourceFault)) (fs : List ReadFault)
+    → map (λ (g : ℕ × SourceFault). g.1) xs ≡ map (local_fault at) fs
+    → map (λ (g : ℕ × SourceFault). g.1) (cond v (fault_with_ordinal at f ∷ xs) xs) ≡ map (local_fault at) (cond v (f ∷ fs) fs)
 pick_local true at f xs fs e = ap (λ zs. local_fault at f ∷ zs) e
 pick_local false at f xs fs e = e
 
@@ -74,7 +76,8 @@ no_own at o (f ∷ fs) e =
 
 -- ---- the faults of uses
 
-use_step : (bs : List Reading) (at o : ℕ) (i : ReadItem) (is : List ReadItem) (v : Bool) → cond v (fault_of_item bs at i.line (used_name i.said)) [] ++ use_faults bs at o is ≡ flat_map (λ (j : ReadItem). fault_of_item bs at j.line (used_name j.said)) (cond v (i ∷ filter (λ (j : ReadItem). nat_eq j.ordinal o) is) (filter (λ (j : ReadItem). nat_eq j.ordinal o) is))
+use_step : (bs : List Reading) (at o : ℕ) (i : ReadItem) (is : List ReadItem) (v : Bool)
+    → cond v (fault_of_item bs at i.line (used_name i.said)) [] ++ use_faults bs at o is ≡ flat_map (λ (j : ReadItem). fault_of_item bs at j.line (used_name j.said)) (cond v (i ∷ filter (λ (j : ReadItem). nat_eq j.ordinal o) is) (filter (λ (j : ReadItem). nat_eq j.ordinal o) is))
 use_step bs at o i is true = refl
 use_step bs at o i is false = refl
 
@@ -92,7 +95,8 @@ no_uses bs at o (i ∷ is) e =
 
 -- ---- either reading gave no fault with the ordinal, or no use has it
 
-pick_step : (bs : List Reading) (at o : ℕ) (fs : List ReadFault) (i : ReadItem) (is : List ReadItem) → with_ordinal o (numbered_faults bs at fs (i ∷ is)) ≡ own_faults at o (faults_before i.ordinal fs) ++ (cond (nat_eq i.ordinal o) (fault_of_item bs at i.line (used_name i.said)) [] ++ with_ordinal o (numbered_faults bs at (faults_from i.ordinal fs) is))
+pick_step : (bs : List Reading) (at o : ℕ) (fs : List ReadFault) (i : ReadItem) (is : List ReadItem)
+    → with_ordinal o (numbered_faults bs at fs (i ∷ is)) ≡ own_faults at o (faults_before i.ordinal fs) ++ (cond (nat_eq i.ordinal o) (fault_of_item bs at i.line (used_name i.said)) [] ++ with_ordinal o (numbered_faults bs at (faults_from i.ordinal fs) is))
 pick_step bs at o fs i is =
     let uses = fault_of_item bs at i.line (used_name i.said) in
     let rest = numbered_faults bs at (faults_from i.ordinal fs) is in

@@ -25,7 +25,9 @@ first_later b bs name at e h = record {
   earlier zero other l s t = false≢true (sym e ∙ (ap (λ x. is_among name x.names) (same_Some b other s) ∙ t))
   earlier (suc before) other l s t = h.first before other (omega arith) s t
 
-owner_step : (b : Reading) (bs : List Reading) (name : List ℕ) (at : ℕ) → is_among name b.names ≡ false → ((p : ℕ) → owner bs name ≡ Some p → IsFirstWith bs name p) → (o : Option ℕ) → owner bs name ≡ o → option_map (λ p. suc p) o ≡ Some at → IsFirstWith (b ∷ bs) name at
+owner_step : (b : Reading) (bs : List Reading) (name : List ℕ) (at : ℕ) → is_among name b.names ≡ false
+    → ((p : ℕ) → owner bs name ≡ Some p → IsFirstWith bs name p) → (o : Option ℕ) → owner bs name ≡ o → option_map (λ p. suc p) o ≡ Some at
+    → IsFirstWith (b ∷ bs) name at
 owner_step b bs name at e h None o m = absurd (none-some at m)
 owner_step b bs name at e h (Some p) o m = rw (← same_Some (suc p) at m) (first_later b bs name p e (h p o))
 

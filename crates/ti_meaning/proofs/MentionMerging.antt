@@ -35,7 +35,8 @@ said-append (m ∷ ms) ns c =
     rw (said-append ms ns c) (sym (if_or (same_capability m.capability c) None (leftmost_content ms c) (leftmost_content ns c) m.says))
 
 -- one mention was added
-pub added_one : (bs : List Reading) (item : Said) (m : Mention) (old new : Contents) → mentions_of (names_at (owner_block bs) 0) item ≡ Some (m ∷ []) → ((c : Capability) → IsCapability c → new c ≡ option_or (old c) (cond (same_capability m.capability c) (Some m.says) None)) → AddsSaid bs item old new
+pub added_one : (bs : List Reading) (item : Said) (m : Mention) (old new : Contents) → mentions_of (names_at (owner_block bs) 0) item ≡ Some (m ∷ [])
+    → ((c : Capability) → IsCapability c → new c ≡ option_or (old c) (cond (same_capability m.capability c) (Some m.says) None)) → AddsSaid bs item old new
 unfolding contents
 added_one bs item m old new e added = record { depth = 0; mentions = m ∷ []; expands = e; adds = added }
 

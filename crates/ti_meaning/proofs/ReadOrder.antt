@@ -61,7 +61,8 @@ named_no_use claim None = refl
 named_no_use claim (Some c) = fitting_no_use c claim c.kind
 
 -- a verdict has no fault or accepts no use
-apart_verdict : (v : Bool) (claim : Claim) (read : ReadClaim) (o : Option Capability) → (code_by (cond v (accepted (said_import (without_outer_space (claimed_text claim)))) (named_verdict read o)) ≡ None) ⊎ (uses_name (said_by (cond v (accepted (said_import (without_outer_space (claimed_text claim)))) (named_verdict read o))) ≡ false)
+apart_verdict : (v : Bool) (claim : Claim) (read : ReadClaim) (o : Option Capability)
+    → (code_by (cond v (accepted (said_import (without_outer_space (claimed_text claim)))) (named_verdict read o)) ≡ None) ⊎ (uses_name (said_by (cond v (accepted (said_import (without_outer_space (claimed_text claim)))) (named_verdict read o))) ≡ false)
 apart_verdict true claim read o = inl refl
 apart_verdict false claim read o = inr (named_no_use read o)
 

@@ -59,7 +59,8 @@ leading_walks = λ bs name at. (λ l. walk_of bs at l.0 name l.1 l.2 l.3, λ w. 
 -- ---- circular uses share a component
 
 -- whoever walks to a block that was found was found, and walks to it along the edges
-found_walk : (bs : List Reading) (found : List ℕ) (Edge : ℕ → ℕ → Type 0) → AreFound bs found → IsGraphOf bs found Edge → (way : List ℕ) (from i at : ℕ) → slice_get found i ≡ Some at → IsEdgeWalk (UsesBlock bs) from way at → (j : ℕ) × (slice_get found j ≡ Some from) × EdgesLead Edge j i
+found_walk : (bs : List Reading) (found : List ℕ) (Edge : ℕ → ℕ → Type 0) → AreFound bs found → IsGraphOf bs found Edge → (way : List ℕ) (from i at : ℕ)
+    → slice_get found i ≡ Some at → IsEdgeWalk (UsesBlock bs) from way at → (j : ℕ) × (slice_get found j ≡ Some from) × EdgesLead Edge j i
 found_walk bs found Edge f g [] from i at s w = (i, s ∙ ap (λ k. Some k) (sym w), ([], refl))
 found_walk bs found Edge f g (x ∷ way) from i at s w =
     let next = found_walk bs found Edge f g way x i at s w.1 in
@@ -77,14 +78,18 @@ block_walk bs found Edge g (k ∷ way) j i from at s t w =
     (edge.1 ∷ rest.0, (uses, rest.1))
 
 -- a walk, over any edges and any relation that says which places share a component
-pub circular_component : (bs : List Reading) (found : List ℕ) (Edge Same : ℕ → ℕ → Type 0) → AreFound bs found → IsGraphOf bs found Edge → MarksComponents (length found) Edge Same → (i at : ℕ) (b : Reading) (name : List ℕ) → slice_get found i ≡ Some at → slice_get bs at ≡ Some b → Uses b.items name → LeadsTo bs name at → (j : ℕ) × (used : ℕ) × (owner bs name ≡ Some used) × (slice_get found j ≡ Some used) × Same i j
+pub circular_component : (bs : List Reading) (found : List ℕ) (Edge Same : ℕ → ℕ → Type 0) → AreFound bs found → IsGraphOf bs found Edge
+    → MarksComponents (length found) Edge Same → (i at : ℕ) (b : Reading) (name : List ℕ) → slice_get found i ≡ Some at → slice_get bs at ≡ Some b
+    → Uses b.items name → LeadsTo bs name at → (j : ℕ) × (used : ℕ) × (owner bs name ≡ Some used) × (slice_get found j ≡ Some used) × Same i j
 circular_component bs found Edge Same f g c i at b name s t u l =
     let w = walk_of bs at l.0 name l.1 l.2 l.3 in
     let j = found_walk bs found Edge f g w.2.0 w.0 i at s w.2.1 in
     let edge : Edge i j.0 = (g i j.0).1 (at, w.0, s, j.1, (b, t, (name, u, w.1))) in
     (j.0, w.0, w.1, j.1, (c i j.0 (slice_get_within found i at s) (slice_get_within found j.0 w.0 j.1)).1 ((j.0 ∷ [], (edge, refl)), j.2))
 
-pub component_circular : (bs : List Reading) (found : List ℕ) (Edge Same : ℕ → ℕ → Type 0) → IsGraphOf bs found Edge → MarksComponents (length found) Edge Same → (i at j used : ℕ) (name : List ℕ) → slice_get found i ≡ Some at → owner bs name ≡ Some used → slice_get found j ≡ Some used → Same i j → LeadsTo bs name at
+pub component_circular : (bs : List Reading) (found : List ℕ) (Edge Same : ℕ → ℕ → Type 0) → IsGraphOf bs found Edge → MarksComponents (length found) Edge Same
+    → (i at j used : ℕ) (name : List ℕ) → slice_get found i ≡ Some at → owner bs name ≡ Some used → slice_get found j ≡ Some used → Same i j
+    → LeadsTo bs name at
 component_circular bs found Edge Same g c i at j used name s o t same =
     let back = ((c i j (slice_get_within found i at s) (slice_get_within found j used t)).0 same).1 in
     let walk = block_walk bs found Edge g back.0 j i used at t s back.1 in

@@ -32,7 +32,9 @@ pub HeaderSoFar-none : (given : Option (List ℕ)) → HeaderSoFar given given N
 HeaderSoFar-none given = record { lines = []; read = Consumes-nil given; each = All-nil IsHeaderLine; first = All-nil (λ line. ¬ IsLengthLine line); room_is = refl }
 
 -- one more line has come
-pub HeaderSoFar-more : (given mid left : Option (List ℕ)) (value found : Option (List ℕ)) (room len : ℕ) (line said : List ℕ) → HeaderSoFar given mid value room → Consumes mid left (line ++ line_end) → IsHeaderLine line → length line + 2 ≤ room → said ≡ line → len ≡ length line → ((lines : List (List ℕ)) → FirstLength lines value → FirstLength (lines ++ said ∷ []) found) → HeaderSoFar given left found (room - (len + 2))
+pub HeaderSoFar-more : (given mid left : Option (List ℕ)) (value found : Option (List ℕ)) (room len : ℕ) (line said : List ℕ) → HeaderSoFar given mid value room
+    → Consumes mid left (line ++ line_end) → IsHeaderLine line → length line + 2 ≤ room → said ≡ line → len ≡ length line
+    → ((lines : List (List ℕ)) → FirstLength lines value → FirstLength (lines ++ said ∷ []) found) → HeaderSoFar given left found (room - (len + 2))
 HeaderSoFar-more given mid left value found room len line said h read each short same len_is first =
     let text = lines_text-more h.lines line in
     let lens : length (lines_text (h.lines ++ line ∷ [])) ≡ length (lines_text h.lines) + (length line + 2) = ap length text ∙ (length-append (lines_text h.lines) (line ++ line_end) ∙ ap (λ n. length (lines_text h.lines) + n) (length-append line line_end)) in
@@ -64,7 +66,9 @@ ended given mid left value room len h read short announced = (
 )
 
 -- the empty line ends the header
-pub IsHeader-ended : (given mid left : Option (List ℕ)) (value : Option (List ℕ)) (room len : ℕ) (line : List ℕ) → HeaderSoFar given mid value room → Consumes mid left (line ++ line_end) → length line ≡ 0 → length line + 2 ≤ room → (bytes : List ℕ) × (value ≡ Some bytes) × (number_of bytes ≡ Some len) → (header : List ℕ) × IsHeader header len × Consumes given left header
+pub IsHeader-ended : (given mid left : Option (List ℕ)) (value : Option (List ℕ)) (room len : ℕ) (line : List ℕ) → HeaderSoFar given mid value room
+    → Consumes mid left (line ++ line_end) → length line ≡ 0 → length line + 2 ≤ room → (bytes : List ℕ) × (value ≡ Some bytes) × (number_of bytes ≡ Some len)
+    → (header : List ℕ) × IsHeader header len × Consumes given left header
 IsHeader-ended given mid left value room len line h read empty short announced =
     ended given mid left announced.0 room len
     (subst (λ (v : Option (List ℕ)). HeaderSoFar given mid v room) announced.1 h)

@@ -9,7 +9,9 @@ use Rattle.ti_printing.specs.declared.printf.Conversion.{Conversion}
 use Rattle.ti_printing.specs.declared.printf.Directive.{Directive}
 use Rattle.ti_printing.specs.declared.printf.Flags.{Flags}
 use Rattle.ti_text.specs.Lists.{AllAre}
-use Rattle.ti_param.specs.Codes.{OneCode, row_for, span, simple_tokens, conversions, is_flag, IsFlags, signed_flags, plain_flags, IsPrecision, without_precision, with_precision, begins_zero, IsDirective, directive, IsCode, simple_code, parameter_code, store_code, fetch_code, byte_code, number_code, print_code}
+use Rattle.ti_param.specs.Codes.{OneCode, row_for, span, simple_tokens, conversions, is_flag, IsFlags, signed_flags, plain_flags, IsPrecision, without_precision}
+use Rattle.ti_param.specs.Codes.{with_precision, begins_zero, IsDirective, directive, IsCode, simple_code, parameter_code, store_code, fetch_code, byte_code, number_code}
+use Rattle.ti_param.specs.Codes.{print_code}
 use Rattle.ti_text.specs.Digits.{is_decimal_digit, decimal_value}
 use Rattle.ti_param.specs.inside.Codes.{Front, parameter_after, store_after, fetch_after, byte_after, constant_before, number_after, flags_of, flags_after, precision_of, precision_after, directive_with, directive_after, begins_directive, letter_after, token_after}
 use Rattle.ti_param.proofs.Fronts.{chosen, mapped, found-row, span-whole, span-all, span-append, braced}

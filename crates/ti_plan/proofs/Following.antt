@@ -58,7 +58,9 @@ following_ended slots d component_of order settled end found c past h = record {
 }
 
 -- the owners of the next block are of its component or settled
-pub next_owners : (slots : Slots) (d : Dependents) (component_of order : List ℕ) (settled : List Settled) (end node : ℕ) → AreFoundIn slots d → AreComponents d.uses component_of → IsClosingOrder d.uses component_of order → IsFollowing slots d order settled end → slice_get order end ≡ Some node → HasSettledOwners slots d component_of settled node
+pub next_owners : (slots : Slots) (d : Dependents) (component_of order : List ℕ) (settled : List Settled) (end node : ℕ) → AreFoundIn slots d
+    → AreComponents d.uses component_of → IsClosingOrder d.uses component_of order → IsFollowing slots d order settled end → slice_get order end ≡ Some node
+    → HasSettledOwners slots d component_of settled node
 next_owners slots d component_of order settled end node found comps c h o = λ owner edge.
     let j = c.listed owner (found.whole node owner edge) in
     let first = item_at component_of node (omega (arith, c.nodes end node o, comps.as_many)) in
@@ -72,7 +74,9 @@ pub place_stands : (slots : Slots) (d : Dependents) (component_of order : List �
 place_stands slots d component_of order end node found c o =
     slice_get-get_or d.positions.items node 0 (let l = c.nodes end node o in omega (arith, found.graph.as_many, found.as_many))
 
-pub next_can : (slots : Slots) (d : Dependents) (component_of order : List ℕ) (settled : List Settled) (end node : ℕ) → AreFoundIn slots d → AreComponents d.uses component_of → IsClosingOrder d.uses component_of order → IsFollowing slots d order settled end → slice_get order end ≡ Some node → CanBeSettled slots d component_of settled node (node_position d node)
+pub next_can : (slots : Slots) (d : Dependents) (component_of order : List ℕ) (settled : List Settled) (end node : ℕ) → AreFoundIn slots d
+    → AreComponents d.uses component_of → IsClosingOrder d.uses component_of order → IsFollowing slots d order settled end → slice_get order end ≡ Some node
+    → CanBeSettled slots d component_of settled node (node_position d node)
 next_can slots d component_of order settled end node found comps c h o = record {
   known = record { found = found; components = comps; as_many = h.as_many };
   stands = place_stands slots d component_of order end node found c o;

@@ -34,7 +34,8 @@ wrong_item bs at index block item is_wrong s e t = there bs at index block item 
 abbrev pub AreSoundBefore : List Reading → ℕ → List ReadItem → ℕ → Type 0
 AreSoundBefore bs at items end = (k : ℕ) (item : ReadItem) → k < end → slice_get items k ≡ Some item → is_at_fault bs at (used_name item.said) ≡ false
 
-pub sound_more : (bs : List Reading) (at : ℕ) (items : List ReadItem) (end : ℕ) (item : ReadItem) (is_wrong : Bool) → AreSoundBefore bs at items end → slice_get items end ≡ Some item → is_wrong ≡ is_at_fault bs at (used_name item.said) → is_wrong ≡ false → AreSoundBefore bs at items (end + 1)
+pub sound_more : (bs : List Reading) (at : ℕ) (items : List ReadItem) (end : ℕ) (item : ReadItem) (is_wrong : Bool) → AreSoundBefore bs at items end
+    → slice_get items end ≡ Some item → is_wrong ≡ is_at_fault bs at (used_name item.said) → is_wrong ≡ false → AreSoundBefore bs at items (end + 1)
 sound_more bs at items end item is_wrong h s e f k other l t =
     elim (cases_eq k end) [
       | inl same ↦

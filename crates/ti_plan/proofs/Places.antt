@@ -72,7 +72,9 @@ use_of_place blocks at index name block u s =
 -- ---- edges
 
 -- the edge of a use leads to the name's owner
-pub edge_is : (slots : Slots) (d : Dependents) → AreFoundIn slots d → (node at index : ℕ) (name : List ℕ) (row : List (Option ℕ)) (edge : Option ℕ) → slice_get d.positions.items node ≡ Some at → IsUseAt (blocks_of slots) at index name → slice_get d.uses node ≡ Some row → slice_get row index ≡ Some edge → IsEdgeTo slots d.ids.items name edge
+pub edge_is : (slots : Slots) (d : Dependents) → AreFoundIn slots d → (node at index : ℕ) (name : List ℕ) (row : List (Option ℕ)) (edge : Option ℕ)
+    → slice_get d.positions.items node ≡ Some at → IsUseAt (blocks_of slots) at index name → slice_get d.uses node ≡ Some row → slice_get row index ≡ Some edge
+    → IsEdgeTo slots d.ids.items name edge
 edge_is slots d h node at index name row edge p u r e =
     let n = node_of_place slots d h node at p in
     let same : u.block ≡ block_of slots n.0 = same_Some u.block (block_of slots n.0) (sym u.stands ∙ n.1.block) in

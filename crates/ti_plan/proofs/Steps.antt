@@ -64,7 +64,8 @@ work_bound : (bs : List Reading) (b : Reading) → work_of bs (Some b) ≤ lengt
 work_bound bs b = elim (resolves bs b) as (λ v. cond v (length b.items) 0 ≤ length b.items) [ true ↦ omega arith | false ↦ omega arith ]
 
 -- enough steps are left for the next block
-pub next_room : (slots : Slots) (d : Dependents) (order : List ℕ) (end node start left at : ℕ) (block : Reading) → AreFoundIn slots d → ((i j u : ℕ) → slice_get order i ≡ Some u → slice_get order j ≡ Some u → i ≡ j) → ((i u : ℕ) → slice_get order i ≡ Some u → u < length d.uses)
+pub next_room : (slots : Slots) (d : Dependents) (order : List ℕ) (end node start left at : ℕ) (block : Reading) → AreFoundIn slots d
+    → ((i j u : ℕ) → slice_get order i ≡ Some u → slice_get order j ≡ Some u → i ≡ j) → ((i u : ℕ) → slice_get order i ≡ Some u → u < length d.uses)
     → slice_get order end ≡ Some node → take (end + 1) order ≡ take end order ++ node ∷ [] → slice_get d.positions.items node ≡ Some at → slice_get (blocks_of slots) at ≡ Some block
     → start ≤ left + sum_by (row_length d.uses) (take end order) → sum_by length d.uses ≤ start → length block.items ≤ left
 next_room slots d order end node start left at block h once within o t p s bound room =

@@ -80,7 +80,9 @@ module _ (slots : Slots) (d : Dependents) (component_of : List ℕ) (settled : L
       use_fault_circular (blocks_of slots) at name b.0 b.1 (LeadsTo-leads_to (blocks_of slots) name at lead)
 
   -- the state of an owner that was found
-  pub state_inside : (owner : ℕ) (one : Settled) → IsFoundUse slots d component_of settled node at index name (Some owner) → (HaveOneNumber component_of node owner → ⊥) → IsSettledNode slots d settled owner → slice_get settled owner ≡ Some one → IsOwnerState (blocks_of slots) at name one.state
+  pub state_inside : (owner : ℕ) (one : Settled) → IsFoundUse slots d component_of settled node at index name (Some owner)
+      → (HaveOneNumber component_of node owner → ⊥) → IsSettledNode slots d settled owner → slice_get settled owner ≡ Some one
+      → IsOwnerState (blocks_of slots) at name one.state
   state_inside w one u apart right s =
       let found = u.known.found in
       let own = (u.leads w).0 refl in
@@ -95,7 +97,8 @@ module _ (slots : Slots) (d : Dependents) (component_of : List ℕ) (settled : L
       }
 
   -- the state of an owner that was not
-  pub state_outside : (id : ℕ) (slot : Slot) → IsFoundUse slots d component_of settled node at index name None → IsOwnerId slots name id → ((place : ℕ) → StandsAt slots place id → slice_get (slots_of slots) place ≡ Some slot) → IsOwnerState (blocks_of slots) at name slot.settled.state
+  pub state_outside : (id : ℕ) (slot : Slot) → IsFoundUse slots d component_of settled node at index name None → IsOwnerId slots name id
+      → ((place : ℕ) → StandsAt slots place id → slice_get (slots_of slots) place ≡ Some slot) → IsOwnerState (blocks_of slots) at name slot.settled.state
   state_outside id slot u own s =
       let found = u.known.found in
       let b = owner_is (blocks_of slots) name own.0 own.1 in
@@ -124,7 +127,9 @@ module _ (slots : Slots) (d : Dependents) (component_of : List ℕ) (settled : L
   edge_stands k p u r edge e = slice_get-get_or row index None (row_at slots d k.found node at index name row p u r) ∙ ap (λ o. Some o) e
 
   -- the edge of the item is that of its use
-  pub read_use : IsKnown slots d component_of settled → slice_get d.positions.items node ≡ Some at → IsUseAt (blocks_of slots) at index name → slice_get d.uses node ≡ Some row → (edge : Option ℕ) → slice_index_or row index None ≡ edge → IsFoundUse slots d component_of settled node at index name edge
+  pub read_use : IsKnown slots d component_of settled → slice_get d.positions.items node ≡ Some at → IsUseAt (blocks_of slots) at index name
+      → slice_get d.uses node ≡ Some row → (edge : Option ℕ) → slice_index_or row index None ≡ edge
+      → IsFoundUse slots d component_of settled node at index name edge
   read_use k p u r edge e =
       record { known = k; place = p; of_item = u; leads = edge_is slots d k.found node at index name row edge p u r (edge_stands k p u r edge e) }
 

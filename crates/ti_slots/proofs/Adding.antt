@@ -1,5 +1,6 @@
 -- The names of a block come to an index, or go, one at a time.
-use Rattle.std.proofs.Common.{◌≡◌, ◌≢◌, ◌⊎◌, ◌≤◌, ◌+◌, ℕ, suc, zero, inl, inr, List, [], ◌∷◌, ◌++◌, length, map, take, Bool, true, false, not, nat_eq, ◌&&◌, ◌||◌, Option, Some, None, option_map, slice_get, refl, sym, ◌∙◌, ap, arith, eq-eqb, length-append, Global}
+use Rattle.std.proofs.Common.{◌≡◌, ◌≢◌, ◌⊎◌, ◌≤◌, ◌+◌, ℕ, suc, zero, inl, inr, List, [], ◌∷◌, ◌++◌, length, map, take, Bool, true, false, not, nat_eq, ◌&&◌, ◌||◌, Option}
+use Rattle.std.proofs.Common.{Some, None, option_map, slice_get, refl, sym, ◌∙◌, ap, arith, eq-eqb, length-append, Global}
 use Rattle.std.specs.Option.{option_map_or}
 use Rattle.std.specs.Vec.{vec_capacity}
 use Rattle.std.specs.Str.{bytes_eq}
@@ -160,7 +161,8 @@ adds_more listed passes more id old mid new said h step change capacity = record
 }
 
 -- what adding a name asks for
-pub place_for : (listed : List ℕ) (passes : Role → List ℕ → Bool) (id : ℕ) (old mid : NameIndex) (role : Role) (name : List ℕ) → AddsId listed passes id old mid → IsPart listed (ids_at role old name) → HasRoom old role name → HasRoom mid role name ⊎ Lists listed (ids_at role mid name) id
+pub place_for : (listed : List ℕ) (passes : Role → List ℕ → Bool) (id : ℕ) (old mid : NameIndex) (role : Role) (name : List ℕ) → AddsId listed passes id old mid
+    → IsPart listed (ids_at role old name) → HasRoom old role name → HasRoom mid role name ⊎ Lists listed (ids_at role mid name) id
 place_for listed passes id old mid role name h part room =
     elim (cases_Bool (passes role name)) [
       | inl t ↦ inr ((λ x. (nat_eq x id && passes role name) || part.0 x), h.added role name part.0 part.1, rw (t, eq-eqb id id refl) refl)
@@ -247,7 +249,8 @@ forgotten_stays mid new name seen others gone n before = elim (name_cases n name
   | inr apart ↦ λ holders users. others n apart.0 ∙ before (sym (seen n).holders ∙ holders) (sym (seen n).users ∙ users)
 ]
 
-pub forgets_more : (passes more : Role → List ℕ → Bool) (old mid new : NameIndex) (said : Role) (name : List ℕ) → Forgets passes old mid → ((n : List ℕ) → IsSeenSame mid new n) → KeepsOthers mid new name → IsForgotten new name → GrowsBy (Some (said, name)) passes more → Forgets more old new
+pub forgets_more : (passes more : Role → List ℕ → Bool) (old mid new : NameIndex) (said : Role) (name : List ℕ) → Forgets passes old mid
+    → ((n : List ℕ) → IsSeenSame mid new n) → KeepsOthers mid new name → IsForgotten new name → GrowsBy (Some (said, name)) passes more → Forgets more old new
 forgets_more passes more old mid new said name h seen others gone step = record {
   same = λ n. record { holders = (seen n).holders ∙ (h.same n).holders; users = (seen n).users ∙ (h.same n).users };
   gone = λ role n e. elim (name_cases n name) [

@@ -50,7 +50,9 @@ put_shown a b value at id slot e i h = subst (λ (v : Slots). PutsIn v (listing_
 
 -- ---- a block is taken out
 
-pub taken_shown : (a b : Inside) (value : Slots) (at id : ℕ) (slot : Slot) → listing_of a ≡ value → IsIndexed a → HasTaken a b at id slot → ((name : List ℕ) → length (holders_at a.names name) ≤ holder_capacity a.names name) → ((name : List ℕ) → length (users_at a.names name) ≤ user_capacity a.names name) → TakesOut value (listing_of b) at slot
+pub taken_shown : (a b : Inside) (value : Slots) (at id : ℕ) (slot : Slot) → listing_of a ≡ value → IsIndexed a → HasTaken a b at id slot
+    → ((name : List ℕ) → length (holders_at a.names name) ≤ holder_capacity a.names name)
+    → ((name : List ℕ) → length (users_at a.names name) ≤ user_capacity a.names name) → TakesOut value (listing_of b) at slot
 taken_shown a b value at id slot e i h holders_fit users_fit = subst (λ (v : Slots). TakesOut v (listing_of b) at slot) e (record {
   id = id;
   was = placed_there a.slots.items a.order.listed at id slot i.filled h.stood h.was;
