@@ -1,5 +1,5 @@
 -- What is before a rest, and then the rest.
-use Rattle.std.proofs.Common.{◌≡◌, ℕ, ◌+◌, Bool, true, false, ◌||◌, nat_lt, cond, List, [], ◌∷◌, ◌++◌, refl, sym, ◌∙◌, ap, ap₂, append_assoc}
+use Rattle.std.proofs.Common.{◌≡◌, ℕ, ◌+◌, Bool, true, false, ◌||◌, nat_lt, cond, List, [], ◌∷◌, ◌++◌, refl, sym, ◌∙◌, ap, append_assoc}
 use Rattle.ti_source.specs.Reading.{Said, said_import}
 use Rattle.ti_layout.specs.View.{Entry}
 use Rattle.ti_list.specs.declared.layout.Layout.{Layout}

@@ -2,16 +2,16 @@
 ghost use Rattle.std.specs.Prelude.{◌≡◌, ◌++◌, option_map, IfOk, OnOk};
 ghost use Rattle.ti_list.specs.Comparison.{value_separator, common_row, compared_kind, comparison, differing_row};
 ghost use Rattle.ti_list.specs.Comparison.{kind_heading, neither_row, row, have_same, value_text};
-ghost use Rattle.ti_list.specs.inside.Contents.{plain_content};
+ghost use Rattle.ti_layout.specs.Values.{plain_content};
 ghost use Rattle.ti_layout.specs.View.{shown_entry};
 
-use crate::contents::{Content, same_content, view_content};
+use crate::contents::same_content;
 use crate::layout::{Mode, Order};
 use crate::order::cap_at;
 use itoa::Buffer;
 use std::alloc::{AllocError, Global};
 use ti_caps::{Cap, Kind, count, name};
-use ti_layout::View;
+use ti_layout::{Content, View};
 use ti_spelling::push_escaped;
 
 // Appends what an entry has of a capability of the kind: `T` or `F`, a number, a string in quotes,
@@ -138,13 +138,7 @@ fn push_kind(
     out.extend_from_slice(kind_heading(kind))?;
     for place in 0..count(kind) {
         let cap = cap_at(order, kind, place);
-        push_row(
-            out,
-            mode,
-            cap,
-            view_content(one, cap),
-            view_content(other, cap),
-        )?;
+        push_row(out, mode, cap, one.get(cap), other.get(cap))?;
     }
     Ok(())
 }

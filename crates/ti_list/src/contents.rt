@@ -1,49 +1,10 @@
-//! What an entry has of a capability, and how it differs from what others have.
-ghost use Rattle.std.specs.Prelude.{◌≡◌, option_map, IfSome};
-ghost use Rattle.ti_layout.specs.View.{view_contents};
-ghost use Rattle.ti_list.specs.inside.Contents.{plain_content, FitsStringTable};
+//! How what an entry has of a capability differs from what others have of it.
+ghost use Rattle.std.specs.Prelude.{◌≡◌, option_map};
+ghost use Rattle.ti_layout.specs.Values.{plain_content};
 ghost use Rattle.ti_list.specs.RelativeSource.{difference, first_of, same_content, entries_shown};
 
-use ti_caps::{Cap, Kind};
-use ti_layout::View;
-
-/// What an item says of its capability.
-#[derive(Clone, Copy)]
-pub enum Content<'a> {
-    /// The boolean is there.
-    True,
-    /// The number.
-    Number(u32),
-    /// The string, which is in the entry.
-    Text(&'a [u8]),
-    /// The capability is cancelled.
-    Cancelled,
-}
-
-/// What an entry has of a capability.
-#[inline(always)]
-pub fn view_content<'a>(view: &View<'a>, cap: Cap) -> Option<Content<'a>>
-    ensures is { option_map plain_content result ≡ view_contents view.now cap }
-    ensures short { IfSome result (λ c. FitsStringTable (plain_content c)) }
-{
-    match cap.kind() {
-        Kind::Flag => {
-            if view.flag(cap) {
-                Some(Content::True)
-            } else {
-                None
-            }
-        }
-        Kind::Number => match view.number(cap) {
-            Some(number) => Some(Content::Number(number)),
-            None => None,
-        },
-        Kind::Text => match view.text(cap) {
-            Some(text) => Some(Content::Text(text)),
-            None => None,
-        },
-    }
-}
+use ti_caps::Cap;
+use ti_layout::{Content, View};
 
 /// What the first of the entries that has the capability has of it.
 #[inline(always)]
@@ -51,7 +12,7 @@ pub fn first_of<'a>(others: &[View<'a>], cap: Cap) -> Option<Content<'a>>
     ensures { option_map plain_content result ≡ first_of (entries_shown others.now) cap }
 {
     for other in others {
-        if let Some(content) = view_content(other, cap) {
+        if let Some(content) = other.get(cap) {
             return Some(content);
         }
     }

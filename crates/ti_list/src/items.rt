@@ -2,13 +2,14 @@
 ghost use Rattle.std.specs.Prelude.{◌≡◌, ◌+◌, ◌<◌, ◌≤◌, ◌++◌, ◌∷◌, vec_len, vec_capacity};
 ghost use Rattle.std.specs.Fmt.{decimal};
 ghost use Rattle.ti_text.specs.Ascii as ascii;
-ghost use Rattle.ti_list.specs.inside.Contents.{plain_content, said_for, FitsStringTable};
+ghost use Rattle.ti_layout.specs.Values.{plain_content};
+ghost use Rattle.ti_list.specs.inside.Contents.{said_for, FitsStringTable};
 ghost use Rattle.ti_list.specs.Items.{item_text};
 ghost use Rattle.ti_list.specs.inside.Room.{item_room};
 
-use crate::contents::Content;
 use itoa::Buffer;
 use ti_caps::{Cap, name};
+use ti_layout::Content;
 use ti_spelling::{MOST_ESCAPED, write_escaped};
 use ti_text::room::append_reserved;
 

@@ -1,22 +1,23 @@
 //! Writes an entry as source text.
 ghost use Rattle.std.specs.Prelude.{◌≡◌, ℕ, ◌+◌, ◌≤◌, ◌++◌, ◌∷◌, [], List, option_map, IfOk, IfSome, ◌<◌, vec_len, vec_capacity};
 ghost use Rattle.ti_text.specs.Ascii as ascii;
+ghost use Rattle.ti_layout.specs.Values.{plain_content};
 ghost use Rattle.ti_layout.specs.View.{view_contents, names_of, shown_entry};
 ghost use Rattle.ti_source.specs.Reading.{Said};
-ghost use Rattle.ti_list.specs.inside.Contents.{plain_content, said_for, FitsStringTable};
+ghost use Rattle.ti_list.specs.inside.Contents.{said_for, FitsStringTable};
 ghost use Rattle.ti_list.specs.inside.Listing.{flow, further_before};
 ghost use Rattle.ti_list.specs.Items.{item_text};
 ghost use Rattle.ti_list.specs.Listing.{size_of, in_order, items_for, kind_items, lines_of, listing};
 ghost use Rattle.ti_list.specs.inside.Room.{item_room, items_room, source_room, uses_room};
 ghost use Rattle.ti_list.specs.RelativeSource.{differing_contents, relative, use_lines, entries_shown};
 
-use crate::contents::{Content, difference, first_of, view_content};
+use crate::contents::{difference, first_of};
 use crate::items::{item_room, write_item};
 use crate::layout::{Layout, Order};
 use crate::order::cap_at;
 use std::alloc::{AllocError, Global};
 use ti_caps::{Cap, Kind, count};
-use ti_layout::View;
+use ti_layout::{Content, View};
 use ti_text::room::append_reserved;
 
 // The columns that a tab at the front of a line takes.
@@ -28,7 +29,7 @@ fn said_of<'a>(view: &View<'a>, others: &[View<'a>], cap: Cap) -> Option<Content
     ensures is { option_map plain_content result ≡ differing_contents (view_contents view.now) (entries_shown others.now) cap }
     ensures short { IfSome result (λ c. FitsStringTable (plain_content c)) }
 {
-    difference(view_content(view, cap), first_of(others, cap))
+    difference(view.get(cap), first_of(others, cap))
 }
 
 // Appends an item with its comma on a new line, after a tab. Gives the columns that are then taken.

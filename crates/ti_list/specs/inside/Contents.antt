@@ -1,19 +1,10 @@
--- What the code holds of a capability, and what it says of it in an item (own).
+-- What is said in an item of what an entry has of a capability (own).
 use Rattle.std.specs.Prelude.{◌<◌, length}
 use Rattle.ti_caps.specs.Tables.{Capability}
 use Rattle.ti_source.specs.Reading.{Said, said_flag, said_number, said_text, said_cancel}
 use Rattle.ti_layout.specs.Layout.{first_negative}
 use Rattle.ti_layout.specs.declared.layout.Format.TheVariants.{Legacy}
 use Rattle.ti_layout.specs.Values.{Content, content_true, content_number, content_text, content_cancelled}
-use Rattle.ti_list.specs.declared.contents.Content.{Content as ContentInMemory}
-use Rattle.ti_list.specs.declared.contents.Content.TheVariants as memory
-
--- a content in memory, as plain data
-abbrev pub plain_content : ContentInMemory → Content
-plain_content memory.True = content_true
-plain_content (memory.Number n) = content_number n
-plain_content (memory.Text t) = content_text t.now
-plain_content memory.Cancelled = content_cancelled
 
 -- the item that says a content
 abbrev pub said_for : Capability → Content → Said

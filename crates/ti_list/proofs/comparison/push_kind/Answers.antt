@@ -10,7 +10,7 @@ use Rattle.ti_list.proofs.comparison.push_kind.Goals as goal
 pub loop-place-preserved : goal.loop-place-preserved
 loop-place-preserved c =
     rows-step c.args.mode (view_contents c.args.one.now) (view_contents c.args.other.now) (in_order c.args.order c.args.kind) c.loop-place.place _ _ _ c.loop-place.out.items _ _
-    c.cap_at-cap.ensures c.view_content.ensures.is c.view_content-in-loop-place.ensures.is (c.in_ok-push_row.ensures) c.loop-place.invariant
+    c.cap_at-cap.ensures c.get.ensures c.get-in-loop-place.ensures (c.in_ok-push_row.ensures) c.loop-place.invariant
 
 pub returns : goal.returns
 returns c =

@@ -1,7 +1,7 @@
 -- each step adds the room of one item, or there is none
 use Rattle.std.proofs.Common.{◌≡◌, ◌≤◌, map, option_map, Some, None, length, refl, sym, ◌∙◌, arith}
 use Rattle.ti_layout.specs.View.{view_contents, shown_entry}
-use Rattle.ti_list.specs.inside.Contents.{plain_content}
+use Rattle.ti_layout.specs.Values.{plain_content}
 use Rattle.ti_list.specs.Listing.{in_order}
 use Rattle.ti_list.specs.RelativeSource.{differing_contents}
 use Rattle.ti_list.proofs.Orders.{length-in_order}

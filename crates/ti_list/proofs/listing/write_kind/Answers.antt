@@ -2,7 +2,7 @@
 use Rattle.std.proofs.Common.{◌≡◌, ◌≤◌, ◌++◌, [], map, option_map, Some, None, length, refl, sym, ◌∙◌, ap, arith}
 use Rattle.std.proofs.lemmas.List.{append-nil, drop_all}
 use Rattle.ti_layout.specs.View.{view_contents, shown_entry}
-use Rattle.ti_list.specs.inside.Contents.{plain_content}
+use Rattle.ti_layout.specs.Values.{plain_content}
 use Rattle.ti_list.specs.inside.Listing.{flow}
 use Rattle.ti_list.specs.Listing.{in_order, items_for}
 use Rattle.ti_list.specs.RelativeSource.{differing_contents}

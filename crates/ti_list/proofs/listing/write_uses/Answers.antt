@@ -1,5 +1,5 @@
 -- after the last of the others nothing is still to come
-use Rattle.std.proofs.Common.{◌≤◌, ◌++◌, [], map, drop, length, arith, sym, ◌∙◌, ap}
+use Rattle.std.proofs.Common.{◌≤◌, ◌++◌, [], map, length, arith, sym, ◌∙◌, ap}
 use Rattle.std.proofs.lemmas.List.{append-nil, drop_all}
 use Rattle.ti_layout.specs.View.{shown_entry}
 use Rattle.ti_list.specs.inside.Listing.{uses_before}
