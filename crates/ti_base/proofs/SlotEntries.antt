@@ -1,17 +1,19 @@
 -- What the slot of a block says of its text and its entry.
-use Rattle.std.proofs.Common.{◌≡◌, ℕ, Bool, true, false, cond, List, Option, Some, None, option_and_then, slice_get, refl, sym, ◌∙◌, ap}
-use Rattle.std.proofs.lemmas.Option.{slice_get-map}
+use Rattle.std.proofs.Common.{◌≡◌, ℕ, Bool, true, false, cond, List, Option, Some, None, option_and_then, slice_get, refl, sym, ◌∙◌, ap, subst}
+use Rattle.std.proofs.lemmas.Option.{same_Some, slice_get-map}
 use Rattle.ti_source.specs.Reading.{Reading, reading_of}
+use Rattle.ti_layout.specs.Values.{contents}
 use Rattle.ti_meaning.specs.Owner.{readings}
 use Rattle.ti_meaning.specs.Expansion.{Mention, expansion}
 use Rattle.ti_meaning.specs.Compiled.{EntryState, unresolved, oversized, written, image_of, is_too_large, entry, entry_of, state_with, state_of, compiled}
+use Rattle.ti_meaning.specs.ValueTables.{HasTable}
 use Rattle.ti_slots.specs.declared.entries.BlockEntry.{BlockEntry}
 use Rattle.ti_slots.specs.declared.slots.Slot.{Slot}
 use Rattle.ti_slots.specs.declared.slots.Slots.{Slots}
 use Rattle.ti_slots.specs.declared.slots.State.{State}
 use Rattle.ti_slots.specs.declared.slots.State.TheVariants as s
 use Rattle.ti_slots.specs.Slots.{slot_texts, slots_of}
-use Rattle.ti_slots.specs.Settled.{state_seen}
+use Rattle.ti_slots.specs.Settled.{state_seen, table_of}
 use Rattle.ti_base.specs.inside.Database.{AreKept, text_seen}
 use Rattle.ti_slots.proofs.Owners.{block_of_slot}
 use Rattle.ti_base.proofs.SlotLists.{blocks_read}
@@ -33,11 +35,22 @@ shown_with b (Some ms) = shown_if (is_too_large b ms) (image_of b ms)
 pub text_of_slot : (slots : Slots) (at : ℕ) (slot : Slot) → slice_get (slots_of slots) at ≡ Some slot → slice_get (slot_texts slots) at ≡ Some slot.text.items
 text_of_slot slots at slot e = rw (slice_get-map text_seen (slots_of slots) at, e) refl
 
+block_read : (slots : Slots) (at : ℕ) (slot : Slot) → AreKept slots → slice_get (slots_of slots) at ≡ Some slot → slice_get (readings (slot_texts slots)) at ≡ Some (reading_of slot.block)
+block_read slots at slot h e = ap (λ bs. slice_get bs at) (sym (blocks_read slots h.read)) ∙ block_of_slot slots at slot e
+
+-- the values that a slot holds are those of its block
+pub table_of_slot : (slots : Slots) (at : ℕ) (slot : Slot) (block : Reading) → AreKept slots → slice_get (slots_of slots) at ≡ Some slot → slice_get (readings (slot_texts slots)) at ≡ Some block → HasTable contents (readings (slot_texts slots)) block (table_of slot.settled.state)
+table_of_slot slots at slot block h e there =
+    let same = same_Some (reading_of slot.block) block (sym (block_read slots at slot h e) ∙ there) in
+    let P : Reading → Type 0 = λ b. HasTable contents (readings (slot_texts slots)) b (table_of slot.settled.state) in
+    let Q : List Reading → Type 0 = λ bs. HasTable contents bs (reading_of slot.block) (table_of slot.settled.state) in
+    subst P same (subst Q (blocks_read slots h.read) (h.settled at slot e).table)
+
 -- the entry that a slot holds is the compiled one
 pub entry_of_slot : (slots : Slots) (at : ℕ) (slot : Slot) → AreKept slots → slice_get (slots_of slots) at ≡ Some slot → shown_entry (state_seen slot.settled.state) ≡ compiled (slot_texts slots) at
 entry_of_slot slots at slot h e =
     let block = reading_of slot.block in
-    let read : slice_get (readings (slot_texts slots)) at ≡ Some block = ap (λ bs. slice_get bs at) (sym (blocks_read slots h.read)) ∙ block_of_slot slots at slot e in
+    let read : slice_get (readings (slot_texts slots)) at ≡ Some block = block_read slots at slot h e in
     let state : state_seen slot.settled.state ≡ state_of (readings (slot_texts slots)) block = (h.settled at slot e).state ∙ ap (λ bs. state_of bs block) (blocks_read slots h.read) in
     let there : compiled (slot_texts slots) at ≡ entry (readings (slot_texts slots)) block = rw read refl in
     ap shown_entry state ∙ (shown_with block (expansion (readings (slot_texts slots)) block) ∙ sym there)

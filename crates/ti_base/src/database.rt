@@ -1,7 +1,9 @@
 //! The edited source: its blocks under stable ids, with what was found out about each.
 ghost use Rattle.std.specs.Prelude.{◌≡◌, ◌<◌, ◌≤◌, [], length, map, slice_get, Some, option_map, vec_capacity, IfOk};
 ghost use Rattle.std.specs.Rc.{rc_slice_items};
+ghost use Rattle.ti_source.specs.Reading.{item_of};
 ghost use Rattle.ti_meaning.specs.Edits.{EditRun, change_of};
+ghost use Rattle.ti_slots.specs.Settled.{table_of};
 
 use crate::faults::source_faults;
 use crate::growing::run_at_once;
@@ -12,8 +14,21 @@ use crate::slot_edits::edit_sound;
 use std::alloc::{AllocError, Global};
 use std::marker::Model;
 use std::rc::RcSlice;
+use ti_layout::Table;
 use ti_meaning::{Edit, EditError, Edited, Fault, Outcome};
 use ti_slots::{Slots, State};
+use ti_source::Item;
+
+// The values of a block, if it resolves.
+fn table_of(state: &State) -> Option<&Table>
+    ensures { option_map (λ table. table.now) result ≡ table_of state.now }
+{
+    match state {
+        State::Unresolved => None,
+        State::TooLarge(table) => Some(table),
+        State::Compiled(entry) => Some(&entry.table),
+    }
+}
 
 /// A source of terminal descriptions as a list of blocks, which edits change one by one. It knows
 /// the compiled entry of each block and all faults, which are those of the whole current source. An
@@ -40,6 +55,9 @@ impl Model for Database {
 impl Database {
     ghost use Rattle.ti_meaning.specs.Owner.{owner, readings};
     ghost use Rattle.ti_meaning.specs.Compiled.{compiled};
+    ghost use Rattle.ti_source.specs.Reading.{Reading};
+    ghost use Rattle.ti_layout.specs.Values.{contents};
+    ghost use Rattle.ti_meaning.specs.ValueTables.{HasTable};
     ghost use Rattle.ti_meaning.specs.Faults.{fault_seen, faults};
     ghost use Rattle.ti_meaning.specs.Report.{lines_before, report};
     ghost use Rattle.std.specs.List.{range_with_len};
@@ -91,6 +109,24 @@ impl Database {
         ensures { option_map (λ block. block.names) (slice_get (readings self.now) at) ≡ Some (map rc_slice_items result.now) }
     {
         &slot_of(&self.slots, at).block.names
+    }
+
+    /// The accepted items of a block, in order.
+    pub fn items(&self, at: usize) -> &[Item]
+        requires { at < length self.now }
+        ensures { option_map (λ block. block.items) (slice_get (readings self.now) at) ≡ Some (map item_of result.now) }
+    {
+        &slot_of(&self.slots, at).block.items
+    }
+
+    /// What a block says once its uses are expanded: of each capability what the leftmost mention
+    /// says, also that it is cancelled. `None` if the block does not resolve. A block whose entry
+    /// is over the limit says it too.
+    pub fn values(&self, at: usize) -> Option<&Table>
+        requires { at < length self.now }
+        ensures { (block : Reading) → slice_get (readings self.now) at ≡ Some block → HasTable contents (readings self.now) block (option_map (λ table. table.now) result) }
+    {
+        table_of(&slot_of(&self.slots, at).settled.state)
     }
 
     /// The position of the first block that has the name among its lookup names, if one has it.

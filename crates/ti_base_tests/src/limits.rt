@@ -258,5 +258,7 @@ fn a_use_of_an_entry_that_is_too_large(rt: HostRuntime) -> Result<(), EditError>
     let database = large_and_user(rt.alloc())?;
     assert!(rt; has_second_entry_alone(&database, &ENTRY_WITH_CBT));
     expect_report(&rt, &database, "1: E9 TooLarge x\n")?;
+    assert!(rt; database.len() == 2);
+    assert!(rt; database.values(0).is_some());
     Ok(())
 }

@@ -1,0 +1,93 @@
+//! The accepted items of a block, and what it says once its uses are expanded.
+use super::steps::source_of;
+use std::process::Abort;
+use ti_base::{Database, EditError};
+use ti_caps::find;
+use ti_layout::{Table, Value};
+use ti_source::What;
+
+// What a block says of `cols` once its uses are expanded.
+#[derive(Clone, Copy, Debug, PartialEq, Eq)]
+enum Cols {
+    Unresolved,
+    Unsaid,
+    Cancelled,
+    Number(u32),
+}
+
+// What the values say of `cols`.
+fn cols_in(values: &Table) -> Cols {
+    match find(b"cols") {
+        Some(cols) => match values.get(cols) {
+            Some(Value::Number(number)) => Cols::Number(*number),
+            Some(Value::Cancelled) => Cols::Cancelled,
+            _ => Cols::Unsaid,
+        },
+        None => Cols::Unsaid,
+    }
+}
+
+// What the values say of `cols`, if the block has any.
+fn cols_of(values: Option<&Table>) -> Cols {
+    match values {
+        Some(values) => cols_in(values),
+        None => Cols::Unresolved,
+    }
+}
+
+// The block at this position says this of `cols`, and has this many accepted items.
+fn expect_block(rt: &impl Abort, database: &Database, at: usize, cols: Cols, items: usize) {
+    assert!(rt; at < database.len());
+    assert_eq!(rt; cols_of(database.values(at)), cols);
+    assert_eq!(rt; database.items(at).len(), items);
+}
+
+// The blocks say this, and have so many accepted items.
+fn expect_blocks(rt: &impl Abort, database: &Database, wanted: &[(Cols, usize)]) {
+    assert_eq!(rt; database.len(), wanted.len());
+    for (at, (cols, items)) in wanted.iter().enumerate() {
+        expect_block(rt, database, at, *cols, *items);
+    }
+}
+
+// `nosuch`, which no terminal has, is not accepted.
+const SOURCE: [&[u8]; 6] = [
+    b"a,cols#1,nosuch,am,\n",
+    b"b,use=a,cols#2,\n",
+    b"c,cols@,use=a,\n",
+    b"d,use=c,cols#3,\n",
+    b"e,cols#4,use=z,\n",
+    b"f,am,\n",
+];
+
+const WANTED: [(Cols, usize); 6] = [
+    (Cols::Number(1), 2),
+    (Cols::Number(1), 2),
+    (Cols::Cancelled, 2),
+    (Cols::Cancelled, 2),
+    (Cols::Unresolved, 2),
+    (Cols::Unsaid, 1),
+];
+
+#[test]
+fn the_leftmost_mention_is_the_value(rt: HostRuntime) -> Result<(), EditError> {
+    let database = source_of(rt.alloc(), &SOURCE)?;
+    expect_blocks(&rt, &database, &WANTED);
+    Ok(())
+}
+
+// Whether the only accepted item cancels a capability.
+fn is_a_cancel(database: &Database) -> bool {
+    match database.items(0).first() {
+        Some(item) => item.ordinal == 1 && item.line == 2 && matches!(item.what, What::Cancel(_)),
+        None => false,
+    }
+}
+
+#[test]
+fn an_item_is_told_as_it_is_read(rt: HostRuntime) -> Result<(), EditError> {
+    let database = source_of(rt.alloc(), &[b"a,nosuch,\n\tcols@,\n".as_slice()])?;
+    assert_eq!(rt; database.len(), 1);
+    assert!(rt; is_a_cancel(&database));
+    Ok(())
+}
