@@ -21,45 +21,28 @@ same_by_presence f o q h e = sym (h o) ∙ (ap f e ∙ h q)
 
 is_there-presence : GoesByPresence is_there
 is_there-presence None = refl
-is_there-presence (Some content_true) = refl
-is_there-presence (Some (content_number n)) = refl
-is_there-presence (Some (content_text t)) = refl
 is_there-presence (Some content_cancelled) = refl
+is_there-presence _ = refl
 
 is_wide-presence : GoesByPresence is_wide
-is_wide-presence None = refl
-is_wide-presence (Some content_true) = refl
-is_wide-presence (Some (content_number n)) = refl
-is_wide-presence (Some (content_text t)) = refl
 is_wide-presence (Some content_cancelled) = refl
+is_wide-presence _ = refl
 
 flag_value-presence : GoesByPresence flag_value
-flag_value-presence None = refl
-flag_value-presence (Some content_true) = refl
-flag_value-presence (Some (content_number n)) = refl
-flag_value-presence (Some (content_text t)) = refl
 flag_value-presence (Some content_cancelled) = refl
+flag_value-presence _ = refl
 
 number_value-presence : (void : ℕ) → GoesByPresence (number_value void)
-number_value-presence void None = refl
-number_value-presence void (Some content_true) = refl
-number_value-presence void (Some (content_number n)) = refl
-number_value-presence void (Some (content_text t)) = refl
 number_value-presence void (Some content_cancelled) = refl
+number_value-presence void _ = refl
 
 text_piece-presence : GoesByPresence text_piece
-text_piece-presence None = refl
-text_piece-presence (Some content_true) = refl
-text_piece-presence (Some (content_number n)) = refl
-text_piece-presence (Some (content_text t)) = refl
 text_piece-presence (Some content_cancelled) = refl
+text_piece-presence _ = refl
 
 offset_value-presence : (offset : ℕ) → GoesByPresence (offset_value offset)
-offset_value-presence offset None = refl
-offset_value-presence offset (Some content_true) = refl
-offset_value-presence offset (Some (content_number n)) = refl
-offset_value-presence offset (Some (content_text t)) = refl
 offset_value-presence offset (Some content_cancelled) = refl
+offset_value-presence offset _ = refl
 
 -- sections whose parts are the same
 alike : (names f f' g g' m m' o o' s s' : List ℕ) → f ≡ f' → g ≡ g' → m ≡ m' → o ≡ o' → s ≡ s' → (w w' : Format) → w ≡ w'

@@ -235,32 +235,20 @@ module _ (es : List TableEntry) (kept : IsSorted es) where
 -- ---- what is absent, as it is written
 
 void_flag : (o : Option Content) → is_there o ≡ false → flag_value o ≡ 0
-void_flag None e = refl
 void_flag (Some content_true) e = absurd cc
-void_flag (Some (content_number n)) e = refl
-void_flag (Some (content_text t)) e = refl
-void_flag (Some content_cancelled) e = refl
+void_flag _ e = refl
 
 void_number : (void : ℕ) (o : Option Content) → is_there o ≡ false → number_value void o ≡ void
-void_number void None e = refl
-void_number void (Some content_true) e = refl
 void_number void (Some (content_number n)) e = absurd cc
-void_number void (Some (content_text t)) e = refl
-void_number void (Some content_cancelled) e = refl
+void_number void _ e = refl
 
 void_offset : (at : ℕ) (o : Option Content) → is_there o ≡ false → offset_value at o ≡ 65535
-void_offset at None e = refl
-void_offset at (Some content_true) e = refl
-void_offset at (Some (content_number n)) e = refl
 void_offset at (Some (content_text t)) e = absurd cc
-void_offset at (Some content_cancelled) e = refl
+void_offset at _ e = refl
 
 void_text : (o : Option Content) → is_there o ≡ false → text_piece o ≡ []
-void_text None e = refl
-void_text (Some content_true) e = refl
-void_text (Some (content_number n)) e = refl
 void_text (Some (content_text t)) e = absurd cc
-void_text (Some content_cancelled) e = refl
+void_text _ e = refl
 
 -- ---- the sections, one value further
 

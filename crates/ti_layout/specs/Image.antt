@@ -43,52 +43,35 @@ of_kind contents kind index = contents (capability kind index)
 -- an absent or cancelled capability is not there
 abbrev pub is_there : Option Content → Bool
 is_there None = false
-is_there (Some content_true) = true
-is_there (Some (content_number n)) = true
-is_there (Some (content_text t)) = true
 is_there (Some content_cancelled) = false
+is_there _ = true
 
--- the byte of a boolean: 1 if it is there, else 0
+-- the byte of a boolean: 1 if it is set, else 0
 abbrev pub flag_value : Option Content → ℕ
-flag_value None = 0
 flag_value (Some content_true) = 1
-flag_value (Some (content_number n)) = 0
-flag_value (Some (content_text t)) = 0
-flag_value (Some content_cancelled) = 0
+flag_value _ = 0
 
 -- a number that is there, else the number that means absent
 abbrev pub number_value : ℕ → Option Content → ℕ
-number_value void None = void
-number_value void (Some content_true) = void
 number_value void (Some (content_number n)) = n
-number_value void (Some (content_text t)) = void
-number_value void (Some content_cancelled) = void
+number_value void _ = void
 
--- a string with the NUL that ends it
+-- a string that is there with the NUL that ends it, else nothing
 abbrev pub text_piece : Option Content → List ℕ
-text_piece None = []
-text_piece (Some content_true) = []
-text_piece (Some (content_number n)) = []
 text_piece (Some (content_text t)) = t ++ ascii.nul ∷ []
-text_piece (Some content_cancelled) = []
+text_piece _ = []
 
 -- the offset of a string that is there, else the offset that means absent
 abbrev pub offset_value : ℕ → Option Content → ℕ
-offset_value offset None = absent_mark Legacy
-offset_value offset (Some content_true) = absent_mark Legacy
-offset_value offset (Some (content_number n)) = absent_mark Legacy
 offset_value offset (Some (content_text t)) = offset
-offset_value offset (Some content_cancelled) = absent_mark Legacy
+offset_value offset _ = absent_mark Legacy
 
 -- ---- the format
 
 -- whether there is a number that a signed number of 16 bits does not hold
 abbrev pub is_wide : Option Content → Bool
-is_wide None = false
-is_wide (Some content_true) = false
 is_wide (Some (content_number n)) = nat_lt legacy_number_max n
-is_wide (Some (content_text t)) = false
-is_wide (Some content_cancelled) = false
+is_wide _ = false
 
 -- numbers of 32 bits are written only if there is such a number
 abbrev pub format_of : Contents → Format

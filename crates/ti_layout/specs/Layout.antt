@@ -86,23 +86,23 @@ entry_bytes format s =
 
 -- ---- where the sections begin, by the numbers of the header
 
--- the booleans: after the header and the names, which have this size with their NUL
+-- where the booleans begin: after the header and the names, which have this size with their NUL
 abbrev pub flags_offset : ℕ → ℕ
 flags_offset names = header_size + names
 
--- the zero byte, or nothing, so that the numbers begin at an even offset
+-- how many bytes are between the booleans and the numbers, so that these begin at an even offset
 abbrev pub gap_size : ℕ → ℕ → ℕ
 gap_size names flags = (names + flags) % 2
 
--- the numbers: after the booleans and the gap
+-- where the numbers begin: after the booleans and the gap
 abbrev pub numbers_offset : ℕ → ℕ → ℕ
 numbers_offset names flags = flags_offset names + flags + gap_size names flags
 
--- the offsets of the strings: after the numbers
+-- where the offsets of the strings begin: after the numbers
 abbrev pub offsets_offset : Format → ℕ → ℕ → ℕ → ℕ
 offsets_offset format names flags numbers = numbers_offset names flags + width format * numbers
 
--- the string table: after the offsets
+-- where the string table begins: after the offsets
 abbrev pub strings_offset : Format → ℕ → ℕ → ℕ → ℕ → ℕ
 strings_offset format names flags numbers offsets = offsets_offset format names flags numbers + 2 * offsets
 
