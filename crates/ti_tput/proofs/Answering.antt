@@ -7,7 +7,11 @@ use Rattle.ti_text.specs.Lists.{both_lists}
 use Rattle.ti_devices.specs.declared.tool_error.ToolError.{ToolError}
 use Rattle.ti_devices.specs.declared.tool_error.ToolError.TheVariants.{Usage, NoTerminal, BadEntry, ReadFault, WriteFault}
 use Rattle.ti_devices.specs.declared.tool_error.ToolError.TheVariants.{LineTooLong, BlockTooLong, TooManyBlocks, Memory}
-use Rattle.ti_layout.specs.View.{Entry}
+use Rattle.ti_caps.specs.Tables.{Capability, capability_named}
+use Rattle.ti_caps.specs.declared.capability.Kind.{Kind}
+use Rattle.ti_caps.specs.declared.capability.Kind.TheVariants.{Flag, Number, Text}
+use Rattle.ti_layout.specs.Values.{Content, Contents}
+use Rattle.ti_layout.specs.View.{Entry, shown_text}
 use Rattle.ti_param.specs.Expansion.{Expands, Overflows}
 use Rattle.ti_param.specs.Formats.{IsStuck}
 use Rattle.ti_param.specs.Meaning.{FormatArgument, MachineOutcome, meaning, start}
@@ -19,15 +23,17 @@ use Rattle.ti_printing.specs.Padding.{AsksForTooMuch}
 use Rattle.ti_printing.specs.inside.Padding.{padding_of, with_pad_bytes}
 use Rattle.ti_printing.proofs.Cuts.{padded_is, too_much_computed}
 use Rattle.ti_tput.specs.Commands.{AnswersCommand}
-use Rattle.ti_tput.specs.Entries.{Holding, flag_held, number_held, text_held, holding_of, line_at_rate}
+use Rattle.ti_tput.specs.Entries.{line_at_rate}
 use Rattle.ti_tput.specs.Parameters.{parameters}
 use Rattle.ti_tput.specs.Results.{Reply, reply, init_strings, long_name, reset_strings, IsSent, Sends, sent, refused}
 use Rattle.ti_tput.specs.Results.{AnswersString, as_it_stands, by_expansion, by_fault, by_overflow}
-use Rattle.ti_tput.specs.Results.{AreSent, no_string, absent, present, OneAsksForTooMuch, at_first, later, SendsAll, all_sent, one_refused, AnswersHolding}
+use Rattle.ti_tput.specs.Results.{AreSent, no_string, absent, present, OneAsksForTooMuch, at_first, later, SendsAll, all_sent, one_refused}
+use Rattle.ti_tput.specs.Results.{AnswersText, AnswersContent, AnswersCapability}
 use Rattle.ti_tput.specs.Results.{AnswersName, of_longname, of_init, of_reset, of_capability, Answers, no_word, too_many, answered, HasOneAnswer}
 use Rattle.ti_tput.specs.Runs.{RunState, TakesWords, no_words, of_command, BadCommandsChangeNothing}
 use Rattle.ti_tput.specs.inside.Commands.{AnswersWords}
-use Rattle.ti_tput.specs.inside.Results.{padded_text, sent_reply, expansion_reply, string_reply, padded_texts, holding_reply, named_reply, tput_result}
+use Rattle.ti_tput.specs.inside.Results.{padded_text, sent_reply, expansion_reply, string_reply, padded_texts, text_reply, content_reply, capability_reply}
+use Rattle.ti_tput.specs.inside.Results.{named_reply, tput_result}
 use Rattle.ti_tput.specs.inside.Runs.{command_step}
 use Rattle.ti_tput.specs.declared.replies.TputOutcome.{TputOutcome}
 use Rattle.ti_tput.proofs.Expanded.{expands_computed, overflows_computed, stuck_computed}
@@ -164,33 +170,49 @@ all_computed line texts statics _ (one_refused one) = ap (λ o. sent_reply o sta
 
 -- ---- a capability, a name, a command
 
-holding_so : (line : Line) (cap : List ℕ) (words : List (List ℕ)) (statics : List ℤ) (h : Option Holding)
-    → AnswersHolding line cap words statics h (holding_reply line cap words statics h)
-holding_so line cap words statics None = refl
-holding_so line cap words statics (Some (flag_held set)) = refl
-holding_so line cap words statics (Some (number_held n)) = refl
-holding_so line cap words statics (Some (text_held None)) = refl
-holding_so line cap words statics (Some (text_held (Some text))) = string_so line cap words statics text
+text_so : (line : Line) (cap : List ℕ) (words : List (List ℕ)) (statics : List ℤ) (text : Option (List ℕ))
+    → AnswersText line cap words statics text (text_reply line cap words statics text)
+text_so line cap words statics None = refl
+text_so line cap words statics (Some text) = string_so line cap words statics text
 
-holding_computed : (line : Line) (cap : List ℕ) (words : List (List ℕ)) (statics : List ℤ) (h : Option Holding) (answer : Reply) →
-    AnswersHolding line cap words statics h answer → answer ≡ holding_reply line cap words statics h
-holding_computed line cap words statics None answer is = is
-holding_computed line cap words statics (Some (flag_held set)) answer is = is
-holding_computed line cap words statics (Some (number_held n)) answer is = is
-holding_computed line cap words statics (Some (text_held None)) answer is = is
-holding_computed line cap words statics (Some (text_held (Some text))) answer is = string_computed line cap words statics text answer is
+text_computed : (line : Line) (cap : List ℕ) (words : List (List ℕ)) (statics : List ℤ) (text : Option (List ℕ)) (answer : Reply) →
+    AnswersText line cap words statics text answer → answer ≡ text_reply line cap words statics text
+text_computed line cap words statics None answer is = is
+text_computed line cap words statics (Some text) answer is = string_computed line cap words statics text answer is
+
+content_so : (line : Line) (cap : List ℕ) (words : List (List ℕ)) (statics : List ℤ) (kind : Kind) (content : Option Content)
+    → AnswersContent line cap words statics kind content (content_reply line cap words statics kind content)
+content_so line cap words statics Flag content = refl
+content_so line cap words statics Number content = refl
+content_so line cap words statics Text content = text_so line cap words statics (shown_text content)
+
+content_computed : (line : Line) (cap : List ℕ) (words : List (List ℕ)) (statics : List ℤ) (kind : Kind) (content : Option Content) (answer : Reply) →
+    AnswersContent line cap words statics kind content answer → answer ≡ content_reply line cap words statics kind content
+content_computed line cap words statics Flag content answer is = is
+content_computed line cap words statics Number content answer is = is
+content_computed line cap words statics Text content answer is = text_computed line cap words statics (shown_text content) answer is
+
+capability_so : (line : Line) (cap : List ℕ) (words : List (List ℕ)) (statics : List ℤ) (contents : Contents) (c : Option Capability)
+    → AnswersCapability line cap words statics contents c (capability_reply line cap words statics contents c)
+capability_so line cap words statics contents None = refl
+capability_so line cap words statics contents (Some c) = content_so line cap words statics c.kind (contents c)
+
+capability_computed : (line : Line) (cap : List ℕ) (words : List (List ℕ)) (statics : List ℤ) (contents : Contents) (c : Option Capability) (answer : Reply) →
+    AnswersCapability line cap words statics contents c answer → answer ≡ capability_reply line cap words statics contents c
+capability_computed line cap words statics contents None answer is = is
+capability_computed line cap words statics contents (Some c) answer is = content_computed line cap words statics c.kind (contents c) answer is
 
 module _ (entry : Entry) (rate : ℕ) (cap : List ℕ) (words : List (List ℕ)) (statics : List ℤ) where
   abbrev of_strings : List (Option (List ℕ)) → Reply
   of_strings texts = sent_reply (padded_texts (line_at_rate entry rate) texts) statics statics
 
   abbrev of_cap : Reply
-  of_cap = holding_reply (line_at_rate entry rate) cap words statics (holding_of entry cap)
+  of_cap = capability_reply (line_at_rate entry rate) cap words statics entry.contents (capability_named cap)
 
   reset_so : (b : Bool) → bytes_eq cap (codes "longname") ≡ false → bytes_eq cap (codes "init") ≡ false → bytes_eq cap (codes "reset") ≡ b →
       AnswersName entry rate cap words statics (cond b (of_strings (reset_strings entry)) of_cap)
   reset_so true long init reset = of_reset long init reset (all_so (line_at_rate entry rate) (reset_strings entry) statics)
-  reset_so false long init reset = of_capability long init reset (holding_so (line_at_rate entry rate) cap words statics (holding_of entry cap))
+  reset_so false long init reset = of_capability long init reset (capability_so (line_at_rate entry rate) cap words statics entry.contents (capability_named cap))
 
   init_so : (b : Bool) → bytes_eq cap (codes "longname") ≡ false → bytes_eq cap (codes "init") ≡ b →
       AnswersName entry rate cap words statics (cond b (of_strings (init_strings entry))
@@ -214,8 +236,8 @@ module _ (entry : Entry) (rate : ℕ) (cap : List ℕ) (words : List (List ℕ))
       let is = all_computed (line_at_rate entry rate) (init_strings entry) statics answer all in rw (long, init) is
   name_computed answer (of_reset long init reset all) =
       let is = all_computed (line_at_rate entry rate) (reset_strings entry) statics answer all in rw (long, init, reset) is
-  name_computed answer (of_capability long init reset holding) =
-      let is = holding_computed (line_at_rate entry rate) cap words statics (holding_of entry cap) answer holding in rw (long, init, reset) is
+  name_computed answer (of_capability long init reset named) =
+      let is = capability_computed (line_at_rate entry rate) cap words statics entry.contents (capability_named cap) answer named in rw (long, init, reset) is
 
 pub result_so : (entry : Entry) (rate : ℕ) (statics : List ℤ) (words : List (List ℕ)) → Answers entry rate statics words (tput_result entry words rate statics)
 unfolding tput_result

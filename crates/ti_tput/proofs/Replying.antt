@@ -7,10 +7,15 @@ use Rattle.std.proofs.lemmas.List.{take_all, length-take, nil_from_length}
 use Rattle.ti_param.specs.inside.Expansion.{Expansion, expanded, bad_format, stack_full, format_expansion}
 use Rattle.ti_printing.specs.declared.padding.Line.{Line}
 use Rattle.ti_layout.specs.View.{Entry}
-use Rattle.ti_tput.specs.Entries.{Holding, flag_held, number_held, text_held, holding_of, line_at_rate}
+use Rattle.ti_caps.specs.Tables.{Capability, capability_named}
+use Rattle.ti_caps.specs.declared.capability.Kind.{Kind}
+use Rattle.ti_caps.specs.declared.capability.Kind.TheVariants.{Flag, Number, Text}
+use Rattle.ti_layout.specs.Values.{Content, Contents}
+use Rattle.ti_layout.specs.View.{shown_text}
+use Rattle.ti_tput.specs.Entries.{line_at_rate}
 use Rattle.ti_tput.specs.Parameters.{parameters}
 use Rattle.ti_tput.specs.Results.{Reply, bad_status, init_strings, reset_strings}
-use Rattle.ti_tput.specs.inside.Results.{holding_reply, named_reply, padded_texts, padded_text, sent_reply, expansion_reply, string_reply, tput_result}
+use Rattle.ti_tput.specs.inside.Results.{text_reply, content_reply, capability_reply, named_reply, padded_texts, padded_text, sent_reply, expansion_reply, string_reply, tput_result}
 use Rattle.ti_tput.specs.Runs.{RunState, bad_step, reply_step, words_of}
 use Rattle.ti_tput.specs.inside.Runs.{command_step, line_step}
 
@@ -36,14 +41,24 @@ string-leaves line cap [] statics text four = sent-leaves (padded_text line text
 string-leaves line cap (word ∷ words) statics text four =
     expansion-leaves line statics (format_expansion text (parameters cap (word ∷ words)) statics) four
 
-holding-leaves : (line : Line) (cap : List ℕ) (words : List (List ℕ)) (statics : List ℤ) (h : Option Holding)
-    → (holding_reply line cap words statics h).status ≡ bad_status
-    → ((holding_reply line cap words statics h).bytes ≡ []) × ((holding_reply line cap words statics h).statics ≡ statics)
-holding-leaves line cap words statics None four = (refl, refl)
-holding-leaves line cap words statics (Some (flag_held set)) four = (refl, refl)
-holding-leaves line cap words statics (Some (number_held n)) four = absurd (omega arith)
-holding-leaves line cap words statics (Some (text_held None)) four = (refl, refl)
-holding-leaves line cap words statics (Some (text_held (Some text))) four = string-leaves line cap words statics text four
+text-leaves : (line : Line) (cap : List ℕ) (words : List (List ℕ)) (statics : List ℤ) (text : Option (List ℕ))
+    → (text_reply line cap words statics text).status ≡ bad_status
+    → ((text_reply line cap words statics text).bytes ≡ []) × ((text_reply line cap words statics text).statics ≡ statics)
+text-leaves line cap words statics None four = (refl, refl)
+text-leaves line cap words statics (Some text) four = string-leaves line cap words statics text four
+
+content-leaves : (line : Line) (cap : List ℕ) (words : List (List ℕ)) (statics : List ℤ) (kind : Kind) (content : Option Content)
+    → (content_reply line cap words statics kind content).status ≡ bad_status
+    → ((content_reply line cap words statics kind content).bytes ≡ []) × ((content_reply line cap words statics kind content).statics ≡ statics)
+content-leaves line cap words statics Flag content four = (refl, refl)
+content-leaves line cap words statics Number content four = absurd (omega arith)
+content-leaves line cap words statics Text content four = text-leaves line cap words statics (shown_text content) four
+
+capability-leaves : (line : Line) (cap : List ℕ) (words : List (List ℕ)) (statics : List ℤ) (contents : Contents) (c : Option Capability)
+    → (capability_reply line cap words statics contents c).status ≡ bad_status
+    → ((capability_reply line cap words statics contents c).bytes ≡ []) × ((capability_reply line cap words statics contents c).statics ≡ statics)
+capability-leaves line cap words statics contents None four = (refl, refl)
+capability-leaves line cap words statics contents (Some c) four = content-leaves line cap words statics c.kind (contents c) four
 
 -- one of two replies
 either-leaves : (b : Bool) (r s : Reply) (statics : List ℤ) → (r.status ≡ bad_status → (r.bytes ≡ []) × (r.statics ≡ statics))
@@ -59,7 +74,7 @@ named-leaves entry rate cap words statics =
     either-leaves (bytes_eq cap (codes "longname")) _ _ statics (λ four. absurd (omega arith))
     (either-leaves (bytes_eq cap (codes "init")) _ _ statics (sent-leaves (padded_texts (line_at_rate entry rate) (init_strings entry)) statics statics)
     (either-leaves (bytes_eq cap (codes "reset")) _ _ statics (sent-leaves (padded_texts (line_at_rate entry rate) (reset_strings entry)) statics statics)
-    (holding-leaves (line_at_rate entry rate) cap words statics (holding_of entry cap))))
+    (capability-leaves (line_at_rate entry rate) cap words statics entry.contents (capability_named cap))))
 
 if_not : {X : Type 0} (b : Bool) (x y : X) → cond b None (Some x) ≡ Some y → (b ≡ false) × (x ≡ y)
 if_not true x y e = absurd (cc)

@@ -7,7 +7,6 @@ use Rattle.ti_caps.specs.Tables.{capability, capability_named, names}
 use Rattle.ti_layout.specs.Values.{contents, content_true, content_number, content_text}
 use Rattle.ti_param.specs.Meaning.{number, text}
 use Rattle.ti_layout.specs.View.{Entry}
-use Rattle.ti_tput.specs.Entries.{holding_of}
 use Rattle.ti_tput.specs.Parameters.{word_number, parameters}
 use Rattle.ti_tput.specs.Results.{bad_reply, reply}
 use Rattle.ti_tput.specs.inside.Results.{tput_result}
@@ -57,9 +56,9 @@ unfolding tput_result dumb
 row-longname = refl
 
 row-zz : tput_result dumb (codes "zz" ∷ []) 0 (replicate 26 (pos 0)) ≡ Some (bad_reply (replicate 26 (pos 0)))
-unfolding tput_result dumb holding_of capability_named names flag_names number_names text_names
+unfolding tput_result dumb capability_named names flag_names number_names text_names
 row-zz = refl
 
 row-am : tput_result dumb (codes "am" ∷ []) 0 (replicate 26 (pos 0)) ≡ Some (reply [] 0 (replicate 26 (pos 0)))
-unfolding tput_result dumb holding_of capability_named names flag_names number_names text_names contents
+unfolding tput_result dumb capability_named names flag_names number_names text_names contents
 row-am = refl

@@ -9,8 +9,12 @@ use Rattle.ti_param.specs.Expansion.{Expands, Overflows}
 use Rattle.ti_param.specs.Formats.{IsStuck}
 use Rattle.ti_printing.specs.declared.padding.Line.{Line}
 use Rattle.ti_printing.specs.Padding.{AsksForTooMuch, IsPadded}
-use Rattle.ti_layout.specs.View.{Entry}
-use Rattle.ti_tput.specs.Entries.{Holding, flag_held, number_held, text_held, holding_of, text_value, line_at_rate}
+use Rattle.ti_caps.specs.Tables.{Capability, capability_named}
+use Rattle.ti_caps.specs.declared.capability.Kind.TheVariants.{Flag, Number, Text}
+use Rattle.ti_caps.specs.declared.capability.Kind.{Kind}
+use Rattle.ti_layout.specs.Values.{Content, Contents}
+use Rattle.ti_layout.specs.View.{Entry, shown_flag, shown_number, shown_text}
+use Rattle.ti_tput.specs.Entries.{content_named, line_at_rate}
 use Rattle.ti_tput.specs.Parameters.{parameters}
 
 -- what a command writes, its exit status, and the static variables after it
@@ -76,12 +80,12 @@ pub data SendsAll (line : Line) (texts : List (Option (List ℕ))) (statics : Li
 -- the strings that initialize a terminal
 abbrev pub init_strings : Entry → List (Option (List ℕ))
 init_strings entry =
-    text_value (holding_of entry (codes "is1")) ∷ text_value (holding_of entry (codes "is2")) ∷ text_value (holding_of entry (codes "is3")) ∷ []
+    shown_text (content_named entry (codes "is1")) ∷ shown_text (content_named entry (codes "is2")) ∷ shown_text (content_named entry (codes "is3")) ∷ []
 
 -- the strings that reset it
 abbrev pub own_reset_strings : Entry → List (Option (List ℕ))
 own_reset_strings entry =
-    text_value (holding_of entry (codes "rs1")) ∷ text_value (holding_of entry (codes "rs2")) ∷ text_value (holding_of entry (codes "rs3")) ∷ []
+    shown_text (content_named entry (codes "rs1")) ∷ shown_text (content_named entry (codes "rs2")) ∷ shown_text (content_named entry (codes "rs3")) ∷ []
 
 -- whether one of the strings is present
 abbrev pub some_present : List (Option (List ℕ)) → Bool
@@ -104,14 +108,23 @@ abbrev pub number_text : Option ℕ → List ℕ
 number_text None = codes "-1" ++ ascii.newline ∷ []
 number_text (Some n) = decimal n ++ ascii.newline ∷ []
 
--- what is answered of a capability: nothing is written of a boolean or of a string that is absent,
--- and the status is then 1
-abbrev pub AnswersHolding : Line → List ℕ → List (List ℕ) → List ℤ → Option Holding → Reply → Type 0
-AnswersHolding line cap words statics None answer = answer ≡ bad_reply statics
-AnswersHolding line cap words statics (Some (flag_held set)) answer = answer ≡ reply [] (if set then 0 else 1) statics
-AnswersHolding line cap words statics (Some (number_held n)) answer = answer ≡ reply (number_text n) 0 statics
-AnswersHolding line cap words statics (Some (text_held None)) answer = answer ≡ reply [] 1 statics
-AnswersHolding line cap words statics (Some (text_held (Some text))) answer = AnswersString line cap words statics text answer
+-- what is answered of a string: nothing is written if it is absent, and the status is then 1
+abbrev pub AnswersText : Line → List ℕ → List (List ℕ) → List ℤ → Option (List ℕ) → Reply → Type 0
+AnswersText line cap words statics None answer = answer ≡ reply [] 1 statics
+AnswersText line cap words statics (Some text) answer = AnswersString line cap words statics text answer
+
+-- what is answered of a capability of that kind, by what the entry has of it: nothing is written of
+-- a boolean, and the status is 1 if it is not set
+abbrev pub AnswersContent : Line → List ℕ → List (List ℕ) → List ℤ → Kind → Option Content → Reply → Type 0
+AnswersContent line cap words statics Flag content answer = answer ≡ reply [] (if shown_flag content then 0 else 1) statics
+AnswersContent line cap words statics Number content answer = answer ≡ reply (number_text (shown_number content)) 0 statics
+AnswersContent line cap words statics Text content answer = AnswersText line cap words statics (shown_text content) answer
+
+-- what is answered of a capability that has the name, by what the entry has of each; the command is
+-- bad if no capability has the name
+abbrev pub AnswersCapability : Line → List ℕ → List (List ℕ) → List ℤ → Contents → Option Capability → Reply → Type 0
+AnswersCapability line cap words statics contents None answer = answer ≡ bad_reply statics
+AnswersCapability line cap words statics contents (Some c) answer = AnswersContent line cap words statics c.kind (contents c) answer
 
 -- what is answered to a name with these words after it
 pub data AnswersName (entry : Entry) (rate : ℕ) (cap : List ℕ) (words : List (List ℕ)) (statics : List ℤ) : Reply → Type 0 where
@@ -121,7 +134,7 @@ pub data AnswersName (entry : Entry) (rate : ℕ) (cap : List ℕ) (words : List
   of_reset : {answer : Reply} → bytes_eq cap (codes "longname") ≡ false → bytes_eq cap (codes "init") ≡ false → bytes_eq cap (codes "reset") ≡ true →
       SendsAll (line_at_rate entry rate) (reset_strings entry) statics answer → AnswersName entry rate cap words statics answer
   of_capability : {answer : Reply} → bytes_eq cap (codes "longname") ≡ false → bytes_eq cap (codes "init") ≡ false → bytes_eq cap (codes "reset") ≡ false →
-      AnswersHolding (line_at_rate entry rate) cap words statics (holding_of entry cap) answer → AnswersName entry rate cap words statics answer
+      AnswersCapability (line_at_rate entry rate) cap words statics entry.contents (capability_named cap) answer → AnswersName entry rate cap words statics answer
 
 -- What a command answers; None is bad usage: no word, or more than nine parameters.
 pub data Answers (entry : Entry) (rate : ℕ) (statics : List ℤ) : List (List ℕ) → Option Reply → Type 0 where

@@ -1,63 +1,47 @@
 //! What an entry has of a capability that is asked for by its name, and the line of its terminal.
-ghost use Rattle.std.specs.Prelude.{◌≡◌, Some, option_map};
-ghost use Rattle.ti_layout.specs.View.{shown_entry};
-ghost use Rattle.ti_tput.specs.Entries.{is_set_flag, holding_of, line_at_rate, value_meaning, given_number, pad_byte_of, text_value};
+ghost use Rattle.std.specs.Prelude.{◌≡◌, option_map};
+ghost use Rattle.ti_layout.specs.Values.{plain_content};
+ghost use Rattle.ti_layout.specs.View.{shown_entry, shown_flag, shown_number, shown_text};
+ghost use Rattle.ti_tput.specs.Entries.{content_named, line_at_rate, pad_byte_of};
 
-use ti_caps::{Kind, find};
-use ti_layout::View;
+use ti_caps::find;
+use ti_layout::{Content, View};
 use ti_param::Line;
 
-/// What an entry has of a capability.
-#[derive(Clone, Copy)]
-pub enum CapabilityValue<'a> {
-    /// Whether the boolean is set.
-    Flag(bool),
-    /// The number, if there is one.
-    Number(Option<u32>),
-    /// The string, if there is one.
-    Text(Option<&'a [u8]>),
-}
-
-/// What an entry has of the capability of a name; `None` if no capability has the name.
-#[tactic(auto, unfolding(crate::specs::Entries::holding_of))]
-pub fn value_of<'a>(view: &View<'a>, name: &[u8]) -> Option<CapabilityValue<'a>>
-    ensures { option_map value_meaning result ≡ holding_of (shown_entry view.now) name.now }
+// What an entry has of the capability of a name.
+#[tactic(auto, unfolding(crate::specs::Entries::content_named))]
+fn content_named<'a>(view: &View<'a>, name: &[u8]) -> Option<Content<'a>>
+    ensures { option_map plain_content result ≡ content_named (shown_entry view.now) name.now }
 {
-    let cap = find(name)?;
-    let value = match cap.kind() {
-        Kind::Flag => CapabilityValue::Flag(view.flag(cap)),
-        Kind::Number => CapabilityValue::Number(view.number(cap)),
-        Kind::Text => CapabilityValue::Text(view.text(cap)),
-    };
-    Some(value)
+    view.get(find(name)?)
 }
 
 // Whether an entry has a boolean.
 fn flag(view: &View<'_>, name: &[u8]) -> bool
-    ensures { result ≡ is_set_flag (holding_of (shown_entry view.now) name.now) }
+    ensures { result ≡ shown_flag (content_named (shown_entry view.now) name.now) }
 {
-    match value_of(view, name) {
-        Some(CapabilityValue::Flag(set)) => set,
+    match content_named(view, name) {
+        Some(Content::True) => true,
         _ => false,
     }
 }
 
 // The number that an entry has of a capability.
 fn number(view: &View<'_>, name: &[u8]) -> Option<u32>
-    ensures { result ≡ given_number (holding_of (shown_entry view.now) name.now) }
+    ensures { result ≡ shown_number (content_named (shown_entry view.now) name.now) }
 {
-    match value_of(view, name) {
-        Some(CapabilityValue::Number(number)) => number,
+    match content_named(view, name) {
+        Some(Content::Number(number)) => Some(number),
         _ => None,
     }
 }
 
 /// The string that an entry has of a capability.
 pub fn text<'a>(view: &View<'a>, name: &[u8]) -> Option<&'a [u8]>
-    ensures { option_map (λ t. t.now) result ≡ text_value (holding_of (shown_entry view.now) name.now) }
+    ensures { option_map (λ t. t.now) result ≡ shown_text (content_named (shown_entry view.now) name.now) }
 {
-    match value_of(view, name) {
-        Some(CapabilityValue::Text(text)) => text,
+    match content_named(view, name) {
+        Some(Content::Text(text)) => Some(text),
         _ => None,
     }
 }

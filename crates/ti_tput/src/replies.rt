@@ -2,19 +2,20 @@
 ghost use Rattle.std.specs.Prelude.{◌≡◌, ℕ, ℤ, List, [], IfOk, OnErr, MatchResult, Some, map};
 ghost use Rattle.ti_param.specs.Meaning.{argument_of};
 ghost use Rattle.ti_param.specs.inside.Expansion.{EndsWith, expanded, format_expansion};
-ghost use Rattle.ti_layout.specs.View.{shown_entry};
-ghost use Rattle.ti_tput.specs.Entries.{line_at_rate, value_meaning};
+ghost use Rattle.ti_layout.specs.View.{shown_entry, view_contents};
+ghost use Rattle.ti_tput.specs.Entries.{line_at_rate};
 ghost use Rattle.ti_tput.specs.Results.{init_strings, long_name, number_text};
-ghost use Rattle.ti_tput.specs.inside.Results.{holding_reply, named_reply};
+ghost use Rattle.ti_tput.specs.inside.Results.{content_reply, named_reply};
 ghost use Rattle.ti_tput.specs.Results.{reply, reset_strings};
 ghost use Rattle.ti_tput.specs.inside.Results.{padded_texts, padded_text, sent_reply, string_reply};
 ghost use Rattle.ti_tput.specs.inside.Replies.{made_bytes, given_texts};
 ghost use Rattle.ti_tput.specs.Replies.{reply_of};
 
-use crate::entries::{CapabilityValue, terminal_line, text, value_of};
+use crate::entries::{terminal_line, text};
 use crate::parameters::parameters;
 use memchr::memrchr;
 use std::alloc::{AllocError, Global};
+use ti_caps::{Cap, Kind, find};
 use ti_layout::View;
 use ti_param::{Line, PadError, ParamError, Statics, Value, expand, pad, pad_owned};
 use ti_text::limits::PARAMETERS_MAX;
@@ -163,30 +164,33 @@ fn number_text(alloc: Global, number: Option<u32>) -> Result<Vec<u8>, AllocError
     }
 }
 
-// The answer for a capability that has this value.
-fn answer_value(
+// The answer for a capability, which is asked for by this name.
+fn answer_capability(
     alloc: Global,
-    value: CapabilityValue<'_>,
-    cap: &[u8],
+    view: &View<'_>,
+    cap: Cap,
+    name: &[u8],
     words: &[&[u8]],
     line: &Line,
     statics: &mut Statics,
 ) -> Result<TputOutcome, AllocError>
     ensures answer { IfOk result (λ outcome. reply_of outcome statics.new
-        ≡ holding_reply line.now cap.now (map (λ word. word.now) words.now) statics.old (Some (value_meaning value.entry))) }
+        ≡ content_reply line.now name.now (map (λ word. word.now) words.now) statics.old cap.kind (view_contents view.now cap)) }
     ensures err { OnErr result (statics.new ≡ statics.old) }
 {
-    match value {
-        CapabilityValue::Flag(set) => Ok(status_alone(alloc, if set { 0 } else { 1 })),
-        CapabilityValue::Number(number) => Ok(TputOutcome {
-            bytes: number_text(alloc, number)?,
+    match cap.kind() {
+        Kind::Flag => Ok(status_alone(alloc, if view.flag(cap) { 0 } else { 1 })),
+        Kind::Number => Ok(TputOutcome {
+            bytes: number_text(alloc, view.number(cap))?,
             status: 0,
         }),
-        CapabilityValue::Text(None) => Ok(status_alone(alloc, 1)),
-        CapabilityValue::Text(Some(text)) => {
-            let made = string(alloc, cap, words, text, line, statics)?;
-            Ok(outcome_of(alloc, made))
-        }
+        Kind::Text => match view.text(cap) {
+            Some(text) => {
+                let made = string(alloc, name, words, text, line, statics)?;
+                Ok(outcome_of(alloc, made))
+            }
+            None => Ok(status_alone(alloc, 1)),
+        },
     }
 }
 
@@ -253,8 +257,8 @@ pub(crate) fn answer_name(
     if cap == b"reset".as_slice() {
         return answer_strings(alloc, &reset_strings(view), line);
     }
-    match value_of(view, cap) {
-        Some(value) => answer_value(alloc, value, cap, words, line, statics),
+    match find(cap) {
+        Some(found) => answer_capability(alloc, view, found, cap, words, line, statics),
         None => Ok(status_alone(alloc, BAD_COMMAND)),
     }
 }

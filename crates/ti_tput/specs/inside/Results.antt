@@ -7,8 +7,12 @@ use Rattle.ti_param.specs.inside.Expansion.{Expansion, expanded, bad_format, sta
 use Rattle.ti_printing.specs.declared.padding.Line.{Line}
 use Rattle.ti_printing.specs.Padding.{pad_bytes_max}
 use Rattle.ti_printing.specs.inside.Padding.{with_pad_bytes, padding_of}
-use Rattle.ti_layout.specs.View.{Entry}
-use Rattle.ti_tput.specs.Entries.{Holding, flag_held, number_held, text_held, holding_of, line_at_rate}
+use Rattle.ti_caps.specs.Tables.{Capability, capability_named}
+use Rattle.ti_caps.specs.declared.capability.Kind.TheVariants.{Flag, Number, Text}
+use Rattle.ti_caps.specs.declared.capability.Kind.{Kind}
+use Rattle.ti_layout.specs.Values.{Content, Contents}
+use Rattle.ti_layout.specs.View.{Entry, shown_flag, shown_number, shown_text}
+use Rattle.ti_tput.specs.Entries.{line_at_rate}
 use Rattle.ti_tput.specs.Parameters.{parameters}
 use Rattle.ti_tput.specs.Results.{Reply, bad_reply, reply, init_strings, long_name, number_text, reset_strings}
 
@@ -43,14 +47,21 @@ padded_texts line (Some text ∷ texts) = both_lists (padded_text line text) (pa
 
 -- ---- commands
 
--- what is answered of a capability: nothing is written of a boolean or of a string that is absent,
--- and the status is then 1
-abbrev pub holding_reply : Line → List ℕ → List (List ℕ) → List ℤ → Option Holding → Reply
-holding_reply line cap words statics None = bad_reply statics
-holding_reply line cap words statics (Some (flag_held set)) = reply [] (if set then 0 else 1) statics
-holding_reply line cap words statics (Some (number_held n)) = reply (number_text n) 0 statics
-holding_reply line cap words statics (Some (text_held None)) = reply [] 1 statics
-holding_reply line cap words statics (Some (text_held (Some text))) = string_reply line cap words statics text
+-- what is answered of a string: nothing is written if it is absent, and the status is then 1
+abbrev pub text_reply : Line → List ℕ → List (List ℕ) → List ℤ → Option (List ℕ) → Reply
+text_reply line cap words statics None = reply [] 1 statics
+text_reply line cap words statics (Some text) = string_reply line cap words statics text
+
+-- what is answered of a capability of that kind, by what the entry has of it
+abbrev pub content_reply : Line → List ℕ → List (List ℕ) → List ℤ → Kind → Option Content → Reply
+content_reply line cap words statics Flag content = reply [] (if shown_flag content then 0 else 1) statics
+content_reply line cap words statics Number content = reply (number_text (shown_number content)) 0 statics
+content_reply line cap words statics Text content = text_reply line cap words statics (shown_text content)
+
+-- what is answered of a capability that has the name, by what the entry has of each
+abbrev pub capability_reply : Line → List ℕ → List (List ℕ) → List ℤ → Contents → Option Capability → Reply
+capability_reply line cap words statics contents None = bad_reply statics
+capability_reply line cap words statics contents (Some c) = content_reply line cap words statics c.kind (contents c)
 
 -- what is answered to a name with these words after it
 abbrev pub named_reply : Entry → ℕ → List ℕ → List (List ℕ) → List ℤ → Reply
@@ -58,7 +69,7 @@ named_reply entry rate cap words statics =
     if bytes_eq cap (codes "longname") then reply (long_name entry.names) 0 statics
     else if bytes_eq cap (codes "init") then sent_reply (padded_texts (line_at_rate entry rate) (init_strings entry)) statics statics
     else if bytes_eq cap (codes "reset") then sent_reply (padded_texts (line_at_rate entry rate) (reset_strings entry)) statics statics
-    else holding_reply (line_at_rate entry rate) cap words statics (holding_of entry cap)
+    else capability_reply (line_at_rate entry rate) cap words statics entry.contents (capability_named cap)
 
 -- What a command answers; None is bad usage: no word, or more than nine parameters.
 unfoldable pub tput_result : Entry → List (List ℕ) → ℕ → List ℤ → Option Reply
