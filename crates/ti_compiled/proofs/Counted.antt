@@ -39,8 +39,8 @@ module _ (f g : ℕ → Option Content) (n i : ℕ) (within : i < n) (others : (
     | inr other ↦ same_there j other ∙ past other
   ]
 
-  pub count-kept : is_there (g i) ≡ false → suc i ≢ count f n → count g n ≡ count f n
-  count-kept none other = last_passing-is (λ j. is_there (g j)) n (count f n) le
+  pub count-unchanged : is_there (g i) ≡ false → suc i ≢ count f n → count g n ≡ count f n
+  count-unchanged none other = last_passing-is (λ j. is_there (g j)) n (count f n) le
       (λ j h. same_there j (λ same. other (ap suc (sym same) ∙ h)) ∙ last_passing-here (λ x. is_there (f x)) n j h)
       (λ j low lt. past_or_here none j (λ _. last_passing-past (λ x. is_there (f x)) n j low lt))
 

@@ -15,7 +15,7 @@ use Rattle.ti_layout.proofs.Sizes.{length-image}
 use Rattle.ti_compiled.specs.inside.Changes.{flag_content}
 use Rattle.ti_compiled.specs.Image.{with_content}
 use Rattle.ti_compiled.specs.inside.Image.{names_in, contents_in, IsImage}
-use Rattle.ti_compiled.proofs.Counted.{count-put, count-kept, count-down}
+use Rattle.ti_compiled.proofs.Counted.{count-put, count-unchanged, count-down}
 use Rattle.ti_compiled.proofs.Given.{given_here, given_place}
 use Rattle.ti_compiled.proofs.Heading.{found_in}
 use Rattle.ti_compiled.proofs.Same.{same_strings}
@@ -97,10 +97,10 @@ module _ (b : List ℕ) (is : IsImage b) (h : Header) (has : HasSizes (names_in 
         let fit = has.flags_fit in
         with_flags true m _ (count-put (of_kind c Flag) (of_kind (g true) Flag) 44 index within (others true) (ap is_there (here true)) m (omega arith)) (omega arith) refl
 
-    pub sizes_kept : index + 1 ≢ h.flags → HasSizes (names_in b) (g false) (record { format = h.format; names = h.names; flags = h.flags; numbers = h.numbers; texts = h.texts; strings = h.strings })
-    sizes_kept other =
+    pub sizes_unchanged : index + 1 ≢ h.flags → HasSizes (names_in b) (g false) (record { format = h.format; names = h.names; flags = h.flags; numbers = h.numbers; texts = h.texts; strings = h.strings })
+    sizes_unchanged other =
         let F = has.flags in
-        with_flags false h.flags _ (count-kept (of_kind c Flag) (of_kind (g false) Flag) 44 index within (others false) (ap is_there (here false)) (λ e. other (omega arith)) ∙ sym F) has.flags_fit refl
+        with_flags false h.flags _ (count-unchanged (of_kind c Flag) (of_kind (g false) Flag) 44 index within (others false) (ap is_there (here false)) (λ e. other (omega arith)) ∙ sym F) has.flags_fit refl
 
     pub sizes_down : (x y m : ℕ) → x ≡ 12 + h.names → y ≡ x + index → index + 1 ≡ h.flags → m ≤ length (slice_range b x y)
         → ((j : ℕ) → suc j ≡ m → get_or (slice_range b x y) j 0 ≢ 0) → ((j : ℕ) → m ≤ j → j < length (slice_range b x y) → get_or (slice_range b x y) j 0 ≡ 0)

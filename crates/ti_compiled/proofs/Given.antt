@@ -6,7 +6,7 @@ use Rattle.ti_caps.specs.declared.capability.Kind.{Kind}
 use Rattle.ti_layout.specs.Image.{written_count}
 use Rattle.ti_layout.specs.Laws.{without_cancel}
 use Rattle.ti_layout.specs.Values.{Content, Contents}
-use Rattle.ti_layout.proofs.KeptEntries.{same_from_one, test_from_other}
+use Rattle.ti_layout.proofs.SortedEntries.{same_from_one, test_from_other}
 use Rattle.ti_layout.proofs.ImageReading.{past-written}
 use Rattle.ti_compiled.specs.Image.{with_content}
 

@@ -1,4 +1,4 @@
-pub mod Kept
+pub mod ReadAgain
 pub mod Replacing
 pub mod Heading
 pub mod Given

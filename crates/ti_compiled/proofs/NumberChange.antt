@@ -17,7 +17,7 @@ use Rattle.ti_compiled.specs.inside.Image.{names_in, contents_in, IsImage}
 use Rattle.ti_compiled.specs.inside.Bytes.{Replaces, with_length}
 use Rattle.ti_compiled.proofs.FlagPlaces.{length_sized}
 use Rattle.ti_compiled.proofs.Given.{given_here, given_place}
-use Rattle.ti_compiled.proofs.Kept.{given_agrees}
+use Rattle.ti_compiled.proofs.ReadAgain.{given_agrees}
 use Rattle.ti_compiled.proofs.NumberPlaces.{after_numbers, before_numbers, length_before, number_frame, number_in, numbers_from}
 use Rattle.ti_compiled.proofs.Replacing.{length-resized}
 use Rattle.ti_compiled.proofs.Resizing.{set-below, take-below}

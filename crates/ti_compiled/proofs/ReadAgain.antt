@@ -51,7 +51,7 @@ says_past w flags numbers offsets strings f n o Text index past = ap (option_and
 pub record Again (bytes names : List ℕ) (contents : Contents) : Type 0 where
   pub names_read : names_in bytes ≡ names
   pub contents_read : (c : Capability) → IsCapability c → contents_in bytes c ≡ without_cancel (contents c)
-  pub kept : IsImage bytes
+  pub is_image : IsImage bytes
 
 pub read_again : (bytes names : List ℕ) (contents : Contents) → 0 < length names → length names ≤ 127 → HasNoNul names
     → ((c : Capability) → IsCapability c → AgreesIfSome c (contents c)) → length bytes ≤ image_limit contents → bytes ≡ image names contents → Again bytes names contents
@@ -68,7 +68,7 @@ read_again bytes names contents some short no_nul agree within whole =
     record {
       names_read = sym n;
       contents_read = said;
-      kept = record {
+      is_image = record {
         imaged = record {
           some = subst (λ (m : List ℕ). 0 < length m) n some;
           short = subst (λ (m : List ℕ). length m ≤ 127) n short;
@@ -103,10 +103,10 @@ given_again b bytes is k v agrees within whole =
     (λ x valid. given_agrees d k v agrees x (is.imaged.agree x valid))
     (subst (λ (y : List ℕ). length y ≤ image_limit (with_content d k v)) (sym whole) within) whole
 
-kept_after : (r : Result (Unit {0}) WriteError) (b new : List ℕ) → IsImage b → (k : Capability) (v : Option Content) → AgreesIfSome k v → OnOk r (new ≡ image (names_in b) (with_content (contents_in b) k v))
+image_after : (r : Result (Unit {0}) WriteError) (b new : List ℕ) → IsImage b → (k : Capability) (v : Option Content) → AgreesIfSome k v → OnOk r (new ≡ image (names_in b) (with_content (contents_in b) k v))
     → OnOk r (length (image (names_in b) (with_content (contents_in b) k v)) ≤ image_limit (with_content (contents_in b) k v)) → OnErr r (new ≡ b) → IsImage new
-kept_after (Ok x) b new is k v agrees made within same = (given_again b new is k v agrees within made).kept
-kept_after (Err x) b new is k v agrees made within same = subst IsImage (sym same) is
+image_after (Ok x) b new is k v agrees made within same = (given_again b new is k v agrees within made).is_image
+image_after (Err x) b new is k v agrees made within same = subst IsImage (sym same) is
 
 given_present : (d : Contents) (k : Capability) (v : Option Content) → without_cancel v ≡ v → (x : Capability) → without_cancel (d x) ≡ d x → without_cancel (with_content d k v x) ≡ with_content d k v x
 given_present d k v present x old = elim (same_capability k x) as (λ b. without_cancel (cond b v (d x)) ≡ cond b v (d x)) [ true ↦ present | false ↦ old ]
@@ -121,7 +121,7 @@ given_contents : (r : Result (Unit {0}) WriteError) (b new : List ℕ) → IsIma
 given_contents (Ok x) b new is k v agrees present made within = record {
   says = λ c valid.
       let again = given_again b new is k v agrees within made in
-      ap (λ (f : Contents). f c) (seen_says new again.kept) ∙ again.contents_read c valid ∙ given_present (contents_in b) k v present c (is.imaged.present c valid)
+      ap (λ (f : Contents). f c) (seen_says new again.is_image) ∙ again.contents_read c valid ∙ given_present (contents_in b) k v present c (is.imaged.present c valid)
       ∙ ap (λ (f : Contents). with_content f k v c) (sym (seen_says b is));
 }
 given_contents (Err x) b new is k v agrees present made within = tt
@@ -132,7 +132,7 @@ seen_left (Err x) b new left = ap seen left
 
 -- what holds if a value was given by its kind and place, or was refused
 pub record AfterGiving (r : Result (Unit {0}) WriteError) (old : NamedTable) (new : List ℕ) (k : Capability) (v : Option Content) : Type 0 where
-  pub kept : IsImage new
+  pub is_image : IsImage new
   pub sets : SetsContent old (seen new) k v r
 
 given_at : (r : Result (Unit {0}) WriteError) (b new : List ℕ) (k : Capability) (v : Option Content)
@@ -144,7 +144,7 @@ given_at r b new k v is agrees present made within over wanting fit left =
     let shown = sym (seen_says b is) in
     let n = names_in b in
     record {
-      kept = kept_after r b new is k v agrees made within left;
+      is_image = image_after r b new is k v agrees made within left;
       sets = record {
         names = given_names r b new is k v agrees made within;
         contents = given_contents r b new is k v agrees present made within;

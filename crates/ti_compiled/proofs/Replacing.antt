@@ -15,11 +15,11 @@ module _ (p m r : List ℕ) (b : List ℕ) (whole : b ≡ p ++ (m ++ r)) where
   grown at size count fill n a s e =
       let here : length p + length m ≡ at + size = omega arith in
       let same : replicate {A = ℕ} (n - length m) fill ≡ replicate count fill = ap (λ k. replicate {A = ℕ} k fill) (omega arith) in
-      let kept : take n m ≡ m = take_all n m (omega arith) in
+      let uncut : take n m ≡ m = take_all n m (omega arith) in
       ap (λ t. t ++ replicate count fill ++ drop (at + size) b) (front (at + size) here)
       ∙ ap (λ t. (p ++ m) ++ replicate count fill ++ t) (back (at + size) here)
       ∙ append_assoc (p ++ m) (replicate count fill) r ∙ append_assoc p m (replicate count fill ++ r)
-      ∙ ap (λ t. p ++ t) (sym (append_assoc m (replicate count fill) r) ∙ sym (ap (λ t. (t ++ replicate (n - length m) fill) ++ r) kept ∙ ap (λ t. (m ++ t) ++ r) same))
+      ∙ ap (λ t. p ++ t) (sym (append_assoc m (replicate count fill) r) ∙ sym (ap (λ t. (t ++ replicate (n - length m) fill) ++ r) uncut ∙ ap (λ t. (m ++ t) ++ r) same))
 
   -- cut
   pub cut_short : (at size count n fill : ℕ) → length p ≡ at → length m ≡ size → n + count ≡ size → with_bytes_out b (at + n) count ≡ p ++ (with_length m n fill ++ r)

@@ -9,7 +9,7 @@ use Rattle.ti_caps.proofs.Same.{same_capability-itself}
 use Rattle.ti_layout.specs.Image.{image}
 use Rattle.ti_layout.specs.Values.{Content, Contents, TableEntry, contents}
 use Rattle.ti_layout.proofs.Fronts.{contents-append, contents-none, contents-one}
-use Rattle.ti_layout.proofs.KeptEntries.{test_from_other}
+use Rattle.ti_layout.proofs.SortedEntries.{test_from_other}
 use Rattle.ti_compiled.specs.Image.{bytes_of, held_by}
 use Rattle.ti_compiled.specs.inside.Image.{IsImage, contents_in, entries_below, entries_with, entry_if, names_in, seen}
 use Rattle.ti_compiled.proofs.Given.{HoldsNoOther}

@@ -8,7 +8,7 @@ use Rattle.ti_caps.proofs.Same.{same_capability-true}
 use Rattle.ti_layout.specs.Laws.{without_cancel}
 use Rattle.ti_layout.specs.Values.{Content, Contents, TableEntry, Agrees, IsSorted, contents, content_of, entries_of}
 use Rattle.ti_layout.specs.declared.values.Value.{Value}
-use Rattle.ti_layout.proofs.KeptEntries.{contents_nowhere, other_from_test}
+use Rattle.ti_layout.proofs.SortedEntries.{contents_nowhere, other_from_test}
 use Rattle.ti_layout.proofs.Places.{elsewhere}
 use Rattle.ti_layout.proofs.Walked.{contents_read, item_read}
 use Rattle.ti_compiled.specs.Changes.{HoldsGiven}
@@ -52,11 +52,11 @@ passes_up k = record { was_left = λ m le. omega arith; is_passed = λ m le e. o
 pub passes_down : (k j : ℕ) → k ≡ j + 1 → Passes (below k) (below j) j
 passes_down k j e = record { was_left = λ m lt. omega arith; is_passed = λ m lt s. omega arith; stays = λ m lt other. elim (cases_lt m j) [ inl under ↦ under | inr not_under ↦ absurd (other (omega arith)) ] }
 
-module _ (es : List TableEntry) (kept : IsSorted es) (first last : Wanted) where
+module _ (es : List TableEntry) (sorted : IsSorted es) (first last : Wanted) where
   pub walk_begins : (held : Contents) (left : Places) → ((m : ℕ) → m < length es → left m) → ((c : Capability) → IsCapability c → first c (held c))
       → ((c : Capability) → contents es c ≡ None → first c (held c) → last c (held c)) → Walks es first last held left
   walk_begins held left all at_first quiet = record {
-    ahead = λ m e here lt. at_first (get_or es m e).0 (kept.agree m e lt).0;
+    ahead = λ m e here lt. at_first (get_or es m e).0 (sorted.agree m e lt).0;
     behind = λ c valid apart. quiet c (contents_nowhere es c (λ m e lt. apart m e (all m lt) lt)) (at_first c valid);
   }
 
@@ -68,7 +68,7 @@ module _ (es : List TableEntry) (kept : IsSorted es) (first last : Wanted) where
     first_here = subst (λ (y : TableEntry). first y.0 (held y.0)) is (walks.ahead k x here within)
 
     apart_elsewhere : (m : ℕ) (e : TableEntry) → m ≢ k → m < length es → (get_or es m e).0 ≢ x.0
-    apart_elsewhere m e other lt = elsewhere es kept x.0 k (record { in_range = within; is_here = λ d. ap (λ (y : TableEntry). y.0) (read_here d) }) m e other lt
+    apart_elsewhere m e other lt = elsewhere es sorted x.0 k (record { in_range = within; is_here = λ d. ap (λ (y : TableEntry). y.0) (read_here d) }) m e other lt
 
     at_none : (c : Capability) → x.0 ≢ c → IsAtNone es later c → IsAtNone es left c
     at_none c other apart m d was lt = elim (cases_lt m k) [
@@ -83,7 +83,7 @@ module _ (es : List TableEntry) (kept : IsSorted es) (first last : Wanted) where
     walk_goes_on after done others = record {
       ahead = λ m e is_left lt.
           let c = (get_or es m e).0 in
-          subst (first c) (sym (others c (kept.agree m e lt).0 (apart_elsewhere m e (passes.is_passed m is_left) lt))) (walks.ahead m e (passes.was_left m is_left) lt);
+          subst (first c) (sym (others c (sorted.agree m e lt).0 (apart_elsewhere m e (passes.is_passed m is_left) lt))) (walks.ahead m e (passes.was_left m is_left) lt);
       behind = λ c valid apart. elim (same_capability x.0 c) as (λ b. same_capability x.0 c ≡ b → last c (after c)) [
         | true ↦ λ e. subst (λ d. last d (after d)) (same_capability-true x.0 c e) done
         | false ↦ λ e.
@@ -130,33 +130,33 @@ nothing_comes old new c held none left =
 
 -- ---- the walks over slices
 
-module _ (xs : List (Capability × Value)) (kept : IsSorted (entries_of xs)) (k : ℕ) (x : Capability × Value) (within : k < length xs) (item : x ≡ get_or xs k x) where
+module _ (xs : List (Capability × Value)) (sorted : IsSorted (entries_of xs)) (k : ℕ) (x : Capability × Value) (within : k < length xs) (item : x ≡ get_or xs k x) where
   inside : k < length (entries_of xs)
   inside = rw length-map within
 
   pub entry_agrees : Agrees x.0 (content_of x.1)
-  entry_agrees = (subst (λ (y : TableEntry). IsCapability y.0 × Agrees y.0 y.1) (item_read xs k x within item) (kept.agree k (x.0, content_of x.1) inside)).1
+  entry_agrees = (subst (λ (y : TableEntry). IsCapability y.0 × Agrees y.0 y.1) (item_read xs k x within item) (sorted.agree k (x.0, content_of x.1) inside)).1
 
   entry_said : contents (entries_of xs) x.0 ≡ Some (content_of x.1)
-  entry_said = let e : TableEntry = (x.0, content_of x.1) in subst (λ (y : TableEntry). contents (entries_of xs) y.0 ≡ Some y.1) (item_read xs k x within item) (contents_read (entries_of xs) kept k e inside)
+  entry_said = let e : TableEntry = (x.0, content_of x.1) in subst (λ (y : TableEntry). contents (entries_of xs) y.0 ≡ Some y.1) (item_read xs k x within item) (contents_read (entries_of xs) sorted k e inside)
 
   module _ (other held : Contents) (left later : Places) (passes : Passes left later k) (here : left k) where
     module _ (walks : Walks (entries_of xs) (says (contents (entries_of xs))) (leaves (contents (entries_of xs)) other) held left) where
       pub old_held : held x.0 ≡ without_cancel (Some (content_of x.1))
-      old_held = first_here (entries_of xs) kept _ _ held left later k passes here (x.0, content_of x.1) inside (item_read xs k x within item) walks ∙ ap without_cancel entry_said
+      old_held = first_here (entries_of xs) sorted _ _ held left later k passes here (x.0, content_of x.1) inside (item_read xs k x within item) walks ∙ ap without_cancel entry_said
 
       pub one_taken_away : (after : Contents) → IsLeft (Some (content_of x.1)) (other x.0) (after x.0) → ((c : Capability) → IsCapability c → c ≢ x.0 → after c ≡ held c)
           → Walks (entries_of xs) (says (contents (entries_of xs))) (leaves (contents (entries_of xs)) other) after later
       one_taken_away after is_left same_elsewhere =
-          walk_goes_on (entries_of xs) kept _ _ held left later k passes here (x.0, content_of x.1) inside (item_read xs k x within item) walks after
+          walk_goes_on (entries_of xs) sorted _ _ held left later k passes here (x.0, content_of x.1) inside (item_read xs k x within item) walks after
           (subst (λ o. IsLeft o (other x.0) (after x.0)) (sym entry_said) is_left) same_elsewhere
 
     module _ (walks : Walks (entries_of xs) (leaves other (contents (entries_of xs))) (says (contents (entries_of xs))) held left) where
       pub old_left : IsLeft (other x.0) (Some (content_of x.1)) (held x.0)
-      old_left = subst (λ o. IsLeft (other x.0) o (held x.0)) entry_said (first_here (entries_of xs) kept _ _ held left later k passes here (x.0, content_of x.1) inside (item_read xs k x within item) walks)
+      old_left = subst (λ o. IsLeft (other x.0) o (held x.0)) entry_said (first_here (entries_of xs) sorted _ _ held left later k passes here (x.0, content_of x.1) inside (item_read xs k x within item) walks)
 
       pub one_given : (after : Contents) → after x.0 ≡ without_cancel (Some (content_of x.1)) → ((c : Capability) → IsCapability c → c ≢ x.0 → after c ≡ held c)
           → Walks (entries_of xs) (leaves other (contents (entries_of xs))) (says (contents (entries_of xs))) after later
       one_given after given same_elsewhere =
-          walk_goes_on (entries_of xs) kept _ _ held left later k passes here (x.0, content_of x.1) inside (item_read xs k x within item) walks after
+          walk_goes_on (entries_of xs) sorted _ _ held left later k passes here (x.0, content_of x.1) inside (item_read xs k x within item) walks after
           (given ∙ sym (ap without_cancel entry_said)) same_elsewhere

@@ -25,7 +25,7 @@ pub record Lengths (len start end place removed added old_texts new_texts room :
   pub head : 12 ≤ place
   pub room_for : len + added + 2 * new_texts ≤ room + removed + 2 * old_texts
   pub added_fits : added ≤ 32768
-  pub kept : 2 * old_texts ≤ 828
+  pub written : 2 * old_texts ≤ 828
   pub wanted : 2 * new_texts ≤ 828
   pub grows : removed ≤ end
 
@@ -42,7 +42,7 @@ plain start end place removed room added len from T U s u x m e r i l p w t q le
   head = omega arith;
   room_for = omega arith;
   added_fits = omega arith;
-  kept = omega arith;
+  written = omega arith;
   wanted = omega arith;
   grows = omega arith;
 }

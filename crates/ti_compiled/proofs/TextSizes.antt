@@ -14,7 +14,7 @@ use Rattle.ti_compiled.specs.inside.Changes.{text_content}
 use Rattle.ti_compiled.specs.Image.{with_content}
 use Rattle.ti_compiled.specs.inside.Image.{names_in, contents_in, IsImage}
 use Rattle.ti_compiled.specs.inside.Bytes.{ended_text}
-use Rattle.ti_compiled.proofs.Counted.{count-put, count-kept, count-down}
+use Rattle.ti_compiled.proofs.Counted.{count-put, count-unchanged, count-down}
 use Rattle.ti_compiled.proofs.Given.{HoldsNoOther, given_here, given_place, given_past}
 use Rattle.ti_compiled.proofs.TextChange.{piece_of, lengths_about}
 use Rattle.ti_compiled.proofs.TextPlaces.{offset_tells, offset_found, offsets_from, table_small, strings_exact, texts_end, texts_past}
@@ -110,7 +110,7 @@ module _ (b : List ℕ) (is : IsImage b) (h : Header) (has : HasSizes (names_in 
       pub sizes_other : index + 1 ≢ h.texts → HasSizes (names_in b) (with_content (contents_in b) (capability Text index) (text_content t)) (record { format = h.format; names = h.names; flags = h.flags; numbers = h.numbers; texts = h.texts; strings = h.strings - (end - start) })
       sizes_other other =
           let T = has.texts in
-          with_texts h.texts _ (count-kept (of_kind c Text) (of_kind g Text) 414 index within others gone (λ e. other (omega arith)) ∙ sym T) has.texts_fit sum
+          with_texts h.texts _ (count-unchanged (of_kind c Text) (of_kind g Text) 414 index within others gone (λ e. other (omega arith)) ∙ sym T) has.texts_fit sum
 
       pub sizes_last : (place m : ℕ) → place ≡ offsets_from h → index + 1 ≡ h.texts → m ≤ index → ((j : ℕ) → suc j ≡ m → word_at (place + 2 * j) b ≢ 65535) → ((j : ℕ) → m ≤ j → j < index → word_at (place + 2 * j) b ≡ 65535)
           → HasSizes (names_in b) (with_content (contents_in b) (capability Text index) (text_content t)) (record { format = h.format; names = h.names; flags = h.flags; numbers = h.numbers; texts = m; strings = h.strings - (end - start) })

@@ -4,7 +4,7 @@
 ghost use Rattle.std.specs.Prelude.{◌≡◌, ◌+◌, ◌≤◌, length, vec_len, vec_capacity};
 ghost use Rattle.ti_compiled.specs.inside.Bytes.{with_bytes_in, with_bytes_out, with_length, Replaces};
 
-// Puts a number of bytes in at a place.
+// Puts a number of bytes in at an offset.
 fn insert_bytes(bytes: &mut Vec<u8>, at: usize, count: usize, fill: u8)
     requires within { at ≤ vec_len bytes.old }
     requires room { vec_len bytes.old + count ≤ vec_capacity bytes.old }
@@ -16,7 +16,7 @@ fn insert_bytes(bytes: &mut Vec<u8>, at: usize, count: usize, fill: u8)
     bytes[at..].rotate_right(count);
 }
 
-// Takes a number of bytes out at a place.
+// Takes a number of bytes out at an offset.
 fn remove_bytes(bytes: &mut Vec<u8>, at: usize, count: usize)
     requires within { at + count ≤ vec_len bytes.old }
     ensures items { bytes.new.items ≡ with_bytes_out bytes.old.items at count }
@@ -27,7 +27,7 @@ fn remove_bytes(bytes: &mut Vec<u8>, at: usize, count: usize)
     bytes.truncate(bytes.len() - count);
 }
 
-/// Cuts the part of a size at a place to another size, or fills it up to that size.
+/// Cuts the part of a size at an offset to another size, or fills it up to that size.
 pub fn resize_part(bytes: &mut Vec<u8>, at: usize, size: usize, wanted: usize, fill: u8)
     requires within { at + size ≤ vec_len bytes.old }
     requires room { vec_len bytes.old + wanted ≤ vec_capacity bytes.old + size }
@@ -42,7 +42,7 @@ pub fn resize_part(bytes: &mut Vec<u8>, at: usize, size: usize, wanted: usize, f
     }
 }
 
-/// Writes bytes over those at a place.
+/// Writes bytes over those at an offset.
 pub fn overwrite(bytes: &mut Vec<u8>, at: usize, part: &[u8])
     requires within { at + length part.now ≤ vec_len bytes.old }
     ensures part { Replaces bytes.old.items bytes.new.items at (length part.now) (λ m. part.now) }

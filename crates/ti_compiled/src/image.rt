@@ -180,9 +180,9 @@ impl Image {
         }
     }
 
-    /// Gives a capability a value, or takes away what it has; a cancelled value is absent. The part
-    /// after the place is moved, and the rest is not touched. A refused change leaves the image as
-    /// it was.
+    /// Gives a capability a value, or takes away what it has; a cancelled value is absent. What
+    /// is after it in the entry is moved, and the rest is not touched. A refused change leaves the
+    /// image as it was.
     ///
     /// # Errors
     /// [`WriteError::TooLarge`] exactly if [`write`] of the names and the new values answers it,

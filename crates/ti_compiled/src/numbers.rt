@@ -30,10 +30,10 @@ fn read_numbers(bytes: &[u8], header: &Header) -> [u32; NUMBER_COUNT]
     ensures { result ≡ below (wide_value (contents_in bytes.now)) (count_of Number) }
 {
     let mut values = [ABSENT_NUMBER; NUMBER_COUNT];
-    let place = header.numbers_offset();
+    let begin = header.numbers_offset();
     let width = header.format.width();
     for at in 0..header.numbers {
-        let number = number(bytes, place + width * at, header.format);
+        let number = number(bytes, begin + width * at, header.format);
         if number < header.format.first_negative() {
             values[at] = number;
         }
@@ -78,16 +78,16 @@ fn put_number(bytes: &mut Vec<u8>, at: usize, format: Format, number: u32)
 }
 
 // Writes a number of numbers one after the other.
-fn put_numbers(bytes: &mut Vec<u8>, place: usize, format: Format, values: &[u32], count: usize)
+fn put_numbers(bytes: &mut Vec<u8>, begin: usize, format: Format, values: &[u32], count: usize)
     requires count { count ≤ length values.now }
     requires few { count ≤ count_of Number }
-    requires within { place + layout.width format * count ≤ vec_len bytes.old }
-    ensures part { Replaces bytes.old.items bytes.new.items place (layout.width format * count) (λ _. number_section format (take count values.now)) }
+    requires within { begin + layout.width format * count ≤ vec_len bytes.old }
+    ensures part { Replaces bytes.old.items bytes.new.items begin (layout.width format * count) (λ _. number_section format (take count values.now)) }
     ensures len { vec_len bytes.new ≡ vec_len bytes.old }
 {
     let width = format.width();
     for at in 0..count {
-        put_number(bytes, place + width * at, format, values[at]);
+        put_number(bytes, begin + width * at, format, values[at]);
     }
 }
 
@@ -138,11 +138,11 @@ fn change_numbers(bytes: &mut Vec<u8>, old: &Header, new: &Header, values: &[u32
         → BytesFitWith bytes.old.items (capability Number i) (number_content n)
         → bytes.new.items ≡ image_with bytes.old.items (capability Number i) (number_content n) }
 {
-    let place = old.numbers_offset();
+    let begin = old.numbers_offset();
     let size = old.format.width() * old.numbers;
     let wanted = new.format.width() * new.numbers;
-    resize_part(bytes, place, size, wanted, 0);
-    put_numbers(bytes, place, new.format, values, new.numbers);
+    resize_part(bytes, begin, size, wanted, 0);
+    put_numbers(bytes, begin, new.format, values, new.numbers);
     write_header(bytes, new);
 }
 

@@ -66,7 +66,7 @@ fn take_away_changed(image: &mut Image, entry: &(Cap, Value), new: &Table) -> Op
 // Takes away the old values that the new table does not give. The last one goes first, so that each
 // removal moves only what remains.
 fn take_all_changed_away(image: &mut Image, old: &[(Cap, Value)], new: &Table) -> Option<()>
-    requires kept { IsSorted (entries_of old.now) }
+    requires sorted { IsSorted (entries_of old.now) }
     requires held { (c : Capability) → IsCapability c → held_by image.old c ≡ without_cancel (contents (entries_of old.now) c) }
     ensures names { IfSome result (λ _. image.new.names ≡ image.old.names) }
     ensures left { IfSome result (λ _. (c : Capability) → IsCapability c
@@ -97,7 +97,7 @@ fn give_changed(image: &mut Image, old: &Table, entry: &(Cap, Value)) -> Option<
 
 // Gives the new values that the old table did not.
 fn give_all_changed(image: &mut Image, old: &Table, new: &[(Cap, Value)]) -> Option<()>
-    requires kept { IsSorted (entries_of new.now) }
+    requires sorted { IsSorted (entries_of new.now) }
     requires left { (c : Capability) → IsCapability c → IsLeft (contents old.now c) (contents (entries_of new.now) c) (held_by image.old c) }
     ensures names { IfSome result (λ _. image.new.names ≡ image.old.names) }
     ensures contents { IfSome result (λ _. (c : Capability) → IsCapability c

@@ -29,9 +29,9 @@ fn start_of(bytes: &[u8], header: &Header, index: usize) -> usize
     requires index { index ≤ count_of Text }
     ensures { result ≡ length (texts_below (contents_in bytes.now) index) }
 {
-    let place = header.offsets_offset();
+    let begin = header.offsets_offset();
     for at in index..header.texts {
-        let offset = word(bytes, place + 2 * at);
+        let offset = word(bytes, begin + 2 * at);
         if offset != ABSENT_WORD {
             return offset;
         }
@@ -40,14 +40,14 @@ fn start_of(bytes: &[u8], header: &Header, index: usize) -> usize
 }
 
 // One more than the last of the first offsets whose string is there, 0 if none is.
-fn last_there(bytes: &[u8], place: usize, count: usize) -> usize
-    requires { place + 2 * count ≤ length bytes.now }
+fn last_there(bytes: &[u8], begin: usize, count: usize) -> usize
+    requires { begin + 2 * count ≤ length bytes.now }
     ensures within { result ≤ count }
-    ensures last { (j : ℕ) → suc j ≡ result → word_at (place + 2 * j) bytes.now ≢ layout.absent_mark Format.Legacy }
-    ensures past { (j : ℕ) → result ≤ j → j < count → word_at (place + 2 * j) bytes.now ≡ layout.absent_mark Format.Legacy }
+    ensures last { (j : ℕ) → suc j ≡ result → word_at (begin + 2 * j) bytes.now ≢ layout.absent_mark Format.Legacy }
+    ensures past { (j : ℕ) → result ≤ j → j < count → word_at (begin + 2 * j) bytes.now ≡ layout.absent_mark Format.Legacy }
 {
     let mut end = count;
-    while end > 0 && word(bytes, place + 2 * (end - 1)) == ABSENT_WORD {
+    while end > 0 && word(bytes, begin + 2 * (end - 1)) == ABSENT_WORD {
         end -= 1;
     }
     end
@@ -74,24 +74,24 @@ fn replace_text(bytes: &mut Vec<u8>, at: usize, size: usize, text: Option<&[u8]>
 // Moves the offsets from an index on, if a string before them takes other bytes.
 fn move_later(
     bytes: &mut Vec<u8>,
-    place: usize,
+    begin: usize,
     from: usize,
     to: usize,
     removed: usize,
     added: usize,
 )
-    requires within { place + 2 * to ≤ vec_len bytes.old }
+    requires within { begin + 2 * to ≤ vec_len bytes.old }
     requires added { added ≤ two_byte_count }
     ensures moved { (p r : List ℕ) (f : ℕ → ℕ) → bytes.old.items ≡ p ++ (number_section Format.Legacy (below f to) ++ r)
-        → length p ≡ place → ((j : ℕ) → f j ≤ layout.absent_mark Format.Legacy)
+        → length p ≡ begin → ((j : ℕ) → f j ≤ layout.absent_mark Format.Legacy)
         → bytes.new.items ≡ p ++ (number_section Format.Legacy (below (moved_later f from removed added) to) ++ r) }
     ensures len { vec_len bytes.new ≡ vec_len bytes.old }
 {
     for at in from..to {
-        let offset = word(bytes, place + 2 * at);
+        let offset = word(bytes, begin + 2 * at);
         if offset != ABSENT_WORD {
             let moved = (offset + added).saturating_sub(removed);
-            overwrite(bytes, place + 2 * at, &word_bytes(moved));
+            overwrite(bytes, begin + 2 * at, &word_bytes(moved));
         }
     }
 }
@@ -136,15 +136,15 @@ fn sizes_with_text(bytes: &[u8], old: &Header, index: usize, text: Option<&[u8]>
 }
 
 // Gives the string an offset, if it is among those that are written.
-fn put_offset(bytes: &mut Vec<u8>, place: usize, count: usize, index: usize, offset: usize)
-    requires within { place + 2 * count ≤ vec_len bytes.old }
+fn put_offset(bytes: &mut Vec<u8>, begin: usize, count: usize, index: usize, offset: usize)
+    requires within { begin + 2 * count ≤ vec_len bytes.old }
     ensures put { (p r : List ℕ) (f g : ℕ → ℕ) → bytes.old.items ≡ p ++ (number_section Format.Legacy (below f count) ++ r)
-        → length p ≡ place → (index < count → g index ≡ offset)
+        → length p ≡ begin → (index < count → g index ≡ offset)
         → ((j : ℕ) → j ≢ index → g j ≡ f j) → bytes.new.items ≡ p ++ (number_section Format.Legacy (below g count) ++ r) }
     ensures len { vec_len bytes.new ≡ vec_len bytes.old }
 {
     if index < count {
-        overwrite(bytes, place + 2 * index, &word_bytes(offset));
+        overwrite(bytes, begin + 2 * index, &word_bytes(offset));
     }
 }
 
@@ -161,15 +161,15 @@ fn change_text(bytes: &mut Vec<u8>, old: &Header, new: &Header, index: usize, te
     let start = start_of(bytes, old, index);
     let removed = start_of(bytes, old, index + 1) - start;
     let added = piece_len(text);
-    let place = old.offsets_offset();
+    let begin = old.offsets_offset();
     let offset = match text {
         Some(_) => start,
         None => ABSENT_WORD,
     };
     replace_text(bytes, old.strings_offset() + start, removed, text);
-    resize_part(bytes, place, 2 * old.texts, 2 * new.texts, ABSENT_BYTE);
-    put_offset(bytes, place, new.texts, index, offset);
-    move_later(bytes, place, index + 1, new.texts, removed, added);
+    resize_part(bytes, begin, 2 * old.texts, 2 * new.texts, ABSENT_BYTE);
+    put_offset(bytes, begin, new.texts, index, offset);
+    move_later(bytes, begin, index + 1, new.texts, removed, added);
     write_header(bytes, new);
 }
 

@@ -5,7 +5,7 @@ use Rattle.ti_caps.specs.Tables.{Capability, same_capability}
 use Rattle.ti_caps.proofs.Same.{same_capability-true}
 use Rattle.ti_layout.specs.inside.Values.{SetsOnly}
 use Rattle.ti_layout.specs.Values.{Content, TableEntry, contents}
-use Rattle.ti_layout.proofs.KeptEntries.{other_from_test}
+use Rattle.ti_layout.proofs.SortedEntries.{other_from_test}
 
 or_nothing : {X : Type 0} (o : Option X) → o ≡ option_or o None
 or_nothing None = refl

@@ -33,7 +33,7 @@ wide_is_number (content_number n) e = refl
 wide_is_number (content_text t) e = absurd cc
 wide_is_number content_cancelled e = absurd cc
 
-module _ (xs : List (Capability × Value)) (kept : IsSorted (entries_of xs)) where
+module _ (xs : List (Capability × Value)) (sorted : IsSorted (entries_of xs)) where
   module _ (k : ℕ) (x : Capability × Value) (within : k < length xs) (item : x ≡ get_or xs k x) where
     entry_here : (e : TableEntry) → get_or (entries_of xs) k e ≡ (x.0, content_of x.1)
     entry_here e = get_or_default (entries_of xs) k e (x.0, content_of x.1) (rw length-map within) ∙ item_read xs k x within item
@@ -53,10 +53,10 @@ module _ (xs : List (Capability × Value)) (kept : IsSorted (entries_of xs)) whe
         let e : TableEntry = (x.0, content_of x.1) in
         let long : k < length (entries_of xs) = rw length-map within in
         let is : is_of Number (get_or (entries_of xs) k e).1 ≡ true = ap (λ (y : TableEntry). is_of Number y.1) (entry_here e) ∙ wide_is_number (content_of x.1) wide in
-        let kind : x.0.kind ≡ Number = sym (ap (λ (y : TableEntry). y.0.kind) (entry_here e)) ∙ kind_at (entries_of xs) kept k e Number long is in
+        let kind : x.0.kind ≡ Number = sym (ap (λ (y : TableEntry). y.0.kind) (entry_here e)) ∙ kind_at (entries_of xs) sorted k e Number long is in
         let said : contents (entries_of xs) x.0 ≡ Some (content_of x.1) =
-        ap (λ (y : TableEntry). contents (entries_of xs) y.0) (sym (entry_here e)) ∙ contents_read (entries_of xs) kept k e long ∙ ap (λ (y : TableEntry). Some y.1) (entry_here e) in
-        let valid : IsCapability x.0 = subst (λ (y : TableEntry). IsCapability y.0) (entry_here e) (kept.agree k e long).0 in
+        ap (λ (y : TableEntry). contents (entries_of xs) y.0) (sym (entry_here e)) ∙ contents_read (entries_of xs) sorted k e long ∙ ap (λ (y : TableEntry). Some y.1) (entry_here e) in
+        let valid : IsCapability x.0 = subst (λ (y : TableEntry). IsCapability y.0) (entry_here e) (sorted.agree k e long).0 in
         let fits : x.0.index < 39 = subst (λ (n : Kind). IsCapability (capability n x.0.index)) kind valid in
         let here : of_kind (contents (entries_of xs)) Number x.0.index ≡ Some (content_of x.1) = ap (λ (n : Kind). contents (entries_of xs) (capability n x.0.index)) (sym kind) ∙ said in
         ap (λ b. cond b Extended Legacy) (some_below-true (λ i. is_wide (of_kind (contents (entries_of xs)) Number i)) 39 x.0.index fits (ap is_wide here ∙ wide))
@@ -94,13 +94,13 @@ counts_begun es =
     let none : length (texts_below (contents es) 0) ≡ 0 = ap (λ (t : List ℕ). length t) (texts-none (contents es)) in
     record { flags_walked = walked-start es Flag; numbers_walked = walked-start es Number; texts_walked = walked-start es Text; strings_are = omega arith }
 
-module _ (xs : List (Capability × Value)) (kept : IsSorted (entries_of xs)) (k flags numbers texts strings : ℕ) (x : Capability × Value) (within : k < length xs) (item : x ≡ get_or xs k x)
+module _ (xs : List (Capability × Value)) (sorted : IsSorted (entries_of xs)) (k flags numbers texts strings : ℕ) (x : Capability × Value) (within : k < length xs) (item : x ≡ get_or xs k x)
     (has : HasCounts (entries_of xs) k flags numbers texts strings) where
   past : (kind : Kind) (places : ℕ) → Walked (entries_of xs) kind k places → is_of kind (content_of x.1) ≡ false → Walked (entries_of xs) kind (k + 1) places
-  past kind places walked other = passed xs kept k places x within item kind places walked other refl
+  past kind places walked other = passed xs sorted k places x within item kind places walked other refl
 
   over : (kind : Kind) (places next index : ℕ) → Walked (entries_of xs) kind k places → is_of kind (content_of x.1) ≡ true → next ≡ index + 1 → index ≡ x.0.index → Walked (entries_of xs) kind (k + 1) next
-  over kind places next index walked is e i = stepped xs kept k places x within item kind next index walked is e i
+  over kind places next index walked is e i = stepped xs sorted k places x within item kind next index walked is e i
 
   module _ (next index : ℕ) (e : next ≡ index + 1) (i : index ≡ x.0.index) where
     pub flag_counted : x.1 ≡ True → HasCounts (entries_of xs) (k + 1) next numbers texts strings
@@ -122,7 +122,7 @@ module _ (xs : List (Capability × Value)) (kept : IsSorted (entries_of xs)) (k 
     pub text_counted : (t : List ℕ) (size more : ℕ) → content_of x.1 ≡ content_text t → size ≡ min (strings + length t) (2 ^ 64 - 1) → more ≡ min (size + 1) (2 ^ 64 - 1) → HasCounts (entries_of xs) (k + 1) flags numbers next more
     text_counted t size more value a b =
         let e2 : next ≡ x.0.index + 1 = omega arith in
-        let text = next_text (entries_of xs) kept k texts (rw length-map within) (x.0, content_of x.1) (item_read xs k x within item) t has.texts_walked value in
+        let text = next_text (entries_of xs) sorted k texts (rw length-map within) (x.0, content_of x.1) (item_read xs k x within item) t has.texts_walked value in
         let long : length (texts_below (contents (entries_of xs)) next) ≡ length (texts_below (contents (entries_of xs)) texts) + length (t ++ 0 ∷ []) =
         ap (λ j. length (texts_below (contents (entries_of xs)) j)) e2 ∙ ap (λ (u : List ℕ). length u) text ∙ length-append (texts_below (contents (entries_of xs)) texts) (t ++ 0 ∷ []) in
         let nul : length (t ++ 0 ∷ []) ≡ length t + 1 = length-append t (0 ∷ []) in
@@ -144,15 +144,15 @@ module _ (xs : List (Capability × Value)) (kept : IsSorted (entries_of xs)) (k 
 
 pub counted_all : (xs : List (Capability × Value)) → IsSorted (entries_of xs) → (field : List ℕ) (k : ℕ) (h : Header) → length xs ≤ k → h.format ≡ format_of (contents (entries_of xs)) → h.names ≡ suc (length field)
     → HasCounts (entries_of xs) k h.flags h.numbers h.texts h.strings → HasSizes field (contents (entries_of xs)) h
-counted_all xs kept field k h all format names has =
+counted_all xs sorted field k h all format names has =
     let es = entries_of xs in
     let end = all_past xs k all in
-    let texts = walked-end es kept Text k h.texts end has.texts_walked in
+    let texts = walked-end es sorted Text k h.texts end has.texts_walked in
     record {
       format = format;
       names = names;
-      flags = sym (walked-end es kept Flag k h.flags end has.flags_walked);
-      numbers = sym (walked-end es kept Number k h.numbers end has.numbers_walked);
+      flags = sym (walked-end es sorted Flag k h.flags end has.flags_walked);
+      numbers = sym (walked-end es sorted Number k h.numbers end has.numbers_walked);
       texts = sym texts;
       strings = has.strings_are ∙ ap (λ n. at_most_max (length (texts_below (contents es) n))) (sym texts);
       flags_fit = has.flags_walked.within;

@@ -8,11 +8,11 @@ use Rattle.std.proofs.lemmas.List.Elements.{All-push}
 use Rattle.ti_caps.specs.Tables.{Capability, IsCapability, count_of, same_capability, rank_in}
 use Rattle.ti_caps.specs.declared.capability.Kind.{Kind}
 use Rattle.ti_caps.specs.declared.capability.Kind.TheVariants.{Flag, Number, Text}
-use Rattle.ti_layout.specs.inside.Mentions.{AreMentionPlaces, Decides, recent_max}
+use Rattle.ti_layout.specs.inside.Mentions.{AreMentionPositions, Decides, recent_max}
 use Rattle.ti_layout.specs.declared.values.Value.{Value}
 use Rattle.ti_layout.specs.Values.{Content, TableEntry, Agrees, IsSorted, contents, content_of, entries_of, rank_of}
-use Rattle.ti_layout.proofs.KeptEntries.{one_from_rank, same_from_one, test_from_other}
-use Rattle.ti_layout.proofs.Fronts.{AllBefore, absent_behind, contents-append, contents-none, contents-one, kept-push, rank-push}
+use Rattle.ti_layout.proofs.SortedEntries.{one_from_rank, same_from_one, test_from_other}
+use Rattle.ti_layout.proofs.Fronts.{AllBefore, absent_behind, contents-append, contents-none, contents-one, sorted-push, rank-push}
 
 -- ---- one more mention
 
@@ -70,10 +70,10 @@ added_more table xs x c =
 pub added_all : (table : List TableEntry) (xs : List (Capability × Value)) (c : Capability) → xs ≡ [] → contents (table ++ entries_of xs) c ≡ contents table c
 added_all table xs c none = contents-append table (entries_of xs) c ∙ sym (nothing_behind table xs c none)
 
--- ---- the places of first mentions
+-- ---- the positions of first mentions
 
-pub places_of_none : (n : ℕ) → n ≡ 497 → AreMentionPlaces [] (replicate n 0)
-places_of_none n is = record {
+pub positions_of_none : (n : ℕ) → n ≡ 497 → AreMentionPositions [] (replicate n 0)
+positions_of_none n is = record {
   all = length-replicate n 0 ∙ is;
   none = λ c valid at. contents-none c;
   first = λ rank p at. absurd (elim (cases_lt rank n) [
@@ -104,12 +104,12 @@ front_more xs i x within here c =
 pub entries_count : (xs : List (Capability × Value)) (i : ℕ) → i ≤ length xs → length (entries_of (take i xs)) ≡ i
 entries_count xs i within = rw length-map (length-take-le i xs within)
 
-module _ (es : List TableEntry) (x : TableEntry) (places : List ℕ) (known : AreMentionPlaces es places) where
+module _ (es : List TableEntry) (x : TableEntry) (positions : List ℕ) (known : AreMentionPositions es positions) where
   longer : length (es ++ x ∷ []) ≡ length es + 1
   longer = length-append es (x ∷ [])
 
   -- a first mention remains the first
-  stays : (rank p : ℕ) → get_or places rank 0 ≡ suc p
+  stays : (rank p : ℕ) → get_or positions rank 0 ≡ suc p
       → (p < length (es ++ x ∷ [])) × ((e : TableEntry) → Decides (es ++ x ∷ []) rank (get_or (es ++ x ∷ []) p e))
   stays rank p at =
       let old = known.first rank p at in
@@ -122,29 +122,29 @@ module _ (es : List TableEntry) (x : TableEntry) (places : List ℕ) (known : Ar
       )
 
   -- a capability that was mentioned still has its first mention
-  pub places_kept : get_or places (rank_of x.0) 0 ≢ 0 → AreMentionPlaces (es ++ x ∷ []) places
-  places_kept there = record {
+  pub positions_unchanged : get_or positions (rank_of x.0) 0 ≢ 0 → AreMentionPositions (es ++ x ∷ []) positions
+  positions_unchanged there = record {
     all = known.all;
-    none = λ c valid at. none_more es x c (known.none c valid at) (λ same. there (subst (λ d. get_or places (rank_of d) 0 ≡ 0) (sym same) at));
+    none = λ c valid at. none_more es x c (known.none c valid at) (λ same. there (subst (λ d. get_or positions (rank_of d) 0 ≡ 0) (sym same) at));
     first = stays;
   }
 
   -- the first mention of a capability
-  pub places_more : IsCapability x.0 → rank_of x.0 < 497 → get_or places (rank_of x.0) 0 ≡ 0 → AreMentionPlaces (es ++ x ∷ []) (set places (rank_of x.0) (suc (length es)))
-  places_more valid within free =
-      let here : rank_of x.0 < length places = omega (arith, known.all) in
-      let new = get_or-set_same places (rank_of x.0) (suc (length es)) 0 here in
+  pub positions_more : IsCapability x.0 → rank_of x.0 < 497 → get_or positions (rank_of x.0) 0 ≡ 0 → AreMentionPositions (es ++ x ∷ []) (set positions (rank_of x.0) (suc (length es)))
+  positions_more valid within free =
+      let here : rank_of x.0 < length positions = omega (arith, known.all) in
+      let new = get_or-set_same positions (rank_of x.0) (suc (length es)) 0 here in
       record {
         all = rw length-set known.all;
         none = λ c valid_c at. elim (cases_eq (rank_of c) (rank_of x.0)) [
-          | inl same ↦ absurd (let e = subst (λ r. get_or (set places (rank_of x.0) (suc (length es))) r 0 ≡ 0) same at in omega (arith, new, e))
+          | inl same ↦ absurd (let e = subst (λ r. get_or (set positions (rank_of x.0) (suc (length es))) r 0 ≡ 0) same at in omega (arith, new, e))
           | inr other ↦
-              let old : get_or places (rank_of c) 0 ≡ 0 = sym (get_or-set_other places (rank_of x.0) (rank_of c) (suc (length es)) 0 other) ∙ at in
+              let old : get_or positions (rank_of c) 0 ≡ 0 = sym (get_or-set_other positions (rank_of x.0) (rank_of c) (suc (length es)) 0 other) ∙ at in
               none_more es x c (known.none c valid_c old) (λ same. other (ap rank_of (sym same)))
         ];
         first = λ rank p at. elim (cases_eq rank (rank_of x.0)) [
           | inl same ↦
-              let e = subst (λ r. get_or (set places (rank_of x.0) (suc (length es))) r 0 ≡ suc p) same at in
+              let e = subst (λ r. get_or (set positions (rank_of x.0) (suc (length es))) r 0 ≡ suc p) same at in
               let last : p ≡ length es = omega (arith, new, e) in
               let long = longer in (
                 omega arith,
@@ -152,7 +152,7 @@ module _ (es : List TableEntry) (x : TableEntry) (places : List ℕ) (known : Ar
                     let read : get_or (es ++ x ∷ []) p d ≡ x = ap (λ j. get_or (es ++ x ∷ []) j d) last ∙ get_or_at es x [] d (length es) refl in
                     subst (Decides (es ++ x ∷ []) rank) (sym read) (valid, sym same, first_more es x (known.none x.0 valid free)),
               )
-          | inr other ↦ stays rank p (sym (get_or-set_other places (rank_of x.0) rank (suc (length es)) 0 other) ∙ at)
+          | inr other ↦ stays rank p (sym (get_or-set_other positions (rank_of x.0) rank (suc (length es)) 0 other) ∙ at)
         ];
       }
 
@@ -160,32 +160,32 @@ module _ (es : List TableEntry) (x : TableEntry) (places : List ℕ) (known : Ar
 
 -- these entries are the first mentions of the capabilities below a rank
 pub record Gathers (es out : List TableEntry) (rank : ℕ) : Type 0 where
-  pub kept : IsSorted out
+  pub sorted : IsSorted out
   pub before : AllBefore out rank
   pub said : (c : Capability) → IsCapability c → rank_of c < rank → contents out c ≡ contents es c
 
 pub gathers_none : (es : List TableEntry) → Gathers es [] 0
 gathers_none es = record {
-  kept = record { rises = λ i j lt within. absurd (omega arith); agree = λ k d lt. absurd (omega arith) };
+  sorted = record { rises = λ i j lt within. absurd (omega arith); agree = λ k d lt. absurd (omega arith) };
   before = λ k within. absurd (omega arith);
   said = λ c valid below. absurd (omega arith);
 }
 
-module _ (es out : List TableEntry) (rank : ℕ) (so_far : Gathers es out rank) (places : List ℕ) (known : AreMentionPlaces es places) where
+module _ (es out : List TableEntry) (rank : ℕ) (so_far : Gathers es out rank) (positions : List ℕ) (known : AreMentionPositions es positions) where
   later : AllBefore out (rank + 1)
   later k within = let b = so_far.before k within in omega arith
 
   -- no mention has the rank
-  pub gathers_on : get_or places rank 0 ≡ 0 → Gathers es out (rank + 1)
+  pub gathers_on : get_or positions rank 0 ≡ 0 → Gathers es out (rank + 1)
   gathers_on at = record {
-    kept = so_far.kept;
+    sorted = so_far.sorted;
     before = later;
     said = λ c valid below. elim (cases_lt (rank_of c) rank) [
       | inl low ↦ so_far.said c valid low
       | inr high ↦
           let same : rank ≡ rank_of c = omega arith in
-          absent_behind out c so_far.kept (subst (AllBefore out) same so_far.before)
-          ∙ sym (known.none c valid (subst (λ r. get_or places r 0 ≡ 0) same at))
+          absent_behind out c so_far.sorted (subst (AllBefore out) same so_far.before)
+          ∙ sym (known.none c valid (subst (λ r. get_or positions r 0 ≡ 0) same at))
     ];
   }
 
@@ -197,7 +197,7 @@ module _ (es out : List TableEntry) (rank : ℕ) (so_far : Gathers es out rank) 
       let is = decides.2 in
       let ahead : AllBefore out (rank_of x.0) = subst (AllBefore out) (sym here) so_far.before in
       record {
-        kept = kept-push out x so_far.kept ahead valid agrees;
+        sorted = sorted-push out x so_far.sorted ahead valid agrees;
         before = λ k within. rank-push out x k (rank + 1) within later (omega arith);
         said = λ c valid_c below. elim (cases_lt (rank_of c) rank) [
           | inl low ↦
@@ -205,7 +205,7 @@ module _ (es out : List TableEntry) (rank : ℕ) (so_far : Gathers es out rank) 
               contents-append out (x ∷ []) c ∙ ap (λ o. option_or (contents out c) o) (says_nothing x c other) ∙ or_nothing (contents out c) ∙ so_far.said c valid_c low
           | inr high ↦
               let same : x.0 ≡ c = one_from_rank x.0 c valid valid_c (omega arith) in
-              subst (λ d. contents (out ++ x ∷ []) d ≡ contents es d) same (first_more out x (absent_behind out x.0 so_far.kept ahead) ∙ sym is)
+              subst (λ d. contents (out ++ x ∷ []) d ≡ contents es d) same (first_more out x (absent_behind out x.0 so_far.sorted ahead) ∙ sym is)
         ];
       }
 

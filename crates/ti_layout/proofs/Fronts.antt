@@ -11,8 +11,8 @@ use Rattle.ti_layout.specs.declared.values.Value.{Value}
 use Rattle.ti_layout.specs.inside.Values.{IsGapFor}
 use Rattle.ti_layout.specs.Values.{Content, TableEntry, Agrees, IsSorted, contents, content_of, entries_of, rank_at, rank_of}
 use Rattle.ti_layout.specs.inside.Merging.{IsPastBoth}
-use Rattle.ti_layout.proofs.KeptEntries.{contents_nowhere, one_from_rank}
-use Rattle.ti_layout.proofs.Places.{nowhere, kept-insert, rank_read}
+use Rattle.ti_layout.proofs.SortedEntries.{contents_nowhere, one_from_rank}
+use Rattle.ti_layout.proofs.Places.{nowhere, sorted-insert, rank_read}
 use Rattle.ti_layout.proofs.Walked.{item_read}
 
 -- ---- what entries one after another say
@@ -71,11 +71,11 @@ AllBefore es rank = (k : ℕ) → k < length es → rank_at es k < rank
 gap_behind : (es : List TableEntry) (c : Capability) → AllBefore es (rank_of c) → IsGapFor es c (length es)
 gap_behind es c before = record { in_range = omega arith; before = λ j lt. before j lt; after = λ j le lt. absurd (omega arith) }
 
-pub kept-push : (es : List TableEntry) (x : TableEntry) → IsSorted es → AllBefore es (rank_of x.0) → IsCapability x.0 → Agrees x.0 x.1 → IsSorted (es ++ x ∷ [])
-kept-push es x kept before valid agrees = subst IsSorted (insert-end es x) (kept-insert es x.0 x.1 (length es) kept (gap_behind es x.0 before) valid agrees)
+pub sorted-push : (es : List TableEntry) (x : TableEntry) → IsSorted es → AllBefore es (rank_of x.0) → IsCapability x.0 → Agrees x.0 x.1 → IsSorted (es ++ x ∷ [])
+sorted-push es x sorted before valid agrees = subst IsSorted (insert-end es x) (sorted-insert es x.0 x.1 (length es) sorted (gap_behind es x.0 before) valid agrees)
 
 pub absent_behind : (es : List TableEntry) (c : Capability) → IsSorted es → AllBefore es (rank_of c) → contents es c ≡ None
-absent_behind es c kept before = contents_nowhere es c (nowhere es kept c (length es) (gap_behind es c before))
+absent_behind es c sorted before = contents_nowhere es c (nowhere es sorted c (length es) (gap_behind es c before))
 
 pub rank-push : (es : List TableEntry) (x : TableEntry) (k rank : ℕ) → k < length (es ++ x ∷ []) → AllBefore es rank → rank_of x.0 < rank → rank_at (es ++ x ∷ []) k < rank
 rank-push es x k rank within before last =
@@ -96,14 +96,14 @@ rank-push es x k rank within before last =
 -- ---- the walk
 
 pub record Merges (fs ss os : List TableEntry) (i j : ℕ) : Type 0 where
-  pub kept : IsSorted os
+  pub sorted : IsSorted os
   pub said : (c : Capability) → contents os c ≡ option_or (contents (take i fs) c) (contents (take j ss) c)
   pub before_first : i < length fs → AllBefore os (rank_at fs i)
   pub before_second : j < length ss → AllBefore os (rank_at ss j)
 
 pub merges_none : (fs ss : List TableEntry) → Merges fs ss [] 0 0
 merges_none fs ss = record {
-  kept = record { rises = λ i j lt within. absurd (omega arith); agree = λ k d lt. absurd (omega arith) };
+  sorted = record { rises = λ i j lt within. absurd (omega arith); agree = λ k d lt. absurd (omega arith) };
   said = λ c. contents-none c ∙ sym (ap (λ o. option_or o (contents [] c)) (contents-none c) ∙ contents-none c);
   before_first = λ lt k within. absurd (omega arith);
   before_second = λ lt k within. absurd (omega arith);
@@ -129,10 +129,10 @@ of_both (Some w) b (Some v) y o e alone none = absurd (none-some w (sym (alone v
 module _ (fs ss os : List TableEntry) (i j : ℕ) (kept_f : IsSorted fs) (kept_s : IsSorted ss) (m : Merges fs ss os i j) (x : TableEntry) where
   -- nothing was said of a capability whose rank is still to come
   alone : AllBefore os (rank_of x.0) → (c : Capability) (v : Content) → contents (x ∷ []) c ≡ Some v → contents os c ≡ None
-  alone before c v e = subst (λ d. contents os d ≡ None) (one-said x c v e) (absent_behind os x.0 m.kept before)
+  alone before c v e = subst (λ d. contents os d ≡ None) (one-said x c v e) (absent_behind os x.0 m.sorted before)
 
   rises : (es : List TableEntry) (k : ℕ) → IsSorted es → k + 1 < length es → rank_at es k < rank_at es (k + 1)
-  rises es k kept within = kept.rises k (k + 1) (omega arith) within
+  rises es k sorted within = sorted.rises k (k + 1) (omega arith) within
 
   module _ (within : i < length fs) (here : get_or fs i x ≡ x) where
     rank_here : rank_at fs i ≡ rank_of x.0
@@ -148,7 +148,7 @@ module _ (fs ss os : List TableEntry) (i j : ℕ) (kept_f : IsSorted fs) (kept_s
     takes_first turn =
         let r = rank_here in
         record {
-          kept = kept-push os x m.kept before good.0 good.1;
+          sorted = sorted-push os x m.sorted before good.0 good.1;
           said = λ c. contents-append os (x ∷ []) c
               ∙ of_first (contents (take i fs) c) (contents (take j ss) c) (contents (x ∷ []) c) (contents os c) (m.said c) (alone before c)
               ∙ ap (λ t. option_or t (contents (take j ss) c)) (sym (contents-front fs i x c within here));
@@ -167,7 +167,7 @@ module _ (fs ss os : List TableEntry) (i j : ℕ) (kept_f : IsSorted fs) (kept_s
         let valid_s : IsCapability y.0 = subst (λ (e : TableEntry). IsCapability e.0) here_s (kept_s.agree j y within_s).0 in
         let one : x.0 ≡ y.0 = one_from_rank x.0 y.0 good.0 valid_s (omega arith) in
         record {
-          kept = kept-push os x m.kept before good.0 good.1;
+          sorted = sorted-push os x m.sorted before good.0 good.1;
           said = λ c. contents-append os (x ∷ []) c
               ∙ of_both (contents (take i fs) c) (contents (take j ss) c) (contents (x ∷ []) c) (contents (y ∷ []) c) (contents os c) (m.said c) (alone before c) (both-none x y c one)
               ∙ ap (λ t. option_or t (option_or (contents (take j ss) c) (contents (y ∷ []) c))) (sym (contents-front fs i x c within here))
@@ -186,7 +186,7 @@ module _ (fs ss os : List TableEntry) (i j : ℕ) (kept_f : IsSorted fs) (kept_s
       let fits = subst (λ (e : TableEntry). IsCapability e.0 × Agrees e.0 e.1) here (kept_s.agree j x within) in
       let before_x : AllBefore os (rank_of x.0) = subst (AllBefore os) rank_s (m.before_second within) in
       record {
-        kept = kept-push os x m.kept before_x fits.0 fits.1;
+        sorted = sorted-push os x m.sorted before_x fits.0 fits.1;
         said = λ c. contents-append os (x ∷ []) c ∙ ap (λ o. option_or o (contents (x ∷ []) c)) (m.said c) ∙ or-assoc (contents (take i fs) c) (contents (take j ss) c) (contents (x ∷ []) c)
             ∙ ap (λ t. option_or (contents (take i fs) c) t) (sym (contents-front ss j x c within here));
         before_first = λ lt k l. let t = turn lt in rank-push os x k (rank_at fs i) l (m.before_first lt) (omega arith);

@@ -4,7 +4,7 @@ pub mod Whole
 pub mod Refusing
 pub mod Parts
 pub mod OneReading
-pub mod KeptEntries
+pub mod SortedEntries
 pub mod Places
 pub mod Below
 pub mod Spelled

@@ -17,7 +17,7 @@ use Rattle.ti_layout.specs.declared.values.Value.{Value}
 use Rattle.ti_layout.specs.declared.values.Value.TheVariants.{True}
 use Rattle.ti_layout.specs.inside.Values.{IsAt, IsGapFor, SetsOnly}
 use Rattle.ti_layout.specs.Values.{Content, content_true, TableEntry, Agrees, IsSorted, contents, content_of, entries_of, rank_at, rank_of}
-use Rattle.ti_layout.proofs.KeptEntries.{Elsewhere, Nowhere, Says, one_from_rank, contents_here, contents_nowhere, says-set, says-insert, says-remove, same_from_one, test_from_other}
+use Rattle.ti_layout.proofs.SortedEntries.{Elsewhere, Nowhere, Says, one_from_rank, contents_here, contents_nowhere, says-set, says-insert, says-remove, same_from_one, test_from_other}
 
 -- the rank that a place has is that of the capability there
 pub rank_read : (es : List TableEntry) (i : ℕ) (e : TableEntry) → i < length es → rank_at es i ≡ rank_of (get_or es i e).0
@@ -25,7 +25,7 @@ rank_read es i e within = get_or-map (λ x. rank_of x.0) es i e 0 within
 
 -- ---- where a search ends
 
-module _ (xs : List (Capability × Value)) (kept : IsSorted (entries_of xs)) (c : Capability) (valid : IsCapability c) where
+module _ (xs : List (Capability × Value)) (sorted : IsSorted (entries_of xs)) (c : Capability) (valid : IsCapability c) where
   plain : (i : ℕ) (d : Capability × Value) → i < length xs → rank_at (entries_of xs) i ≡ rank_of (get_or xs i d).0
   plain i d within =
       let f : Capability × Value → TableEntry = λ e. (e.0, content_of e.1) in
@@ -34,7 +34,7 @@ module _ (xs : List (Capability × Value)) (kept : IsSorted (entries_of xs)) (c 
   comparisons_rise : IsNonDecreasingBy (λ e. ordering_index (nat_cmp (rank_of e.0) (rank_of c))) xs
   comparisons_rise i j d le within = elim (cases_lt i j) [
     | inl below ↦
-        let up : rank_at (entries_of xs) i < rank_at (entries_of xs) j = kept.rises i j below (rw length-map within) in
+        let up : rank_at (entries_of xs) i < rank_at (entries_of xs) j = sorted.rises i j below (rw length-map within) in
         let low : i < length xs = omega arith in
         let at_i = plain i d low in
         let at_j = plain j d within in
@@ -55,7 +55,7 @@ module _ (xs : List (Capability × Value)) (kept : IsSorted (entries_of xs)) (c 
             let f : Capability × Value → TableEntry = λ x. (x.0, content_of x.1) in
             let read : get_or (entries_of xs) i e ≡ f (get_or xs i d) = get_or-map f xs i d e within in
             let one_rank : rank_of (get_or xs i d).0 ≡ rank_of c = ranked _ _ Equal (sym (equal d)) in
-            one_from_rank _ c (kept.agree i e here).0 valid (ap (λ x. rank_of x.0) read ∙ one_rank);
+            one_from_rank _ c (sorted.agree i e here).0 valid (ap (λ x. rank_of x.0) read ∙ one_rank);
       }
 
   pub gap_place : (i : ℕ) → i ≤ length xs → IsBinarySearchResult (λ e. nat_cmp (rank_of e.0) (rank_of c)) xs (Err i) → IsGapFor (entries_of xs) c i
@@ -74,7 +74,7 @@ module _ (xs : List (Capability × Value)) (kept : IsSorted (entries_of xs)) (c 
 
 -- ---- what is at the place
 
-module _ (es : List TableEntry) (kept : IsSorted es) (c : Capability) where
+module _ (es : List TableEntry) (sorted : IsSorted es) (c : Capability) where
   rank_here : (i : ℕ) → IsAt es c i → rank_at es i ≡ rank_of c
   rank_here i at = let e : TableEntry = (c, content_true) in rank_read es i e at.in_range ∙ ap rank_of (at.is_here e)
 
@@ -83,8 +83,8 @@ module _ (es : List TableEntry) (kept : IsSorted es) (c : Capability) where
       let there : rank_at es j ≡ rank_of c = rank_read es j e within ∙ ap rank_of same in
       let here = rank_here i at in
       elim (cases_lt j i) [
-        | inl below ↦ absurd (omega (arith, kept.rises j i below at.in_range))
-        | inr not_below ↦ let above : i < j = omega arith in absurd (omega (arith, kept.rises i j above within))
+        | inl below ↦ absurd (omega (arith, sorted.rises j i below at.in_range))
+        | inr not_below ↦ let above : i < j = omega arith in absurd (omega (arith, sorted.rises i j above within))
       ]
 
   pub nowhere : (i : ℕ) → IsGapFor es c i → Nowhere es c
@@ -139,37 +139,37 @@ rise-remove l at rises within i j lt in_range =
 abbrev IsGood : TableEntry → Type 0
 IsGood e = IsCapability e.0 × Agrees e.0 e.1
 
-pub kept-set : (es : List TableEntry) (c : Capability) (v : Content) (i : ℕ) → IsSorted es → IsAt es c i → IsCapability c → Agrees c v → IsSorted (set es i (c, v))
-kept-set es c v i kept at valid agrees =
+pub sorted-set : (es : List TableEntry) (c : Capability) (v : Content) (i : ℕ) → IsSorted es → IsAt es c i → IsCapability c → Agrees c v → IsSorted (set es i (c, v))
+sorted-set es c v i sorted at valid agrees =
     let f : TableEntry → ℕ = λ e. rank_of e.0 in
     let e : TableEntry = (c, v) in
     let same : map f (set es i e) ≡ map f es = map-set_same f es i e e (ap rank_of (sym (at.is_here e))) in
     record {
-      rises = λ j k lt within. rw same (kept.rises j k lt (rw length-set at within));
-      agree = All-set IsGood es i e (valid, agrees) kept.agree;
+      rises = λ j k lt within. rw same (sorted.rises j k lt (rw length-set at within));
+      agree = All-set IsGood es i e (valid, agrees) sorted.agree;
     }
 
-pub kept-insert : (es : List TableEntry) (c : Capability) (v : Content) (i : ℕ) → IsSorted es → IsGapFor es c i → IsCapability c → Agrees c v → IsSorted (insert es i (c, v))
-kept-insert es c v i kept gap valid agrees =
+pub sorted-insert : (es : List TableEntry) (c : Capability) (v : Content) (i : ℕ) → IsSorted es → IsGapFor es c i → IsCapability c → Agrees c v → IsSorted (insert es i (c, v))
+sorted-insert es c v i sorted gap valid agrees =
     let f : TableEntry → ℕ = λ e. rank_of e.0 in
     let e : TableEntry = (c, v) in
     let same : map f (insert es i e) ≡ insert (map f es) i (f e) = map-insert f es i e in
     let long : length (map f es) ≡ length es = length-map es f in
-    let risen = rise-insert (map f es) i (f e) (λ j k lt within. kept.rises j k lt (omega arith)) (rw long gap.in_range) gap.before (λ j high within. gap.after j high (omega arith)) in
+    let risen = rise-insert (map f es) i (f e) (λ j k lt within. sorted.rises j k lt (omega arith)) (rw long gap.in_range) gap.before (λ j high within. gap.after j high (omega arith)) in
     record {
       rises = λ j k lt within. rw same (risen j k lt (rw (← same) (rw length-map within)));
-      agree = All-append IsGood (take i es) (e ∷ drop i es) (All-take IsGood i es kept.agree) (All-cons IsGood e (drop i es) (valid, agrees) (All-drop IsGood i es kept.agree));
+      agree = All-append IsGood (take i es) (e ∷ drop i es) (All-take IsGood i es sorted.agree) (All-cons IsGood e (drop i es) (valid, agrees) (All-drop IsGood i es sorted.agree));
     }
 
-pub kept-remove : (es : List TableEntry) (i : ℕ) → IsSorted es → i < length es → IsSorted (remove es i)
-kept-remove es i kept within =
+pub sorted-remove : (es : List TableEntry) (i : ℕ) → IsSorted es → i < length es → IsSorted (remove es i)
+sorted-remove es i sorted within =
     let f : TableEntry → ℕ = λ e. rank_of e.0 in
     let same : map f (remove es i) ≡ remove (map f es) i = map-remove f es i in
     let long : length (map f es) ≡ length es = length-map es f in
-    let risen = rise-remove (map f es) i (λ j k lt l. kept.rises j k lt (omega arith)) (rw long within) in
+    let risen = rise-remove (map f es) i (λ j k lt l. sorted.rises j k lt (omega arith)) (rw long within) in
     record {
       rises = λ j k lt l. rw same (risen j k lt (rw (← same) (rw length-map l)));
-      agree = All-append IsGood (take i es) (drop (suc i) es) (All-take IsGood i es kept.agree) (All-drop IsGood (suc i) es kept.agree);
+      agree = All-append IsGood (take i es) (drop (suc i) es) (All-take IsGood i es sorted.agree) (All-drop IsGood (suc i) es sorted.agree);
     }
 
 -- ---- where a search ends, of what the entries were made of
@@ -177,17 +177,17 @@ kept-remove es i kept within =
 abbrev entry_of : Capability × Value → TableEntry
 entry_of e = (e.0, content_of e.1)
 
-module _ (xs : List (Capability × Value)) (kept : IsSorted (entries_of xs)) (c : Capability) where
+module _ (xs : List (Capability × Value)) (sorted : IsSorted (entries_of xs)) (c : Capability) where
   pub content_here : (i : ℕ) (d : Capability × Value) → IsAt (entries_of xs) c i → Some (content_of (get_or xs i d).1) ≡ contents (entries_of xs) c
   content_here i d at =
       let read : get_or (entries_of xs) i (entry_of d) ≡ entry_of (get_or xs i d) = read_map entry_of xs i d in
-      let says = contents_here (entries_of xs) c i (entry_of d) at.in_range (at.is_here (entry_of d)) (elsewhere (entries_of xs) kept c i at) in
+      let says = contents_here (entries_of xs) c i (entry_of d) at.in_range (at.is_here (entry_of d)) (elsewhere (entries_of xs) sorted c i at) in
       sym (says ∙ ap (λ e. Some e.1) read)
 
   pub agrees_here : (i : ℕ) (d : Capability × Value) → IsAt (entries_of xs) c i → Agrees c (content_of (get_or xs i d).1)
   agrees_here i d at =
       let read : get_or (entries_of xs) i (entry_of d) ≡ entry_of (get_or xs i d) = read_map entry_of xs i d in
-      let good = (kept.agree i (entry_of d) at.in_range).1 in
+      let good = (sorted.agree i (entry_of d) at.in_range).1 in
       subst (λ e. Agrees c e.1) read (subst (λ x. Agrees x (get_or (entries_of xs) i (entry_of d)).1) (at.is_here (entry_of d)) good)
 
   module _ (i : ℕ) (v : Value) (valid : IsCapability c) (agrees : Agrees c (content_of v)) where
@@ -197,36 +197,36 @@ module _ (xs : List (Capability × Value)) (kept : IsSorted (entries_of xs)) (c 
     placed : entries_of (insert xs i (c, v)) ≡ insert (entries_of xs) i (c, content_of v)
     placed = map-insert entry_of xs i (c, v)
 
-    pub kept-written : IsAt (entries_of xs) c i → IsSorted (entries_of (set xs i (c, v)))
-    kept-written at = subst IsSorted (sym written) (kept-set (entries_of xs) c (content_of v) i kept at valid agrees)
+    pub sorted-written : IsAt (entries_of xs) c i → IsSorted (entries_of (set xs i (c, v)))
+    sorted-written at = subst IsSorted (sym written) (sorted-set (entries_of xs) c (content_of v) i sorted at valid agrees)
 
     pub sets-written : IsAt (entries_of xs) c i → SetsOnly (entries_of xs) (entries_of (set xs i (c, v))) c (Some (content_of v))
     sets-written at =
         let e : TableEntry = (c, content_of v) in
         subst (λ es. SetsOnly (entries_of xs) es c (Some (content_of v))) (sym written)
-        (sets_only _ _ c _ (says-set (entries_of xs) c (content_of v) i e at.in_range (at.is_here e) (elsewhere (entries_of xs) kept c i at)))
+        (sets_only _ _ c _ (says-set (entries_of xs) c (content_of v) i e at.in_range (at.is_here e) (elsewhere (entries_of xs) sorted c i at)))
 
-    pub kept-placed : IsGapFor (entries_of xs) c i → IsSorted (entries_of (insert xs i (c, v)))
-    kept-placed gap = subst IsSorted (sym placed) (kept-insert (entries_of xs) c (content_of v) i kept gap valid agrees)
+    pub sorted-placed : IsGapFor (entries_of xs) c i → IsSorted (entries_of (insert xs i (c, v)))
+    sorted-placed gap = subst IsSorted (sym placed) (sorted-insert (entries_of xs) c (content_of v) i sorted gap valid agrees)
 
     pub sets-placed : IsGapFor (entries_of xs) c i → SetsOnly (entries_of xs) (entries_of (insert xs i (c, v))) c (Some (content_of v))
     sets-placed gap =
         subst (λ es. SetsOnly (entries_of xs) es c (Some (content_of v))) (sym placed)
-        (sets_only _ _ c _ (says-insert (entries_of xs) c (content_of v) i (nowhere (entries_of xs) kept c i gap)))
+        (sets_only _ _ c _ (says-insert (entries_of xs) c (content_of v) i (nowhere (entries_of xs) sorted c i gap)))
 
   module _ (i : ℕ) (at : IsAt (entries_of xs) c i) where
     taken : entries_of (remove xs i) ≡ remove (entries_of xs) i
     taken = map-remove entry_of xs i
 
-    pub kept-taken : IsSorted (entries_of (remove xs i))
-    kept-taken = subst IsSorted (sym taken) (kept-remove (entries_of xs) i kept at.in_range)
+    pub sorted-taken : IsSorted (entries_of (remove xs i))
+    sorted-taken = subst IsSorted (sym taken) (sorted-remove (entries_of xs) i sorted at.in_range)
 
     pub sets-taken : SetsOnly (entries_of xs) (entries_of (remove xs i)) c None
     sets-taken =
         let e : TableEntry = (c, content_true) in
         subst (λ es. SetsOnly (entries_of xs) es c None) (sym taken)
-        (sets_only _ _ c _ (says-remove (entries_of xs) c i e at.in_range (at.is_here e) (elsewhere (entries_of xs) kept c i at)))
+        (sets_only _ _ c _ (says-remove (entries_of xs) c i e at.in_range (at.is_here e) (elsewhere (entries_of xs) sorted c i at)))
 
   -- a capability that is nowhere has nothing to take away
   pub sets-nothing : (i : ℕ) → IsGapFor (entries_of xs) c i → SetsOnly (entries_of xs) (entries_of xs) c None
-  sets-nothing i gap = record { this_one = contents_nowhere (entries_of xs) c (nowhere (entries_of xs) kept c i gap); others = λ d other. refl }
+  sets-nothing i gap = record { this_one = contents_nowhere (entries_of xs) c (nowhere (entries_of xs) sorted c i gap); others = λ d other. refl }

@@ -15,7 +15,7 @@ use Rattle.ti_layout.specs.inside.Values.{IsAt}
 use Rattle.ti_layout.specs.Values.{Content, content_true, content_number, content_text, content_cancelled, TableEntry, Agrees, IsSorted, contents, content_of, entries_of}
 use Rattle.ti_layout.specs.Layout.{absent_mark, number_bytes, number_section, width}
 use Rattle.ti_layout.specs.Image.{is_there, of_kind, written_count, flag_value, number_value, offset_value, text_piece, flags_below, numbers_below, offsets_below, texts_below, below}
-use Rattle.ti_layout.proofs.KeptEntries.{contents_here}
+use Rattle.ti_layout.proofs.SortedEntries.{contents_here}
 use Rattle.ti_layout.proofs.Places.{elsewhere, rank_read}
 use Rattle.ti_layout.proofs.Below.{below-more, below-filled, last_passing-is, last_passing-over}
 use Rattle.ti_layout.proofs.Spelled.{spelled-append, spelled-one, spelled-absent}
@@ -104,14 +104,14 @@ walked-start es kind = record {
   within = omega arith;
 }
 
-module _ (es : List TableEntry) (kept : IsSorted es) where
+module _ (es : List TableEntry) (sorted : IsSorted es) where
   pub contents_read : (j : ℕ) (e : TableEntry) → j < length es → contents es (get_or es j e).0 ≡ Some (get_or es j e).1
   contents_read j e lt =
       let at : IsAt es (get_or es j e).0 j = record { in_range = lt; is_here = λ d. ap (λ (x : TableEntry). x.0) (get_or_default es j d e lt) } in
-      contents_here es (get_or es j e).0 j e lt refl (elsewhere es kept (get_or es j e).0 j at)
+      contents_here es (get_or es j e).0 j e lt refl (elsewhere es sorted (get_or es j e).0 j at)
 
   pub kind_at : (j : ℕ) (e : TableEntry) (kind : Kind) → j < length es → is_of kind (get_or es j e).1 ≡ true → (get_or es j e).0.kind ≡ kind
-  kind_at j e kind lt is = kind_told (get_or es j e).0 (get_or es j e).1 kind (kept.agree j e lt).1 is
+  kind_at j e kind lt is = kind_told (get_or es j e).0 (get_or es j e).1 kind (sorted.agree j e lt).1 is
 
   -- of two values of a kind, the later has the greater index
   index_rises : (i j : ℕ) (d e : TableEntry) (kind : Kind) → i < j → j < length es → is_of kind (get_or es i d).1 ≡ true → is_of kind (get_or es j e).1 ≡ true
@@ -119,7 +119,7 @@ module _ (es : List TableEntry) (kept : IsSorted es) where
   index_rises i j d e kind lt in_range a b =
       let rank_i = rank_read es i d (omega arith) in
       let rank_j = rank_read es j e in_range in
-      let rise = kept.rises i j lt in_range in
+      let rise = sorted.rises i j lt in_range in
       let k_i : rank_in (get_or es i d).0.kind ≡ rank_in kind = ap rank_in (kind_at i d kind (omega arith) a) in
       let k_j : rank_in (get_or es j e).0.kind ≡ rank_in kind = ap rank_in (kind_at j e kind in_range b) in
       omega arith
@@ -132,7 +132,7 @@ module _ (es : List TableEntry) (kept : IsSorted es) where
         let s = stands es (capability kind i) v said in
         let e : TableEntry = (capability kind i, v) in
         let cap : (get_or es s.at e).0 ≡ capability kind i = s.is_cap e in
-        let agrees : Agrees (get_or es s.at e).0 v = subst (Agrees (get_or es s.at e).0) (s.is_content e) (kept.agree s.at e s.within).1 in
+        let agrees : Agrees (get_or es s.at e).0 v = subst (Agrees (get_or es s.at e).0) (s.is_content e) (sorted.agree s.at e s.within).1 in
         let is : is_of kind (get_or es s.at e).1 ≡ true = ap (is_of kind) (s.is_content e) ∙ of_there (get_or es s.at e).0 v kind agrees (ap (λ (c : Capability). c.kind) cap) there in
         let place : (get_or es s.at e).0.index ≡ i = ap (λ (c : Capability). c.index) cap in
         elim (cases_lt s.at k) [
@@ -195,7 +195,7 @@ module _ (es : List TableEntry) (kept : IsSorted es) where
 
       pub index_fits : e.0.index < count_of kind
       index_fits =
-          let valid : IsCapability e.0 = subst (λ (x : TableEntry). IsCapability x.0) here (kept.agree k e in_range).0 in
+          let valid : IsCapability e.0 = subst (λ (x : TableEntry). IsCapability x.0) here (sorted.agree k e in_range).0 in
           subst (λ (x : Kind). e.0.index < count_of x) kind_here valid
 
       pub said_here : of_kind (contents es) kind e.0.index ≡ Some e.1
@@ -268,13 +268,13 @@ next_spelled w f places index n e =
     ∙ ap (λ xs. xs ++ number_section w (n ∷ [])) (spelled-append w (below f places) (replicate (index - places) (absent_mark w)) ∙ ap (λ xs. number_section w (below f places) ++ xs) (spelled-absent w (index - places)))
     ∙ ap (λ xs. (number_section w (below f places) ++ replicate (width w * (index - places)) 255) ++ xs) (spelled-one w n)
 
-module _ (es : List TableEntry) (kept : IsSorted es) (k places : ℕ) (in_range : k < length es) (e : TableEntry) (here : get_or es k e ≡ e) where
+module _ (es : List TableEntry) (sorted : IsSorted es) (k places : ℕ) (in_range : k < length es) (e : TableEntry) (here : get_or es k e ≡ e) where
   pub next_flag : Walked es Flag k places → e.1 ≡ content_true → flags_below (contents es) (e.0.index + 1) ≡ (flags_below (contents es) places ++ replicate (e.0.index - places) 0) ++ 1 ∷ []
   next_flag walked v =
       let is : is_of Flag e.1 ≡ true = ap (is_of Flag) v in
-      next_value (λ i. flag_value (of_kind (contents es) Flag i)) 0 places e.0.index 1 (places_behind es kept Flag k places walked in_range e here is)
-      (λ i low high. void_flag _ (void_between es kept Flag k places walked in_range e here is i low high))
-      (ap flag_value (said_here es kept Flag k places walked in_range e here is ∙ ap (λ x. Some x) v))
+      next_value (λ i. flag_value (of_kind (contents es) Flag i)) 0 places e.0.index 1 (places_behind es sorted Flag k places walked in_range e here is)
+      (λ i low high. void_flag _ (void_between es sorted Flag k places walked in_range e here is i low high))
+      (ap flag_value (said_here es sorted Flag k places walked in_range e here is ∙ ap (λ x. Some x) v))
 
   pub next_number : (w : Format) (n : ℕ) → Walked es Number k places → e.1 ≡ content_number n
       → number_section w (numbers_below w (contents es) (e.0.index + 1)) ≡ (number_section w (numbers_below w (contents es) places) ++ replicate (width w * (e.0.index - places)) 255) ++ number_bytes w n
@@ -282,24 +282,24 @@ module _ (es : List TableEntry) (kept : IsSorted es) (k places : ℕ) (in_range 
       let is : is_of Number e.1 ≡ true = ap (is_of Number) v in
       let f : ℕ → ℕ = λ i. number_value (absent_mark w) (of_kind (contents es) Number i) in
       next_spelled w f places e.0.index n
-      (next_value f (absent_mark w) places e.0.index n (places_behind es kept Number k places walked in_range e here is)
-      (λ i low high. void_number (absent_mark w) _ (void_between es kept Number k places walked in_range e here is i low high))
-      (ap (number_value (absent_mark w)) (said_here es kept Number k places walked in_range e here is ∙ ap (λ x. Some x) v)))
+      (next_value f (absent_mark w) places e.0.index n (places_behind es sorted Number k places walked in_range e here is)
+      (λ i low high. void_number (absent_mark w) _ (void_between es sorted Number k places walked in_range e here is i low high))
+      (ap (number_value (absent_mark w)) (said_here es sorted Number k places walked in_range e here is ∙ ap (λ x. Some x) v)))
 
   module _ (t : List ℕ) (walked : Walked es Text k places) (v : e.1 ≡ content_text t) where
     is_text : is_of Text e.1 ≡ true
     is_text = ap (is_of Text) v
 
     said_text : of_kind (contents es) Text e.0.index ≡ Some (content_text t)
-    said_text = said_here es kept Text k places walked in_range e here is_text ∙ ap (λ x. Some x) v
+    said_text = said_here es sorted Text k places walked in_range e here is_text ∙ ap (λ x. Some x) v
 
     -- the texts before this one are those that the walk has passed
     texts_before : texts_below (contents es) e.0.index ≡ texts_below (contents es) places
     texts_before =
-        let behind = places_behind es kept Text k places walked in_range e here is_text in
+        let behind = places_behind es sorted Text k places walked in_range e here is_text in
         let sum : places + (e.0.index - places) ≡ e.0.index = omega arith in
         ap (texts_below (contents es)) (sym sum)
-        ∙ texts-skipped (contents es) places (e.0.index - places) (λ j low high. void_text _ (void_between es kept Text k places walked in_range e here is_text j low (omega arith)))
+        ∙ texts-skipped (contents es) places (e.0.index - places) (λ j low high. void_text _ (void_between es sorted Text k places walked in_range e here is_text j low (omega arith)))
 
     pub next_text : texts_below (contents es) (e.0.index + 1) ≡ texts_below (contents es) places ++ (t ++ 0 ∷ [])
     next_text = texts-more (contents es) e.0.index ∙ ap (λ x. texts_below (contents es) e.0.index ++ text_piece x) said_text ∙ ap (λ x. x ++ (t ++ 0 ∷ [])) texts_before
@@ -309,8 +309,8 @@ module _ (es : List TableEntry) (kept : IsSorted es) (k places : ℕ) (in_range 
     next_offset =
         let f : ℕ → ℕ = λ i. offset_value (length (texts_below (contents es) i)) (of_kind (contents es) Text i) in
         next_spelled Legacy f places e.0.index (length (texts_below (contents es) places))
-        (next_value f 65535 places e.0.index (length (texts_below (contents es) places)) (places_behind es kept Text k places walked in_range e here is_text)
-        (λ i low high. void_offset _ _ (void_between es kept Text k places walked in_range e here is_text i low high))
+        (next_value f 65535 places e.0.index (length (texts_below (contents es) places)) (places_behind es sorted Text k places walked in_range e here is_text)
+        (λ i low high. void_offset _ _ (void_between es sorted Text k places walked in_range e here is_text i low high))
         (ap (offset_value (length (texts_below (contents es) e.0.index))) said_text ∙ ap (λ (x : List ℕ). length x) texts_before))
 
     -- the string table holds what the walk has passed, and this text
@@ -318,8 +318,8 @@ module _ (es : List TableEntry) (kept : IsSorted es) (k places : ℕ) (in_range 
     text_fits =
         let more : length (texts_below (contents es) (e.0.index + 1)) ≡ length (texts_below (contents es) places) + length (t ++ 0 ∷ []) = ap length next_text ∙ length-append (texts_below (contents es) places) (t ++ 0 ∷ []) in
         let nul : length (t ++ 0 ∷ []) ≡ length t + 1 = length-append t (0 ∷ []) in
-        let next = walked-there es kept Text k places walked in_range e here is_text in
-        let le = length-texts-le (contents es) (written_count (contents es) Text) (e.0.index + 1) (walked-written es kept Text (k + 1) (e.0.index + 1) next) in
+        let next = walked-there es sorted Text k places walked in_range e here is_text in
+        let le = length-texts-le (contents es) (written_count (contents es) Text) (e.0.index + 1) (walked-written es sorted Text (k + 1) (e.0.index + 1) next) in
         omega arith
 
 -- ---- an item of the slice that is walked over

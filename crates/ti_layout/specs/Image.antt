@@ -13,24 +13,24 @@ use Rattle.ti_layout.specs.Layout.{Sections, absent_mark, entry_bytes, limit}
 use Rattle.ti_layout.specs.Values.{Content, content_true, content_number, content_text, content_cancelled, Contents}
 pub use Rattle.ti_layout.specs.Values.{HasNoNul}
 
--- ---- words for lists that are made place by place
+-- ---- words for lists that are made index by index
 
--- one more than the last place below n that passes, 0 if none does
+-- one more than the last index below n that passes, 0 if none does
 unfoldable pub last_passing : (ℕ → Bool) → ℕ → ℕ
 last_passing test zero = 0
 last_passing test (suc n) = if test n then suc n else last_passing test n
 
--- whether a place below n passes
+-- whether an index below n passes
 unfoldable pub some_below : (ℕ → Bool) → ℕ → Bool
 some_below test zero = false
 some_below test (suc n) = if test n then true else some_below test n
 
--- the values of the places below n, in order
+-- the values of the indices below n, in order
 unfoldable pub below : (ℕ → ℕ) → ℕ → List ℕ
 below value zero = []
 below value (suc n) = below value n ++ value n ∷ []
 
--- what the places of a kind have
+-- what a kind has, by index
 abbrev pub Places : Type 0
 Places = ℕ → Option Content
 
@@ -83,7 +83,7 @@ image_limit contents = limit (format_of contents)
 
 -- ---- the sections
 
--- how many places of a kind are written: up to the last that is there
+-- how many capabilities of a kind are written: up to the last that is there
 abbrev pub written_count : Contents → Kind → ℕ
 written_count contents kind = last_passing (λ i. is_there (of_kind contents kind i)) (count_of kind)
 

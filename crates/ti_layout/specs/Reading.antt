@@ -18,11 +18,11 @@ use Rattle.ti_layout.specs.Values.{Content, content_true, content_number, conten
 
 -- ---- the numbers that bytes spell
 
--- the 16-bit number at a place, its low byte first
+-- the 16-bit number at an offset, its low byte first
 abbrev pub word_at : ℕ → List ℕ → ℕ
 word_at at bytes = slice_index bytes at + 256 * slice_index bytes (at + 1)
 
--- the number of a format at a place, its low byte first
+-- the number of a format at an offset, its low byte first
 abbrev pub number_at : Format → ℕ → List ℕ → ℕ
 number_at Legacy at bytes = word_at at bytes
 number_at Extended at bytes =
@@ -87,7 +87,7 @@ pub record AreSound (format : Format) (s : Sections) : Type 0 where
 abbrev pub stored_flag : ℕ → Option Content
 stored_flag b = if b == 1 then Some content_true else None
 
--- what the number at a place says: itself, or absent if it is negative
+-- what a number says: itself, or absent if it is negative
 abbrev pub stored_number : Format → ℕ → Option Content
 stored_number format n = if nat_lt n (first_negative format) then Some (content_number n) else None
 

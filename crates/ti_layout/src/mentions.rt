@@ -3,7 +3,7 @@ ghost use Rattle.std.specs.Prelude.{◌≡◌, ◌<◌, ◌≤◌, [], length, A
 ghost use Rattle.std.specs.Option.{option_or};
 ghost use Rattle.ti_caps.specs.Tables.{Capability, IsCapability, same_capability};
 ghost use Rattle.ti_layout.specs.Layout.{FitsTwoBytes};
-ghost use Rattle.ti_layout.specs.inside.Mentions.{AreMentionPlaces, recent_max};
+ghost use Rattle.ti_layout.specs.inside.Mentions.{AreMentionPositions, recent_max};
 ghost use Rattle.ti_layout.specs.Values.{contents, content_of, entries_of, Agrees, IsSorted};
 
 use crate::merging::{copy_of, push_copy};
@@ -12,38 +12,38 @@ use std::alloc::{AllocError, Global};
 use std::marker::Model;
 use ti_caps::{CAPABILITY_COUNT, Cap};
 
-// This number of mentions, or more, is brought into order by a walk over the places of all
+// This number of mentions, or more, is brought into order by a walk over the ranks of all
 // capabilities; fewer are inserted one by one.
 const MANY: usize = 24;
 
-// For each capability, by its place in the order of the entry, one more than the place of its first
-// mention; 0 if there is none.
-fn first_places(mentions: &[(Cap, Value)]) -> [u16; CAPABILITY_COUNT]
+// For each capability, by its rank, one more than the position of its first mention; 0 if there is
+// none.
+fn first_positions(mentions: &[(Cap, Value)]) -> [u16; CAPABILITY_COUNT]
     requires few { FitsTwoBytes (length mentions.now) }
-    ensures { AreMentionPlaces (entries_of mentions.now) result }
+    ensures { AreMentionPositions (entries_of mentions.now) result }
 {
-    let mut places = [0; CAPABILITY_COUNT];
+    let mut positions = [0; CAPABILITY_COUNT];
     for (index, mention) in mentions.iter().enumerate() {
         let rank = rank(mention.0);
-        if places[rank] == 0 {
-            places[rank] = index as u16 + 1;
+        if positions[rank] == 0 {
+            positions[rank] = index as u16 + 1;
         }
     }
-    places
+    positions
 }
 
 // The first mention of each capability, in the order of the entry. Strings are shared.
 fn first_mentions(alloc: Global, mentions: &[(Cap, Value)]) -> Result<Vec<(Cap, Value)>, AllocError>
     requires few { FitsTwoBytes (length mentions.now) }
     requires agree { All (λ e. Agrees e.0 e.1) (entries_of mentions.now) }
-    ensures kept { IfOk result (λ v. IsSorted (entries_of v.items)) }
+    ensures sorted { IfOk result (λ v. IsSorted (entries_of v.items)) }
     ensures said { IfOk result (λ v. (c : Capability) → IsCapability c → contents (entries_of v.items) c ≡ contents (entries_of mentions.now) c) }
 {
-    let places = first_places(mentions);
+    let positions = first_positions(mentions);
     let mut entries = Vec::with_capacity(alloc, mentions.len().min(CAPABILITY_COUNT))?;
-    for place in &places {
-        if *place > 0 {
-            push_copy(&mut entries, &mentions[*place as usize - 1])?;
+    for position in &positions {
+        if *position > 0 {
+            push_copy(&mut entries, &mentions[*position as usize - 1])?;
         }
     }
     Ok(entries)

@@ -81,7 +81,7 @@ pub fn merge(
 ) -> Result<Vec<(Cap, Value)>, AllocError>
     requires first { IsSorted (entries_of first.now) }
     requires second { IsSorted (entries_of second.now) }
-    ensures kept { IfOk result (λ merged. IsSorted (entries_of merged.items)) }
+    ensures sorted { IfOk result (λ merged. IsSorted (entries_of merged.items)) }
     ensures merges { IfOk result (λ merged. (c : Capability) → contents (entries_of merged.items) c
         ≡ option_or (contents (entries_of first.now) c) (contents (entries_of second.now) c)) }
 {

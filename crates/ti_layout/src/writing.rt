@@ -105,7 +105,7 @@ pub fn format_wanted(entries: &[(Cap, Value)]) -> Format
 // number.
 fn header_of(names: &[u8], entries: &[(Cap, Value)]) -> Header
     requires names { length names.now ≤ names_max }
-    requires kept { IsSorted (entries_of entries.now) }
+    requires sorted { IsSorted (entries_of entries.now) }
     ensures { HasSizes names.now (contents (entries_of entries.now)) result }
 {
     let mut header = Header {
@@ -117,12 +117,12 @@ fn header_of(names: &[u8], entries: &[(Cap, Value)]) -> Header
         strings: 0,
     };
     for entry in entries {
-        let places = entry.0.index() + 1;
+        let count = entry.0.index() + 1;
         match &entry.1 {
-            Value::True => header.flags = places,
-            Value::Number(_) => header.numbers = places,
+            Value::True => header.flags = count,
+            Value::Number(_) => header.numbers = count,
             Value::Text(text) => {
-                header.texts = places;
+                header.texts = count;
                 header.strings = header.strings.saturating_add(text.len()).saturating_add(1);
             }
             Value::Cancelled => {}
@@ -139,7 +139,7 @@ fn entry_bytes(
     header: &Header,
 ) -> Result<Vec<u8>, AllocError>
     requires names { length names.now ≤ names_max }
-    requires kept { IsSorted (entries_of entries.now) }
+    requires sorted { IsSorted (entries_of entries.now) }
     requires sizes { HasSizes names.now (contents (entries_of entries.now)) header.now }
     requires small { length (image names.now (contents (entries_of entries.now))) ≤ image_limit (contents (entries_of entries.now)) }
     ensures { IfOk result (λ v. v.items ≡ image names.now (contents (entries_of entries.now))) }
@@ -179,12 +179,12 @@ fn push_flags(image: &mut Vec<u8>, entries: &[(Cap, Value)]) -> Result<(), Alloc
     ensures { OnOk result (image.new.items
         ≡ image.old.items ++ flags_below (contents (entries_of entries.now)) (written_count (contents (entries_of entries.now)) Flag)) }
 {
-    let mut places = 0;
+    let mut written = 0;
     for entry in entries {
         if let Value::True = &entry.1 {
-            push_fill(image, entry.0.index() - places, 0)?;
+            push_fill(image, entry.0.index() - written, 0)?;
             image.push(1)?;
-            places = entry.0.index() + 1;
+            written = entry.0.index() + 1;
         }
     }
     Ok(())
@@ -201,16 +201,16 @@ fn push_numbers(
         ≡ image.old.items
         ++ number_section format (numbers_below format (contents (entries_of entries.now)) (written_count (contents (entries_of entries.now)) Number))) }
 {
-    let mut places = 0;
+    let mut written = 0;
     for entry in entries {
         if let Value::Number(number) = &entry.1 {
             push_fill(
                 image,
-                format.width() * (entry.0.index() - places),
+                format.width() * (entry.0.index() - written),
                 ABSENT_BYTE,
             )?;
             push_number(image, *number, format)?;
-            places = entry.0.index() + 1;
+            written = entry.0.index() + 1;
         }
     }
     Ok(())
@@ -218,19 +218,19 @@ fn push_numbers(
 
 // Adds where each string begins in the string table, up to the last that is there.
 fn push_offsets(image: &mut Vec<u8>, entries: &[(Cap, Value)]) -> Result<(), AllocError>
-    requires kept { IsSorted (entries_of entries.now) }
+    requires sorted { IsSorted (entries_of entries.now) }
     requires fits { FitsTwoBytes (length (texts_below (contents (entries_of entries.now)) (written_count (contents (entries_of entries.now)) Text))) }
     ensures { OnOk result (image.new.items
         ≡ image.old.items
         ++ number_section Format.Legacy (offsets_below (contents (entries_of entries.now)) (written_count (contents (entries_of entries.now)) Text))) }
 {
-    let mut places = 0;
+    let mut written = 0;
     let mut offset = 0;
     for entry in entries {
         if let Value::Text(text) = &entry.1 {
-            push_fill(image, 2 * (entry.0.index() - places), ABSENT_BYTE)?;
+            push_fill(image, 2 * (entry.0.index() - written), ABSENT_BYTE)?;
             push_number(image, offset as u32, Format::Legacy)?;
-            places = entry.0.index() + 1;
+            written = entry.0.index() + 1;
             offset += text.len() + 1;
         }
     }

@@ -4,11 +4,11 @@ use Rattle.ti_text.specs.Ascii as ascii
 use Rattle.ti_layout.specs.Layout.{absent_mark}
 use Rattle.ti_layout.specs.declared.layout.Format.TheVariants.{Legacy}
 
--- a number of bytes put in at a place
+-- a number of bytes put in at an offset
 abbrev pub with_bytes_in : List ℕ → ℕ → ℕ → ℕ → List ℕ
 with_bytes_in bytes at count fill = take at bytes ++ replicate count fill ++ drop at bytes
 
--- a number of bytes taken out at a place
+-- a number of bytes taken out at an offset
 abbrev pub with_bytes_out : List ℕ → ℕ → ℕ → List ℕ
 with_bytes_out bytes at count = take at bytes ++ drop (at + count) bytes
 
@@ -16,7 +16,7 @@ with_bytes_out bytes at count = take at bytes ++ drop (at + count) bytes
 abbrev pub with_length : List ℕ → ℕ → ℕ → List ℕ
 with_length part size fill = take size part ++ replicate (size - length part) fill
 
--- the part of a size at a place is changed, and nothing else
+-- the part of a size at an offset is changed, and nothing else
 abbrev pub Replaces : List ℕ → List ℕ → ℕ → ℕ → (List ℕ → List ℕ) → Type 0
 Replaces old new at size change = (p m r : List ℕ) → old ≡ p ++ (m ++ r) → length p ≡ at → length m ≡ size → new ≡ p ++ (change m ++ r)
 

@@ -59,10 +59,10 @@ pub record IsLeft (old new held : Option Content) : Type 0 where
 abbrev pub with_number : List ℕ → ℕ → Option ℕ → Contents
 with_number bytes index number = with_content (contents_in bytes) (capability Number index) (number_content number)
 
--- the number of a place, or the number that means absent
+-- the number of an index, or the number that means absent
 abbrev pub wide_value : Contents → ℕ → ℕ
 wide_value contents index = number_value (absent_mark Extended) (of_kind contents Number index)
 
--- what the places of numbers have is what they may have
+-- what each index of a number has is what it may have
 abbrev pub HasNumbers : Contents → Type 0
 HasNumbers contents = (index : ℕ) → index < count_of Number → AgreesIfSome (capability Number index) (contents (capability Number index))

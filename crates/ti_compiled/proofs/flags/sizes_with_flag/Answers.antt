@@ -1,5 +1,5 @@
 use Rattle.std.proofs.Common.{◌≡◌, ◌+◌, max, refl, ◌∙◌, arith}
-use Rattle.ti_compiled.proofs.FlagPlaces.{flags_within, sizes_set, sizes_kept, sizes_down}
+use Rattle.ti_compiled.proofs.FlagPlaces.{flags_within, sizes_set, sizes_unchanged, sizes_down}
 use Rattle.ti_compiled.proofs.flags.sizes_with_flag.Goals as goal
 use Rattle.ti_compiled.proofs.flags.sizes_with_flag.Goals.{then-on, else-on+then-index-old, else-on+else-index-old}
 
@@ -22,5 +22,5 @@ returns c =
       | else-on+then-index-old w ↦
           let last = w.last_set.ensures in
           rw (w.if-on.false, w.flags-is) (sizes_down b is h has c.args.index within c.flags_offset-start.result (c.flags_offset-start.result + c.args.index) w.last_set.result c.flags_offset-start.ensures refl w.if-index-old.true last.within last.last last.past)
-      | else-on+else-index-old w ↦ rw (w.if-on.false, w.flags-is) (sizes_kept b is h has c.args.index within w.if-index-old.false)
+      | else-on+else-index-old w ↦ rw (w.if-on.false, w.flags-is) (sizes_unchanged b is h has c.args.index within w.if-index-old.false)
     ]

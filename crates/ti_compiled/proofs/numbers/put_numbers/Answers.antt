@@ -5,7 +5,7 @@ use Rattle.ti_compiled.proofs.numbers.put_numbers.Goals as goal
 pub loop-at-init : goal.loop-at-init
 loop-at-init c = record {
   len = refl;
-  so_far = put_start c.args.bytes.now.items c.args.place c.args.format c.args.values.now c.args.count;
+  so_far = put_start c.args.bytes.now.items c.args.begin c.args.format c.args.values.now c.args.count;
 }
 
 pub loop-at-preserved : goal.loop-at-preserved
@@ -13,5 +13,5 @@ loop-at-preserved c =
     let a = c.args in
     record {
       len = c.put_number.ensures.len ∙ c.loop-at.invariant.len;
-      so_far = put_more a.bytes.now.items a.place a.format a.values.now a.count c.loop-at.bytes.items c.put_number.new.bytes.items c.width-width.result c.loop-at.at _ c.width-width.ensures.value c.loop-at-test.true c.requires.count refl c.loop-at.invariant.so_far c.put_number.ensures.part;
+      so_far = put_more a.bytes.now.items a.begin a.format a.values.now a.count c.loop-at.bytes.items c.put_number.new.bytes.items c.width-width.result c.loop-at.at _ c.width-width.ensures.value c.loop-at-test.true c.requires.count refl c.loop-at.invariant.so_far c.put_number.ensures.part;
     }

@@ -27,11 +27,11 @@ returns-clause-narrow c = (
 pub returns-clause-contents : goal.returns-clause-contents
 returns-clause-contents c = λ d valid. c.in_ok-give_all_changed.ensures.contents d valid ∙ ap (λ (es : List TableEntry). without_cancel (contents es d)) c.entries-2.ensures.entries
 
-pub take_all_changed_away-requires-clause-kept : goal.take_all_changed_away-requires-clause-kept
-take_all_changed_away-requires-clause-kept c = c.entries.ensures.kept
+pub take_all_changed_away-requires-clause-sorted : goal.take_all_changed_away-requires-clause-sorted
+take_all_changed_away-requires-clause-sorted c = c.entries.ensures.kept
 
-pub give_all_changed-requires-clause-kept : goal.give_all_changed-requires-clause-kept
-give_all_changed-requires-clause-kept c = c.entries-2.ensures.kept
+pub give_all_changed-requires-clause-sorted : goal.give_all_changed-requires-clause-sorted
+give_all_changed-requires-clause-sorted c = c.entries-2.ensures.kept
 
 pub returns-in_err-copy-clause-narrow : goal.returns-in_err-copy-clause-narrow
 returns-in_err-copy-clause-narrow c = rw c.from_residual.ensures tt

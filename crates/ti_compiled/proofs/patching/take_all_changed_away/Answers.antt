@@ -8,7 +8,7 @@ pub loop-left-init : goal.loop-left-init
 loop-left-init c = record {
   within = omega arith;
   names = refl;
-  walks = walk_begins (entries_of c.args.old.now) c.requires.kept _ _ _ _ (λ m lt. rw length-map at lt) c.requires.held
+  walks = walk_begins (entries_of c.args.old.now) c.requires.sorted _ _ _ _ (λ m lt. rw length-map at lt) c.requires.held
       (λ d none said. nothing_goes (contents (entries_of c.args.old.now)) (contents c.args.new.now) d _ none said);
 }
 
@@ -17,7 +17,7 @@ take_away_changed-requires c =
     let above = c.loop-left-test.true in
     let within = c.loop-left.invariant.within in
     record {
-      held = old_held c.args.old.now c.requires.kept (c.loop-left.left - 1) _ (omega arith) c.index-old-left.is _ _ _ _ (passes_down c.loop-left.left (c.loop-left.left - 1) (omega arith)) (omega arith)
+      held = old_held c.args.old.now c.requires.sorted (c.loop-left.left - 1) _ (omega arith) c.index-old-left.is _ _ _ _ (passes_down c.loop-left.left (c.loop-left.left - 1) (omega arith)) (omega arith)
           c.loop-left.invariant.walks;
     }
 
@@ -29,7 +29,7 @@ loop-left-preserved c =
     record {
       within = omega arith;
       names = done.names ∙ c.loop-left.invariant.names;
-      walks = one_taken_away c.args.old.now c.requires.kept (c.loop-left.left - 1) _ (omega arith) c.index-old-left.is _ _ _ _ (passes_down c.loop-left.left (c.loop-left.left - 1) (omega arith)) (omega arith)
+      walks = one_taken_away c.args.old.now c.requires.sorted (c.loop-left.left - 1) _ (omega arith) c.index-old-left.is _ _ _ _ (passes_down c.loop-left.left (c.loop-left.left - 1) (omega arith)) (omega arith)
           c.loop-left.invariant.walks _ done.left done.others.says;
     }
 
@@ -37,4 +37,4 @@ pub returns-clause-names : goal.returns-clause-names
 returns-clause-names c = c.loop-left.invariant.names
 
 pub returns-clause-left : goal.returns-clause-left
-returns-clause-left c = walk_ends (entries_of c.args.old.now) c.requires.kept _ _ _ _ (λ m lt within. omega arith) c.loop-left.invariant.walks
+returns-clause-left c = walk_ends (entries_of c.args.old.now) c.requires.sorted _ _ _ _ (λ m lt within. omega arith) c.loop-left.invariant.walks

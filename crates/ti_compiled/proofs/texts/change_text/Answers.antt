@@ -19,7 +19,7 @@ overflow_sub-removed c =
     let r = c.requires in
     let l = lengths_of b r.image c.args.old.now r.old c.args.index r.index t c.args.new.now r.new r.small c.deref.result.now c.deref-2.result.now c.start_of-start.result c.start_of.result (offsets_from c.args.old.now) (vec_capacity c.args.bytes.now) (length (ended_text t))
     c.deref.ensures.value c.deref-2.ensures.value c.start_of-start.ensures c.start_of.ensures refl refl r.room in
-    let l0 = l.removed_is in let l1 = l.ordered in let l2 = l.fits in let l3 = l.in_table in let l4 = l.head in let l5 = l.room_for in let l6 = l.added_fits in let l7 = l.kept in let l8 = l.wanted in let l9 = l.grows in
+    let l0 = l.removed_is in let l1 = l.ordered in let l2 = l.fits in let l3 = l.in_table in let l4 = l.head in let l5 = l.room_for in let l6 = l.added_fits in let l7 = l.written in let l8 = l.wanted in let l9 = l.grows in
     omega arith
 
 pub piece_len-added-requires : goal.piece_len-added-requires
@@ -29,7 +29,7 @@ piece_len-added-requires c =
     let r = c.requires in
     let l = lengths_of b r.image c.args.old.now r.old c.args.index r.index t c.args.new.now r.new r.small c.deref.result.now c.deref-2.result.now c.start_of-start.result c.start_of.result (offsets_from c.args.old.now) (vec_capacity c.args.bytes.now) (length (ended_text t))
     c.deref.ensures.value c.deref-2.ensures.value c.start_of-start.ensures c.start_of.ensures refl refl r.room in
-    let l0 = l.removed_is in let l1 = l.ordered in let l2 = l.fits in let l3 = l.in_table in let l4 = l.head in let l5 = l.room_for in let l6 = l.added_fits in let l7 = l.kept in let l8 = l.wanted in let l9 = l.grows in
+    let l0 = l.removed_is in let l1 = l.ordered in let l2 = l.fits in let l3 = l.in_table in let l4 = l.head in let l5 = l.room_for in let l6 = l.added_fits in let l7 = l.written in let l8 = l.wanted in let l9 = l.grows in
     omega arith
 
 pub overflow_add-strings_offset : goal.overflow_add-strings_offset
@@ -37,9 +37,9 @@ overflow_add-strings_offset c =
     let b = c.args.bytes.now.items in
     let t = option_map (λ (x : Bor (List ℕ)). x.now) c.args.text in
     let r = c.requires in
-    let l = lengths_of b r.image c.args.old.now r.old c.args.index r.index t c.args.new.now r.new r.small c.deref.result.now c.deref-2.result.now c.start_of-start.result c.start_of.result c.offsets_offset-place.result (vec_capacity c.args.bytes.now) c.piece_len-added.result
-    c.deref.ensures.value c.deref-2.ensures.value c.start_of-start.ensures c.start_of.ensures c.offsets_offset-place.ensures c.piece_len-added.ensures r.room in
-    let l0 = l.removed_is in let l1 = l.ordered in let l2 = l.fits in let l3 = l.in_table in let l4 = l.head in let l5 = l.room_for in let l6 = l.added_fits in let l7 = l.kept in let l8 = l.wanted in let l9 = l.grows in
+    let l = lengths_of b r.image c.args.old.now r.old c.args.index r.index t c.args.new.now r.new r.small c.deref.result.now c.deref-2.result.now c.start_of-start.result c.start_of.result c.offsets_offset-begin.result (vec_capacity c.args.bytes.now) c.piece_len-added.result
+    c.deref.ensures.value c.deref-2.ensures.value c.start_of-start.ensures c.start_of.ensures c.offsets_offset-begin.ensures c.piece_len-added.ensures r.room in
+    let l0 = l.removed_is in let l1 = l.ordered in let l2 = l.fits in let l3 = l.in_table in let l4 = l.head in let l5 = l.room_for in let l6 = l.added_fits in let l7 = l.written in let l8 = l.wanted in let l9 = l.grows in
     omega arith
 
 pub replace_text-requires-clause-within : goal.replace_text-requires-clause-within
@@ -47,9 +47,9 @@ replace_text-requires-clause-within c =
     let b = c.args.bytes.now.items in
     let t = option_map (λ (x : Bor (List ℕ)). x.now) c.args.text in
     let r = c.requires in
-    let l = lengths_of b r.image c.args.old.now r.old c.args.index r.index t c.args.new.now r.new r.small c.deref.result.now c.deref-2.result.now c.start_of-start.result c.start_of.result c.offsets_offset-place.result (vec_capacity c.args.bytes.now) c.piece_len-added.result
-    c.deref.ensures.value c.deref-2.ensures.value c.start_of-start.ensures c.start_of.ensures c.offsets_offset-place.ensures c.piece_len-added.ensures r.room in
-    let l0 = l.removed_is in let l1 = l.ordered in let l2 = l.fits in let l3 = l.in_table in let l4 = l.head in let l5 = l.room_for in let l6 = l.added_fits in let l7 = l.kept in let l8 = l.wanted in let l9 = l.grows in
+    let l = lengths_of b r.image c.args.old.now r.old c.args.index r.index t c.args.new.now r.new r.small c.deref.result.now c.deref-2.result.now c.start_of-start.result c.start_of.result c.offsets_offset-begin.result (vec_capacity c.args.bytes.now) c.piece_len-added.result
+    c.deref.ensures.value c.deref-2.ensures.value c.start_of-start.ensures c.start_of.ensures c.offsets_offset-begin.ensures c.piece_len-added.ensures r.room in
+    let l0 = l.removed_is in let l1 = l.ordered in let l2 = l.fits in let l3 = l.in_table in let l4 = l.head in let l5 = l.room_for in let l6 = l.added_fits in let l7 = l.written in let l8 = l.wanted in let l9 = l.grows in
     omega arith
 
 pub replace_text-requires-clause-room : goal.replace_text-requires-clause-room
@@ -57,9 +57,9 @@ replace_text-requires-clause-room c =
     let b = c.args.bytes.now.items in
     let t = option_map (λ (x : Bor (List ℕ)). x.now) c.args.text in
     let r = c.requires in
-    let l = lengths_of b r.image c.args.old.now r.old c.args.index r.index t c.args.new.now r.new r.small c.deref.result.now c.deref-2.result.now c.start_of-start.result c.start_of.result c.offsets_offset-place.result (vec_capacity c.args.bytes.now) c.piece_len-added.result
-    c.deref.ensures.value c.deref-2.ensures.value c.start_of-start.ensures c.start_of.ensures c.offsets_offset-place.ensures c.piece_len-added.ensures r.room in
-    let l0 = l.removed_is in let l1 = l.ordered in let l2 = l.fits in let l3 = l.in_table in let l4 = l.head in let l5 = l.room_for in let l6 = l.added_fits in let l7 = l.kept in let l8 = l.wanted in let l9 = l.grows in
+    let l = lengths_of b r.image c.args.old.now r.old c.args.index r.index t c.args.new.now r.new r.small c.deref.result.now c.deref-2.result.now c.start_of-start.result c.start_of.result c.offsets_offset-begin.result (vec_capacity c.args.bytes.now) c.piece_len-added.result
+    c.deref.ensures.value c.deref-2.ensures.value c.start_of-start.ensures c.start_of.ensures c.offsets_offset-begin.ensures c.piece_len-added.ensures r.room in
+    let l0 = l.removed_is in let l1 = l.ordered in let l2 = l.fits in let l3 = l.in_table in let l4 = l.head in let l5 = l.room_for in let l6 = l.added_fits in let l7 = l.written in let l8 = l.wanted in let l9 = l.grows in
     let a = c.piece_len-added.ensures in
     elim (gone_or_more b r.image c.args.old.now r.old c.args.index r.index t c.args.new.now r.new r.small) [
       | inl none ↦ omega arith
@@ -71,9 +71,9 @@ resize_part-requires-clause-within c =
     let b = c.args.bytes.now.items in
     let t = option_map (λ (x : Bor (List ℕ)). x.now) c.args.text in
     let r = c.requires in
-    let l = lengths_of b r.image c.args.old.now r.old c.args.index r.index t c.args.new.now r.new r.small c.deref.result.now c.deref-2.result.now c.start_of-start.result c.start_of.result c.offsets_offset-place.result (vec_capacity c.args.bytes.now) c.piece_len-added.result
-    c.deref.ensures.value c.deref-2.ensures.value c.start_of-start.ensures c.start_of.ensures c.offsets_offset-place.ensures c.piece_len-added.ensures r.room in
-    let l0 = l.removed_is in let l1 = l.ordered in let l2 = l.fits in let l3 = l.in_table in let l4 = l.head in let l5 = l.room_for in let l6 = l.added_fits in let l7 = l.kept in let l8 = l.wanted in let l9 = l.grows in
+    let l = lengths_of b r.image c.args.old.now r.old c.args.index r.index t c.args.new.now r.new r.small c.deref.result.now c.deref-2.result.now c.start_of-start.result c.start_of.result c.offsets_offset-begin.result (vec_capacity c.args.bytes.now) c.piece_len-added.result
+    c.deref.ensures.value c.deref-2.ensures.value c.start_of-start.ensures c.start_of.ensures c.offsets_offset-begin.ensures c.piece_len-added.ensures r.room in
+    let l0 = l.removed_is in let l1 = l.ordered in let l2 = l.fits in let l3 = l.in_table in let l4 = l.head in let l5 = l.room_for in let l6 = l.added_fits in let l7 = l.written in let l8 = l.wanted in let l9 = l.grows in
     let n1 = c.replace_text.ensures.len in
     let a = c.piece_len-added.ensures in
     omega arith
@@ -83,9 +83,9 @@ resize_part-requires-clause-room c =
     let b = c.args.bytes.now.items in
     let t = option_map (λ (x : Bor (List ℕ)). x.now) c.args.text in
     let r = c.requires in
-    let l = lengths_of b r.image c.args.old.now r.old c.args.index r.index t c.args.new.now r.new r.small c.deref.result.now c.deref-2.result.now c.start_of-start.result c.start_of.result c.offsets_offset-place.result (vec_capacity c.args.bytes.now) c.piece_len-added.result
-    c.deref.ensures.value c.deref-2.ensures.value c.start_of-start.ensures c.start_of.ensures c.offsets_offset-place.ensures c.piece_len-added.ensures r.room in
-    let l0 = l.removed_is in let l1 = l.ordered in let l2 = l.fits in let l3 = l.in_table in let l4 = l.head in let l5 = l.room_for in let l6 = l.added_fits in let l7 = l.kept in let l8 = l.wanted in let l9 = l.grows in
+    let l = lengths_of b r.image c.args.old.now r.old c.args.index r.index t c.args.new.now r.new r.small c.deref.result.now c.deref-2.result.now c.start_of-start.result c.start_of.result c.offsets_offset-begin.result (vec_capacity c.args.bytes.now) c.piece_len-added.result
+    c.deref.ensures.value c.deref-2.ensures.value c.start_of-start.ensures c.start_of.ensures c.offsets_offset-begin.ensures c.piece_len-added.ensures r.room in
+    let l0 = l.removed_is in let l1 = l.ordered in let l2 = l.fits in let l3 = l.in_table in let l4 = l.head in let l5 = l.room_for in let l6 = l.added_fits in let l7 = l.written in let l8 = l.wanted in let l9 = l.grows in
     let n1 = c.replace_text.ensures.len in
     let a = c.piece_len-added.ensures in
     let n0 = c.replace_text.ensures.capacity in
@@ -96,9 +96,9 @@ put_offset-requires c =
     let b = c.args.bytes.now.items in
     let t = option_map (λ (x : Bor (List ℕ)). x.now) c.args.text in
     let r = c.requires in
-    let l = lengths_of b r.image c.args.old.now r.old c.args.index r.index t c.args.new.now r.new r.small c.deref.result.now c.deref-2.result.now c.start_of-start.result c.start_of.result c.offsets_offset-place.result (vec_capacity c.args.bytes.now) c.piece_len-added.result
-    c.deref.ensures.value c.deref-2.ensures.value c.start_of-start.ensures c.start_of.ensures c.offsets_offset-place.ensures c.piece_len-added.ensures r.room in
-    let l0 = l.removed_is in let l1 = l.ordered in let l2 = l.fits in let l3 = l.in_table in let l4 = l.head in let l5 = l.room_for in let l6 = l.added_fits in let l7 = l.kept in let l8 = l.wanted in let l9 = l.grows in
+    let l = lengths_of b r.image c.args.old.now r.old c.args.index r.index t c.args.new.now r.new r.small c.deref.result.now c.deref-2.result.now c.start_of-start.result c.start_of.result c.offsets_offset-begin.result (vec_capacity c.args.bytes.now) c.piece_len-added.result
+    c.deref.ensures.value c.deref-2.ensures.value c.start_of-start.ensures c.start_of.ensures c.offsets_offset-begin.ensures c.piece_len-added.ensures r.room in
+    let l0 = l.removed_is in let l1 = l.ordered in let l2 = l.fits in let l3 = l.in_table in let l4 = l.head in let l5 = l.room_for in let l6 = l.added_fits in let l7 = l.written in let l8 = l.wanted in let l9 = l.grows in
     let n1 = c.replace_text.ensures.len in
     let a = c.piece_len-added.ensures in
     let n2 = c.resize_part.ensures.len in
@@ -109,9 +109,9 @@ move_later-requires-clause-within c =
     let b = c.args.bytes.now.items in
     let t = option_map (λ (x : Bor (List ℕ)). x.now) c.args.text in
     let r = c.requires in
-    let l = lengths_of b r.image c.args.old.now r.old c.args.index r.index t c.args.new.now r.new r.small c.deref.result.now c.deref-2.result.now c.start_of-start.result c.start_of.result c.offsets_offset-place.result (vec_capacity c.args.bytes.now) c.piece_len-added.result
-    c.deref.ensures.value c.deref-2.ensures.value c.start_of-start.ensures c.start_of.ensures c.offsets_offset-place.ensures c.piece_len-added.ensures r.room in
-    let l0 = l.removed_is in let l1 = l.ordered in let l2 = l.fits in let l3 = l.in_table in let l4 = l.head in let l5 = l.room_for in let l6 = l.added_fits in let l7 = l.kept in let l8 = l.wanted in let l9 = l.grows in
+    let l = lengths_of b r.image c.args.old.now r.old c.args.index r.index t c.args.new.now r.new r.small c.deref.result.now c.deref-2.result.now c.start_of-start.result c.start_of.result c.offsets_offset-begin.result (vec_capacity c.args.bytes.now) c.piece_len-added.result
+    c.deref.ensures.value c.deref-2.ensures.value c.start_of-start.ensures c.start_of.ensures c.offsets_offset-begin.ensures c.piece_len-added.ensures r.room in
+    let l0 = l.removed_is in let l1 = l.ordered in let l2 = l.fits in let l3 = l.in_table in let l4 = l.head in let l5 = l.room_for in let l6 = l.added_fits in let l7 = l.written in let l8 = l.wanted in let l9 = l.grows in
     let n1 = c.replace_text.ensures.len in
     let a = c.piece_len-added.ensures in
     let n2 = c.resize_part.ensures.len in
@@ -123,9 +123,9 @@ move_later-requires-clause-added c =
     let b = c.args.bytes.now.items in
     let t = option_map (λ (x : Bor (List ℕ)). x.now) c.args.text in
     let r = c.requires in
-    let l = lengths_of b r.image c.args.old.now r.old c.args.index r.index t c.args.new.now r.new r.small c.deref.result.now c.deref-2.result.now c.start_of-start.result c.start_of.result c.offsets_offset-place.result (vec_capacity c.args.bytes.now) c.piece_len-added.result
-    c.deref.ensures.value c.deref-2.ensures.value c.start_of-start.ensures c.start_of.ensures c.offsets_offset-place.ensures c.piece_len-added.ensures r.room in
-    let l0 = l.removed_is in let l1 = l.ordered in let l2 = l.fits in let l3 = l.in_table in let l4 = l.head in let l5 = l.room_for in let l6 = l.added_fits in let l7 = l.kept in let l8 = l.wanted in let l9 = l.grows in
+    let l = lengths_of b r.image c.args.old.now r.old c.args.index r.index t c.args.new.now r.new r.small c.deref.result.now c.deref-2.result.now c.start_of-start.result c.start_of.result c.offsets_offset-begin.result (vec_capacity c.args.bytes.now) c.piece_len-added.result
+    c.deref.ensures.value c.deref-2.ensures.value c.start_of-start.ensures c.start_of.ensures c.offsets_offset-begin.ensures c.piece_len-added.ensures r.room in
+    let l0 = l.removed_is in let l1 = l.ordered in let l2 = l.fits in let l3 = l.in_table in let l4 = l.head in let l5 = l.room_for in let l6 = l.added_fits in let l7 = l.written in let l8 = l.wanted in let l9 = l.grows in
     omega arith
 
 pub write_header-requires : goal.write_header-requires
@@ -133,9 +133,9 @@ write_header-requires c =
     let b = c.args.bytes.now.items in
     let t = option_map (λ (x : Bor (List ℕ)). x.now) c.args.text in
     let r = c.requires in
-    let l = lengths_of b r.image c.args.old.now r.old c.args.index r.index t c.args.new.now r.new r.small c.deref.result.now c.deref-2.result.now c.start_of-start.result c.start_of.result c.offsets_offset-place.result (vec_capacity c.args.bytes.now) c.piece_len-added.result
-    c.deref.ensures.value c.deref-2.ensures.value c.start_of-start.ensures c.start_of.ensures c.offsets_offset-place.ensures c.piece_len-added.ensures r.room in
-    let l0 = l.removed_is in let l1 = l.ordered in let l2 = l.fits in let l3 = l.in_table in let l4 = l.head in let l5 = l.room_for in let l6 = l.added_fits in let l7 = l.kept in let l8 = l.wanted in let l9 = l.grows in
+    let l = lengths_of b r.image c.args.old.now r.old c.args.index r.index t c.args.new.now r.new r.small c.deref.result.now c.deref-2.result.now c.start_of-start.result c.start_of.result c.offsets_offset-begin.result (vec_capacity c.args.bytes.now) c.piece_len-added.result
+    c.deref.ensures.value c.deref-2.ensures.value c.start_of-start.ensures c.start_of.ensures c.offsets_offset-begin.ensures c.piece_len-added.ensures r.room in
+    let l0 = l.removed_is in let l1 = l.ordered in let l2 = l.fits in let l3 = l.in_table in let l4 = l.head in let l5 = l.room_for in let l6 = l.added_fits in let l7 = l.written in let l8 = l.wanted in let l9 = l.grows in
     let n1 = c.replace_text.ensures.len in
     let a = c.piece_len-added.ensures in
     let n2 = c.resize_part.ensures.len in
@@ -155,11 +155,11 @@ returns c =
     let g = with_content d (capability Text i) (text_content t) in
     let rest = texts_below g (written_count g Text) in
     let front = head_of (names_in b) d ++ middle (names_in b) d in
-    let place = c.offsets_offset-place.result in
+    let place = c.offsets_offset-begin.result in
     let removed = c.start_of.result - c.start_of-start.result in
     let start : c.start_of-start.result ≡ length (texts_below d i) = c.start_of-start.ensures ∙ ap (λ z. length (texts_below (contents_in z) i)) c.deref.ensures.value in
     let gone = removed_found b r.image h r.old i r.index t k r.new r.small c.deref.result.now c.deref-2.result.now c.start_of-start.result c.start_of.result c.deref.ensures.value c.deref-2.ensures.value c.start_of-start.ensures c.start_of.ensures in
-    let ep = c.offsets_offset-place.ensures in
+    let ep = c.offsets_offset-begin.ensures in
     let at : c.strings_offset.result + c.start_of-start.result ≡ place + 2 * h.texts + c.start_of-start.result = ap (λ x. x + c.start_of-start.result) (c.strings_offset.ensures ∙ ap (λ x. x + 2 * h.texts) (sym ep)) in
     let f : ℕ → ℕ = λ j. if j == i then offset_of g i else offset_of d j in
     let one = table_changed b r.image h r.old i r.index t c.replace_text.new.bytes.items place (c.strings_offset.result + c.start_of-start.result) c.start_of-start.result removed ep at start gone c.replace_text.ensures.part in

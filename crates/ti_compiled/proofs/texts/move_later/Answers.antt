@@ -14,20 +14,20 @@ pub loop-at-preserved : goal.loop-at-preserved
 loop-at-preserved c =
     let a = c.args in
     let low = c.loop-at.auto.at in
-    let read : c.word-offset.result ≡ word_at (a.place + 2 * c.loop-at.at) c.loop-at.bytes.items = c.word-offset.ensures.value ∙ ap (word_at (a.place + 2 * c.loop-at.at)) c.deref.ensures.value in
+    let read : c.word-offset.result ≡ word_at (a.begin + 2 * c.loop-at.at) c.loop-at.bytes.items = c.word-offset.ensures.value ∙ ap (word_at (a.begin + 2 * c.loop-at.at)) c.deref.ensures.value in
     elim c.if-offset-ne-ABSENT_WORD.branch [
       | then-offset-ne-ABSENT_WORD w ↦ record {
         len = rw w.bytes-is (w.overwrite.ensures.len ∙ c.loop-at.invariant.len);
-        so_far = rw w.bytes-is (moved_over a.bytes.now.items a.place a.from a.to a.removed a.added c.loop-at.bytes.items c.loop-at.at c.word-offset.result low c.loop-at-test.true c.loop-at.invariant.so_far read
+        so_far = rw w.bytes-is (moved_over a.bytes.now.items a.begin a.from a.to a.removed a.added c.loop-at.bytes.items c.loop-at.at c.word-offset.result low c.loop-at-test.true c.loop-at.invariant.so_far read
             _ w.saturating_sub-moved.result w.if-offset-ne-ABSENT_WORD.true w.saturating_sub-moved.ensures (as_word _ _ _ _ _ w.word_bytes.ensures w.overwrite.ensures.part));
       }
       | else-offset-ne-ABSENT_WORD w ↦ record {
         len = rw w.bytes-is c.loop-at.invariant.len;
-        so_far = rw w.bytes-is (moved_past a.bytes.now.items a.place a.from a.to a.removed a.added c.loop-at.bytes.items c.loop-at.at c.word-offset.result low c.loop-at-test.true c.loop-at.invariant.so_far read w.if-offset-ne-ABSENT_WORD.false);
+        so_far = rw w.bytes-is (moved_past a.bytes.now.items a.begin a.from a.to a.removed a.added c.loop-at.bytes.items c.loop-at.at c.word-offset.result low c.loop-at-test.true c.loop-at.invariant.so_far read w.if-offset-ne-ABSENT_WORD.false);
       }
     ]
 
 pub returns-clause-moved : goal.returns-clause-moved
 returns-clause-moved c =
     let a = c.args in
-    moved_end a.bytes.now.items a.place a.from a.to a.removed a.added c.loop-at.bytes.items c.loop-at.at c.loop-at.auto.at c.loop-at-test.false c.loop-at.invariant.so_far
+    moved_end a.bytes.now.items a.begin a.from a.to a.removed a.added c.loop-at.bytes.items c.loop-at.at c.loop-at.auto.at c.loop-at-test.false c.loop-at.invariant.so_far

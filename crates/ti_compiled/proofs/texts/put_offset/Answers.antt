@@ -14,7 +14,7 @@ beyond i n j e lt le = omega arith
 
 pub returns-then-index-count-clause-put : goal.returns-then-index-count-clause-put
 returns-then-index-count-clause-put c = λ p r f g whole long here others.
-    place-set Legacy p r c.args.place long c.args.bytes.now.items c.overwrite.new.bytes.items f g c.args.count c.args.index c.args.offset c.if-index-count.true (here c.if-index-count.true) others whole
+    place-set Legacy p r c.args.begin long c.args.bytes.now.items c.overwrite.new.bytes.items f g c.args.count c.args.index c.args.offset c.if-index-count.true (here c.if-index-count.true) others whole
     (as_word _ _ _ _ _ c.word_bytes.ensures c.overwrite.ensures.part)
 
 pub returns-else-index-count-clause-put : goal.returns-else-index-count-clause-put

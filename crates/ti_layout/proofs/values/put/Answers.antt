@@ -3,14 +3,14 @@ use Rattle.std.proofs.Common.{◌≡◌, true, subst}
 use Rattle.std.specs.Option.{is_some}
 use Rattle.ti_layout.specs.inside.Values.{IsAt, IsGapFor}
 use Rattle.ti_layout.specs.Values.{entries_of}
-use Rattle.ti_layout.proofs.KeptEntries.{contents_nowhere}
-use Rattle.ti_layout.proofs.Places.{nowhere, kept-written, sets-written, kept-placed, sets-placed}
+use Rattle.ti_layout.proofs.SortedEntries.{contents_nowhere}
+use Rattle.ti_layout.proofs.Places.{nowhere, sorted-written, sets-written, sorted-placed, sets-placed}
 use Rattle.ti_layout.proofs.values.put.Goals as goal
 
 pub returns-in-Ok-clause-kept : goal.returns-in-Ok-clause-kept
 returns-in-Ok-clause-kept c =
     let at = subst (λ xs. IsAt (entries_of xs) c.args.cap c.in-Ok.at) c.deref.ensures.value c.in-Ok.ensures.found in
-    kept-written _ c.requires.kept _ _ _ c.place.ensures.valid c.requires.agrees at
+    sorted-written _ c.requires.kept _ _ _ c.place.ensures.valid c.requires.agrees at
 
 pub returns-in-Ok-clause-ok : goal.returns-in-Ok-clause-ok
 returns-in-Ok-clause-ok c =
@@ -20,7 +20,7 @@ returns-in-Ok-clause-ok c =
 pub returns-in_ok-insert-in-Err-clause-kept : goal.returns-in_ok-insert-in-Err-clause-kept
 returns-in_ok-insert-in-Err-clause-kept c =
     let gap = subst (λ xs. IsGapFor (entries_of xs) c.args.cap c.in-Err.at) c.deref.ensures.value c.in-Err.ensures.absent in
-    rw c.in_ok-insert-in-Err.ensures.items (kept-placed _ c.requires.kept _ _ _ c.place.ensures.valid c.requires.agrees gap)
+    rw c.in_ok-insert-in-Err.ensures.items (sorted-placed _ c.requires.kept _ _ _ c.place.ensures.valid c.requires.agrees gap)
 
 pub returns-in_ok-insert-in-Err-clause-ok : goal.returns-in_ok-insert-in-Err-clause-ok
 returns-in_ok-insert-in-Err-clause-ok c =

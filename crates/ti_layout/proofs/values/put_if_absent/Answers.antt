@@ -4,8 +4,8 @@ use Rattle.std.specs.Option.{is_some}
 use Rattle.ti_layout.specs.inside.Values.{IsAt, IsGapFor}
 use Rattle.ti_layout.specs.Values.{content_of, entries_of}
 use Rattle.ti_layout.proofs.Absent.{added_in_gap, added_behind}
-use Rattle.ti_layout.proofs.KeptEntries.{contents_nowhere}
-use Rattle.ti_layout.proofs.Places.{nowhere, content_here, kept-placed, sets-placed}
+use Rattle.ti_layout.proofs.SortedEntries.{contents_nowhere}
+use Rattle.ti_layout.proofs.Places.{nowhere, content_here, sorted-placed, sets-placed}
 use Rattle.ti_layout.proofs.values.put_if_absent.Goals as goal
 
 pub returns-in-Ok-clause-ok : goal.returns-in-Ok-clause-ok
@@ -16,7 +16,7 @@ returns-in-Ok-clause-ok c =
 pub returns-in_ok-insert-in-Err-clause-kept : goal.returns-in_ok-insert-in-Err-clause-kept
 returns-in_ok-insert-in-Err-clause-kept c =
     let gap = subst (λ xs. IsGapFor (entries_of xs) c.args.cap c.in-Err.at) c.deref.ensures.value c.in-Err.ensures.absent in
-    rw c.in_ok-insert-in-Err.ensures.items (kept-placed _ c.requires.kept _ _ _ c.place.ensures.valid c.requires.agrees gap)
+    rw c.in_ok-insert-in-Err.ensures.items (sorted-placed _ c.requires.kept _ _ _ c.place.ensures.valid c.requires.agrees gap)
 
 pub returns-in_ok-insert-in-Err-clause-ok : goal.returns-in_ok-insert-in-Err-clause-ok
 returns-in_ok-insert-in-Err-clause-ok c =

@@ -2,13 +2,13 @@
 use Rattle.std.proofs.Common.{subst}
 use Rattle.ti_layout.specs.inside.Values.{IsAt, IsGapFor}
 use Rattle.ti_layout.specs.Values.{entries_of}
-use Rattle.ti_layout.proofs.Places.{kept-taken, sets-taken, sets-nothing}
+use Rattle.ti_layout.proofs.Places.{sorted-taken, sets-taken, sets-nothing}
 use Rattle.ti_layout.proofs.values.take_out.Goals as goal
 
 pub returns-in-Ok-clause-kept : goal.returns-in-Ok-clause-kept
 returns-in-Ok-clause-kept c =
     let at = subst (λ xs. IsAt (entries_of xs) c.args.cap c.in-Ok.at) c.deref.ensures.value c.in-Ok.ensures.found in
-    rw c.remove.ensures.items (kept-taken _ c.requires _ _ at)
+    rw c.remove.ensures.items (sorted-taken _ c.requires _ _ at)
 
 pub returns-in-Ok-clause-gone : goal.returns-in-Ok-clause-gone
 returns-in-Ok-clause-gone c =

@@ -15,11 +15,11 @@ overflow_sub-index c = behind _ c.requires _ _ _ c.loop-entry-test.true c.entry-
 pub loop-entry-preserved : goal.loop-entry-preserved
 loop-entry-preserved c = elim c.match-entry.branch [
   | in-True+in_ok-push_fill+in_ok-push w ↦
-      subst (λ im. HasFlags _ _ im.items _ _) (sym w.image-is) (flag_put _ c.requires _ _ _ c.loop-entry-test.true c.entry-item.is _ _ _ _ _ _ _ w.index.ensures.value w.index-places.ensures.value w.places-is w.in-True.is c.loop-entry.invariant w.in_ok-push_fill.ensures w.in_ok-push.ensures.items)
+      subst (λ im. HasFlags _ _ im.items _ _) (sym w.image-is) (flag_put _ c.requires _ _ _ c.loop-entry-test.true c.entry-item.is _ _ _ _ _ _ _ w.index.ensures.value w.index-written.ensures.value w.written-is w.in-True.is c.loop-entry.invariant w.in_ok-push_fill.ensures w.in_ok-push.ensures.items)
   | in_default w ↦
       record {
-        walked = passed _ c.requires _ _ _ c.loop-entry-test.true c.entry-item.is Flag _ c.loop-entry.invariant.walked (no_flag _ w.in_default.not-True) w.places-is;
-        so_far = rw (w.image-is, w.places-is) c.loop-entry.invariant.so_far;
+        walked = passed _ c.requires _ _ _ c.loop-entry-test.true c.entry-item.is Flag _ c.loop-entry.invariant.walked (no_flag _ w.in_default.not-True) w.written-is;
+        so_far = rw (w.image-is, w.written-is) c.loop-entry.invariant.so_far;
       }
 ]
 

@@ -4,7 +4,7 @@ use Rattle.ti_layout.specs.Values.{contents}
 use Rattle.ti_compiled.specs.Image.{NamedTable, bytes_of}
 use Rattle.ti_compiled.specs.inside.Image.{names_in}
 use Rattle.ti_compiled.proofs.Rooms.{image_again}
-use Rattle.ti_compiled.proofs.Kept.{IsWrittenAs, written_as}
+use Rattle.ti_compiled.proofs.ReadAgain.{IsWrittenAs, written_as}
 use Rattle.ti_compiled.proofs.image.Image.patch.Goals as goal
 use Rattle.ti_compiled.proofs.image.Image.patch.Goals.{After-is_within_limit, After-new}
 

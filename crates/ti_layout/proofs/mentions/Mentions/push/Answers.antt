@@ -4,7 +4,7 @@ use Rattle.ti_caps.specs.Tables.{Capability, same_capability}
 use Rattle.ti_layout.specs.Values.{Agrees, TableEntry, contents, content_of, entries_of}
 use Rattle.ti_layout.specs.declared.values.Value.{Value}
 use Rattle.ti_layout.specs.inside.Mentions.{recent_max}
-use Rattle.ti_layout.proofs.KeptEntries.{err_is}
+use Rattle.ti_layout.proofs.SortedEntries.{err_is}
 use Rattle.ti_layout.proofs.Fronts.{contents-append}
 use Rattle.ti_layout.proofs.FirstMentions.{added_all, added_more, agree_more, one_longer}
 use Rattle.ti_layout.proofs.mentions.Mentions.push.Goals as goal

@@ -1,6 +1,6 @@
 use Rattle.std.proofs.Common.{List, subst}
 use Rattle.ti_layout.specs.Values.{TableEntry, IsSorted}
-use Rattle.ti_layout.proofs.KeptEntries.{agree_all}
+use Rattle.ti_layout.proofs.SortedEntries.{agree_all}
 use Rattle.ti_layout.proofs.values.Table.values_agree.Goals as goal
 
 pub returns : goal.returns
