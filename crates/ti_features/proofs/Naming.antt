@@ -2,16 +2,19 @@
 use Rattle.std.proofs.Common.{◌≡◌, ℕ, ◌+◌, ◌<◌, List, ◌++◌, drop, length, map, sym, ap, ◌∙◌, add-one}
 use Rattle.std.proofs.lemmas.List.{append_assoc, map-append}
 use Rattle.ti_meaning.specs.Report.{shown_detail}
-use Rattle.ti_features.specs.Completions.{names_from, own_names}
+use Rattle.ti_source.specs.Parsing.{reading_of_text}
+use Rattle.ti_meaning.specs.OwnNames.{own_names}
+use Rattle.ti_meaning.specs.Owner.{readings}
+use Rattle.ti_features.specs.Completions.{names_from}
 use Rattle.ti_document.specs.Diagnostics.{text_at}
 use Rattle.ti_features.proofs.Outlines.{blocks_more}
 
 -- those of one more block
 pub names_next : (blocks before now : List (List ℕ)) (at : ℕ) (whole : List (List ℕ)) → at < length blocks
-    → before ++ map shown_detail (names_from blocks at (drop at blocks)) ≡ whole → now ≡ before ++ map shown_detail (own_names blocks at (text_at blocks at))
+    → before ++ map shown_detail (names_from blocks at (drop at blocks)) ≡ whole → now ≡ before ++ map shown_detail (own_names (readings blocks) at (reading_of_text (text_at blocks at)).names)
     → now ++ map shown_detail (names_from blocks (at + 1) (drop (at + 1) blocks)) ≡ whole
 names_next blocks before now at whole within so e =
-    let own = own_names blocks at (text_at blocks at) in
+    let own = own_names (readings blocks) at (reading_of_text (text_at blocks at)).names in
     let rest = names_from blocks (at + 1) (drop (at + 1) blocks) in
     ap (λ (t : List (List ℕ)). t ++ map shown_detail rest) e ∙ append_assoc before (map shown_detail own) (map shown_detail rest)
     ∙ ap (λ (t : List (List ℕ)). before ++ t) (sym (map-append shown_detail own rest))

@@ -10,11 +10,12 @@ use Rattle.std.proofs.Math.Dec.{eqb-suc-suc, eqb-zero-suc}
 use Rattle.std.proofs.lemmas.Slice.Eq.{bytes_eq-Decides}
 use Rattle.ti_source.specs.Parsing.{reading_of_text}
 use Rattle.ti_source.specs.Reading.{Reading}
+use Rattle.ti_meaning.specs.OwnNames.{own_names}
 use Rattle.ti_meaning.specs.Faults.{distinct_after}
 use Rattle.ti_meaning.specs.ItemLaws.{DistinctHasEachOnce, IsDistinctOf}
 use Rattle.ti_meaning.specs.Owner.{is_among, is_owner, owner, readings}
 use Rattle.ti_meaning.proofs.Exchanging.{list_any-append}
-use Rattle.ti_features.specs.Completions.{NamesAreOfferedOnce, lookup_names, names_from, own_names}
+use Rattle.ti_features.specs.Completions.{NamesAreOfferedOnce, lookup_names, names_from}
 
 -- ---- each of some names once
 
@@ -78,7 +79,7 @@ is_first (f ∷ front) block rest n e =
 -- ---- the names of all blocks
 
 own_once : (front : List (List ℕ)) (block : List ℕ) (rest : List (List ℕ))
-    → own_names (front ++ block ∷ rest) (length front) block ≡ distinct_after (lookup_names front) (reading_of_text block).names
+    → own_names (readings (front ++ block ∷ rest)) (length front) (reading_of_text block).names ≡ distinct_after (lookup_names front) (reading_of_text block).names
 own_once front block rest =
     let names = (reading_of_text block).names in
     let cut = map-append reading_of_text front (block ∷ rest) in

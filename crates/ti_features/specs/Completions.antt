@@ -1,12 +1,12 @@
 -- What an editor offers to complete a word with (own; Language Server Protocol 3.17, "Completion
 -- Request").
-use Rattle.std.specs.Prelude.{ℕ, suc, List, [], ◌∷◌, ◌++◌, filter, flat_map, map, Option, option_and_then, option_map, if◌then◌else◌}
+use Rattle.std.specs.Prelude.{ℕ, suc, List, [], ◌∷◌, ◌++◌, flat_map, map, Option, option_and_then, option_map, if◌then◌else◌}
 use Rattle.std.specs.String.{string_bytes}
 use Rattle.ti_source.specs.Parsing.{reading_of_text}
 use Rattle.ti_source.specs.Reading.{Reading}
-use Rattle.ti_meaning.specs.Faults.{distinct}
 use Rattle.ti_meaning.specs.ItemLaws.{IsDistinctOf}
-use Rattle.ti_meaning.specs.Owner.{is_owner, readings}
+use Rattle.ti_meaning.specs.OwnNames.{own_names}
+use Rattle.ti_meaning.specs.Owner.{readings}
 use Rattle.ti_meaning.specs.Report.{shown_detail}
 use Rattle.ti_spans.specs.Words.{word_before}
 use Rattle.ti_spans.specs.declared.words.Word.{Word}
@@ -39,14 +39,10 @@ offers_seen (offers.Names names) = offers_names (map string_bytes names.items)
 abbrev pub completion_seen : Completion → CompletionSeen
 completion_seen completion = record { range = completion.range; offers = offers_seen completion.offers }
 
--- the lookup names that the block at that position owns, each once
-abbrev pub own_names : List (List ℕ) → ℕ → List ℕ → List (List ℕ)
-own_names blocks at block = filter (λ name. is_owner (readings blocks) name at) (distinct (reading_of_text block).names)
-
--- those of these blocks, the first of which is at that position
+-- the lookup names that these blocks own, of which the first is at that position
 abbrev pub names_from : List (List ℕ) → ℕ → List (List ℕ) → List (List ℕ)
 names_from blocks at [] = []
-names_from blocks at (block ∷ rest) = own_names blocks at block ++ names_from blocks (suc at) rest
+names_from blocks at (block ∷ rest) = own_names (readings blocks) at (reading_of_text block).names ++ names_from blocks (suc at) rest
 
 -- the lookup names of all blocks, each once: where its owner is
 abbrev pub all_names : List (List ℕ) → List (List ℕ)

@@ -1,9 +1,12 @@
 //! What an editor offers to complete a word with.
 ghost use Rattle.std.specs.Prelude.{◌≡◌, ◌<◌, ◌≤◌, ◌+◌, ◌++◌, ◌^◌, IfOk, OnOk, length, map, option_map};
 ghost use Rattle.std.specs.String.{string_bytes};
+ghost use Rattle.ti_source.specs.Parsing.{reading_of_text};
+ghost use Rattle.ti_meaning.specs.OwnNames.{own_names};
+ghost use Rattle.ti_meaning.specs.Owner.{readings};
 ghost use Rattle.ti_meaning.specs.Report.{shown_detail};
 ghost use Rattle.ti_features.specs.Completions as spec;
-ghost use Rattle.ti_features.specs.Completions.{all_names, completion_at, completion_seen, offers_for, offers_seen, own_names};
+ghost use Rattle.ti_features.specs.Completions.{all_names, completion_at, completion_seen, offers_for, offers_seen};
 ghost use Rattle.ti_document.specs.Diagnostics.{text_at};
 
 use crate::names::is_owner;
@@ -42,7 +45,7 @@ fn push_names(
 ) -> Result<(), AllocError>
     requires { at < length database.now }
     ensures { OnOk result (map string_bytes names.new.items
-        ≡ map string_bytes names.old.items ++ map shown_detail (own_names database.now at (text_at database.now at))) }
+        ≡ map string_bytes names.old.items ++ map shown_detail (own_names (readings database.now) at (reading_of_text (text_at database.now at)).names)) }
 {
     let once = distinct_names(alloc, database.names(at))?;
     for name in &once {

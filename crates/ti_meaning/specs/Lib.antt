@@ -3,6 +3,7 @@ pub mod Expansion
 pub mod Reaching
 pub mod Compiled
 pub mod Faults
+pub mod OwnNames
 pub mod Report
 pub mod Edits
 pub mod ValueTables

@@ -1,18 +1,14 @@
 -- The files of compiled entries (term(5), "Storage location"): one for each lookup name that a
 -- block owns, below a directory named by the name's first byte.
-use Rattle.std.specs.Prelude.{ℕ, suc, List, [], ◌∷◌, ◌++◌, map, filter, Option, Some, None}
+use Rattle.std.specs.Prelude.{ℕ, suc, List, [], ◌∷◌, ◌++◌, map, Option, Some, None}
 use Rattle.ti_text.specs.Ascii as ascii
 use Rattle.ti_source.specs.Reading.{Reading}
 use Rattle.ti_source.specs.Parsing.{reading_of_text}
-use Rattle.ti_meaning.specs.Owner.{readings, is_owner}
-use Rattle.ti_meaning.specs.Faults.{distinct}
+use Rattle.ti_meaning.specs.Owner.{readings}
 use Rattle.ti_meaning.specs.Compiled.{compiled}
+use Rattle.ti_meaning.specs.OwnNames.{own_names}
 use Rattle.ti_devices.specs.Paths.{path_of}
 use Rattle.ti_devices.specs.Tree.{FileAt}
-
--- the names that belong to the block at that position, each once
-abbrev pub own_names : List Reading → ℕ → List (List ℕ) → List (List ℕ)
-own_names blocks at names = filter (λ name. is_owner blocks name at) (distinct names)
 
 -- a file of an entry for each of the names
 abbrev pub files_for : List ℕ → List ℕ → List (List ℕ) → List FileAt

@@ -1,9 +1,10 @@
 //! The files of a source's compiled entries.
 ghost use Rattle.std.specs.Prelude.{◌≡◌, ◌<◌, ◌++◌, ◌∷◌, [], List, ℕ, All, IfOk, OnOk, Some, length, map, slice_get};
 ghost use Rattle.std.specs.Rc.{rc_slice_items};
+ghost use Rattle.ti_meaning.specs.OwnNames.{own_names};
 ghost use Rattle.ti_meaning.specs.Owner.{readings, is_owner};
 ghost use Rattle.ti_tools.specs.inside.EntryFiles.{IsAsciiName};
-ghost use Rattle.ti_tools.specs.EntryFiles.{files_at, files_for, source_files, own_names};
+ghost use Rattle.ti_tools.specs.EntryFiles.{files_at, files_for, source_files};
 ghost use Rattle.ti_devices.specs.Paths.{path_of};
 ghost use Rattle.ti_devices.specs.Placing.{entries};
 
