@@ -83,7 +83,7 @@ read_at texts at text e = slice_get-map reading_of_text texts at ∙ ap (option_
 held_with : (b : Reading) (ms : List Mention) → is_too_large b ms ≡ false → entry_with b (Some ms) ≡ Held (holding (values ms) (length (image_of b ms)))
 held_with b ms small = ap (λ (v : Bool). cond v Faulty (Held (holding (values ms) (length (image_of b ms))))) small
 
-block_here : (texts : List (List ℕ)) (at : ℕ) → at < length texts → slice_get (readings texts) at ≡ Some (reading_of_text (get_or texts at []))
+pub block_here : (texts : List (List ℕ)) (at : ℕ) → at < length texts → slice_get (readings texts) at ≡ Some (reading_of_text (get_or texts at []))
 block_here texts at within = read_at texts at (get_or texts at []) (slice_get-get_or texts at [] within)
 
 pub no_entry : (texts : List (List ℕ)) (at : ℕ) → at < length texts → compiled texts at ≡ None → Faulty ≡ entry_of (readings texts) (slice_get (readings texts) at)

@@ -1,3 +1,5 @@
+pub mod Deciders
+pub mod Decisions
 pub mod EntriesHeld
 pub mod EntriesRead
 pub mod EntryParts

@@ -1,5 +1,5 @@
 -- What an editor tells of what a place is on (own; Language Server Protocol 3.17, "Hover Request").
-use Rattle.std.specs.Prelude.{ℕ, List, Option, option_and_then, option_map}
+use Rattle.std.specs.Prelude.{ℕ, List, map, Option, option_and_then, option_map}
 use Rattle.std.specs.Option.{option_or}
 use Rattle.std.specs.String.{string_bytes}
 use Rattle.ti_caps.specs.Tables.{Capability, capability_named}
@@ -10,6 +10,7 @@ use Rattle.ti_messages.specs.declared.places.Position.{Position}
 use Rattle.ti_messages.specs.declared.places.Range.{Range}
 use Rattle.ti_document.specs.Diagnostics.{text_at}
 use Rattle.ti_document.specs.Documents.{held}
+use Rattle.ti_features.specs.Deciding.{SourceSeen, source_seen, sources_named}
 use Rattle.ti_features.specs.Holdings.{entry_named}
 use Rattle.ti_features.specs.Meanings.{MeaningSeen, meaning_at, meaning_seen}
 use Rattle.ti_features.specs.Names.{name_of}
@@ -21,10 +22,10 @@ use Rattle.ti_features.specs.declared.hovers.Hover.{Hover}
 use Rattle.ti_features.specs.declared.spots.Spot.{Spot}
 
 -- what a place is on, as plain data: an item of a capability, with its text and what it means; or a
--- name, with what its owner's entry holds
+-- name, with what its owner's entry holds and the blocks that decide what it inherits
 pub data AboutSeen : Type 0 where
   about_item : Capability → List ℕ → MeaningSeen → AboutSeen
-  about_name : List ℕ → Entry → AboutSeen
+  about_name : List ℕ → Entry → List SourceSeen → AboutSeen
 
 -- what is told of a part of a source, as plain data
 pub record HoverSeen : Type 0 where
@@ -34,7 +35,7 @@ pub record HoverSeen : Type 0 where
 -- what holds its texts in memory, as plain data
 abbrev pub about_seen : About → AboutSeen
 about_seen (about.Item capability text meaning) = about_item capability (string_bytes text) (meaning_seen meaning)
-about_seen (about.Name name entry) = about_name (string_bytes name) entry
+about_seen (about.Name name entry sources) = about_name (string_bytes name) entry (map source_seen sources.items)
 
 -- what is told, if its texts are in memory, as plain data
 abbrev pub hover_seen : Hover → HoverSeen
@@ -44,7 +45,7 @@ hover_seen hover = record { range = hover.range; about = about_seen hover.about 
 abbrev pub name_told : List (List ℕ) → ℕ → List ℕ → TouchedSeen → HoverSeen
 name_told blocks line block touched = record {
   range = range_in line block touched.span;
-  about = about_name (shown_detail (name_of touched.subject)) (entry_named blocks (name_of touched.subject));
+  about = about_name (shown_detail (name_of touched.subject)) (entry_named blocks (name_of touched.subject)) (sources_named blocks (name_of touched.subject));
 }
 
 -- what is told of an item of a capability, which that offset is on

@@ -1,5 +1,6 @@
 -- The definitions that the contracts of this crate cite.
 pub mod Completions
+pub mod Deciding
 pub mod Holdings
 pub mod Hovers
 pub mod Meanings

@@ -40,8 +40,8 @@ pub enum Entry {
     Held(Holding),
 }
 
-// The capability of a kind at a place.
-fn cap_at(kind: Kind, index: usize) -> Cap
+/// The capability of a kind at a place.
+pub(crate) fn cap_at(kind: Kind, index: usize) -> Cap
     requires { index < count_of kind }
     ensures { result ≡ capability kind index }
 {

@@ -9,6 +9,7 @@ ghost use Rattle.ti_features.specs.Hovers.{hover_seen, item_told, name_told, tol
 ghost use Rattle.ti_features.specs.Names.{name_of};
 ghost use Rattle.ti_document.specs.Documents.{IsShortBlock};
 
+use crate::deciding::{Source, sources_named};
 use crate::holdings::{Entry, entry_named};
 use crate::meanings::{Meaning, meaning_at};
 use crate::spots::{range_in, spot_at};
@@ -37,6 +38,8 @@ pub enum About {
         name: String,
         /// What became of it.
         entry: Entry,
+        /// The blocks that decide what its owner's entry inherits, in the order of the source.
+        sources: Vec<Source>,
     },
 }
 
@@ -72,9 +75,11 @@ fn name_told(
     ensures { IfOk result (λ told. hover_seen told ≡ name_told database.now line block.now (touched_seen touched.now)) }
 {
     let name = name_of(&touched.subject);
+    let entry = entry_named(database, name);
     let about = About::Name {
         name: shown_detail(alloc, name)?,
-        entry: entry_named(database, name),
+        entry,
+        sources: sources_named(alloc, database, name, entry)?,
     };
     Ok(Hover {
         range: range_in(line, block, touched.span),

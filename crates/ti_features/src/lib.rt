@@ -4,6 +4,7 @@
 //! - `spots`: where the blocks of a document are, and where in one a place is
 //! - `names`: where the names of a document lead
 //! - `holdings`: what the entry of a block holds
+//! - `deciding`: which block decides what an entry has of a capability
 //! - `meanings`: what an item says, as it is read
 //! - `hovers`: what an editor tells of what a place is on
 //! - `completions`: what an editor offers to complete a word with
@@ -11,6 +12,7 @@
 #![tactic(auto)]
 
 mod completions;
+mod deciding;
 mod holdings;
 mod hovers;
 mod meanings;
@@ -19,6 +21,7 @@ mod spots;
 mod symbols;
 
 pub use completions::{Completion, Offers, completion_of, names_are_offered_once};
+pub use deciding::{Source, deciders_are_found, one_block_decides};
 pub use holdings::{Entry, Holding};
 pub use hovers::{About, Hover, hover_of};
 pub use meanings::Meaning;

@@ -106,7 +106,7 @@ fn is_wanted(told: &Hover, range: Range, wanted: Wanted) -> bool {
             && capability.kind() == kind
             && text.as_str() == written
             && is_read(meaning, reads),
-        (About::Name { name, entry }, Wanted::Name(named, found)) => name.as_str() == named
+        (About::Name { name, entry, .. }, Wanted::Name(named, found)) => name.as_str() == named
             && *entry == found,
         _ => false,
     };

@@ -1,6 +1,7 @@
 //! The worked rows of what an editor asks of documents, as tests; no code of the product.
 //!
 //! - `completions`: what completes the words of documents
+//! - `deciding`: the blocks that decide what an entry inherits
 //! - `hovers`: what is told of what places of documents are on
 //! - `names`: where the names of documents lead
 //! - `outlines`: the blocks of documents as their outlines show them
@@ -8,6 +9,8 @@
 
 #[cfg(test)]
 mod completions;
+#[cfg(test)]
+mod deciding;
 #[cfg(test)]
 mod hovers;
 #[cfg(test)]

@@ -1,10 +1,11 @@
 -- What is told of what a place is on, as a value of the protocol (LSP 3.17, "Hover"); the sentences
 -- are own.
-use Rattle.std.specs.Prelude.{ℕ, List, ◌++◌, Option, None, Some, codes}
+use Rattle.std.specs.Prelude.{ℕ, List, [], ◌∷◌, ◌++◌, Option, None, Some, codes}
 use Rattle.std.specs.Fmt.{decimal}
 use Rattle.serde_json.specs.Data.{Data, null}
 use Rattle.ti_caps.specs.Tables.{Capability, name_of}
 use Rattle.ti_messages.specs.Shapes.{hover_data}
+use Rattle.ti_features.specs.Deciding.{SourceSeen}
 use Rattle.ti_features.specs.Hovers.{AboutSeen, HoverSeen, about_item, about_name}
 use Rattle.ti_features.specs.Meanings.{MeaningSeen, means_cancelled, means_nothing, means_number, means_set, means_text}
 use Rattle.ti_features.specs.declared.holdings.Entry.{Entry}
@@ -62,10 +63,29 @@ lines_told c text meaning = item_told c text ++ codes "\n" ++ read_told meaning
 abbrev pub capability_told : Capability → List ℕ → MeaningSeen → List ℕ
 capability_told c text meaning = head_told c ++ codes "\n" ++ lines_told c text meaning
 
+-- the names of capabilities, each after a comma
+abbrev pub more_told : List Capability → List ℕ
+more_told [] = []
+more_told (c ∷ cs) = codes ", " ++ name_of c ++ more_told cs
+
+-- the names of capabilities
+abbrev pub capabilities_told : List Capability → List ℕ
+capabilities_told [] = []
+capabilities_told (c ∷ cs) = name_of c ++ more_told cs
+
+-- a line with a block, and the capabilities that it decides
+abbrev pub source_told : SourceSeen → List ℕ
+source_told source = codes "\nFrom " ++ source.name ++ codes ": " ++ capabilities_told source.capabilities
+
+-- a line for each block
+abbrev pub sources_told : List SourceSeen → List ℕ
+sources_told [] = []
+sources_told (source ∷ sources) = source_told source ++ sources_told sources
+
 -- what a place is on
 abbrev pub about_told : AboutSeen → List ℕ
 about_told (about_item c text meaning) = capability_told c text meaning
-about_told (about_name name entry) = name ++ codes ": " ++ entry_told entry
+about_told (about_name name entry sources) = name ++ codes ": " ++ entry_told entry ++ sources_told sources
 
 -- what is told ("Hover"), or null
 abbrev pub hover_shown : Option HoverSeen → Data

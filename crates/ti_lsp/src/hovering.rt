@@ -1,19 +1,20 @@
 //! What is told of what a place is on, as a value of the protocol.
-ghost use Rattle.std.specs.Prelude.{◌≡◌, ◌++◌, IfOk, codes};
+ghost use Rattle.std.specs.Prelude.{◌≡◌, ◌++◌, IfOk, OnOk, codes, map};
 ghost use Rattle.std.specs.Fmt.{decimal};
 ghost use Rattle.std.specs.String.{string_bytes};
 ghost use Rattle.serde_json.specs.View.{view};
+ghost use Rattle.ti_features.specs.Deciding.{source_seen};
 ghost use Rattle.ti_features.specs.Hovers.{about_seen, hover_of};
 ghost use Rattle.ti_features.specs.Meanings.{meaning_seen};
 ghost use Rattle.ti_features.specs.declared.holdings.Entry.TheVariants.{Held};
-ghost use Rattle.ti_lsp.specs.Hovers.{about_told, capability_told, count_told, counts_told, entry_told, head_told, hover_shown, item_told, lines_told, meaning_told, others_told, read_told, size_told};
+ghost use Rattle.ti_lsp.specs.Hovers.{about_told, capabilities_told, capability_told, count_told, counts_told, entry_told, head_told, hover_shown, item_told, lines_told, meaning_told, more_told, others_told, read_told, size_told, source_told, sources_told};
 
 use serde_json::Value;
 use std::alloc::{AllocError, Global};
 use ti_caps::{Cap, name};
 use ti_descriptions::{detail_of, documentation_of};
 use ti_document::Document;
-use ti_features::{About, Entry, Holding, Meaning, hover_of};
+use ti_features::{About, Entry, Holding, Meaning, Source, hover_of};
 use ti_messages::Position;
 use ti_messages::answers::hover_value;
 
@@ -26,11 +27,11 @@ fn text_of(alloc: Global, words: &str) -> Result<String, AllocError>
     Ok(text)
 }
 
-// A line, and what comes after it.
-fn joined(alloc: Global, line: &str, rest: &str) -> Result<String, AllocError>
-    ensures { IfOk result (λ text. string_bytes text ≡ line.now ++ codes "\n" ++ rest.now) }
+// Two parts, and what is between them.
+fn joined(alloc: Global, first: &str, between: &str, rest: &str) -> Result<String, AllocError>
+    ensures { IfOk result (λ text. string_bytes text ≡ first.now ++ between.now ++ rest.now) }
 {
-    format!(in alloc; "{line}\n{rest}")
+    format!(in alloc; "{first}{between}{rest}")
 }
 
 // How many bytes an entry takes.
@@ -38,20 +39,6 @@ fn size_told(alloc: Global, bytes: usize) -> Result<String, AllocError>
     ensures { IfOk result (λ text. string_bytes text ≡ size_told bytes) }
 {
     format!(in alloc; "an entry of {bytes} bytes")
-}
-
-// A word, and what is said of it.
-fn said_of(alloc: Global, word: &str, said: &str) -> Result<String, AllocError>
-    ensures { IfOk result (λ text. string_bytes text ≡ word.now ++ codes ": " ++ said.now) }
-{
-    format!(in alloc; "{word}: {said}")
-}
-
-// Two parts, one after the other.
-fn listed(alloc: Global, first: &str, rest: &str) -> Result<String, AllocError>
-    ensures { IfOk result (λ text. string_bytes text ≡ first.now ++ codes ", " ++ rest.now) }
-{
-    format!(in alloc; "{first}, {rest}")
 }
 
 // A number in decimal digits.
@@ -66,7 +53,7 @@ fn count_told(alloc: Global, word: &str, count: usize) -> Result<String, AllocEr
     ensures { IfOk result (λ text. string_bytes text ≡ count_told word.now count) }
 {
     let count = digits(alloc, count)?;
-    said_of(alloc, word, count.as_str())
+    joined(alloc, word, ": ", count.as_str())
 }
 
 // How many numbers and strings an entry has.
@@ -75,7 +62,7 @@ fn others_told(alloc: Global, holding: Holding) -> Result<String, AllocError>
 {
     let numbers = count_told(alloc, "numbers", holding.numbers)?;
     let texts = count_told(alloc, "strings", holding.texts)?;
-    listed(alloc, numbers.as_str(), texts.as_str())
+    joined(alloc, numbers.as_str(), ", ", texts.as_str())
 }
 
 // How many capabilities of each kind an entry has values of.
@@ -84,7 +71,7 @@ fn counts_told(alloc: Global, holding: Holding) -> Result<String, AllocError>
 {
     let flags = count_told(alloc, "Booleans", holding.flags)?;
     let others = others_told(alloc, holding)?;
-    listed(alloc, flags.as_str(), others.as_str())
+    joined(alloc, flags.as_str(), ", ", others.as_str())
 }
 
 // What an entry holds.
@@ -93,7 +80,7 @@ fn holding_told(alloc: Global, holding: Holding) -> Result<String, AllocError>
 {
     let size = size_told(alloc, holding.bytes)?;
     let counts = counts_told(alloc, holding)?;
-    joined(alloc, size.as_str(), counts.as_str())
+    joined(alloc, size.as_str(), "\n", counts.as_str())
 }
 
 // What an entry holds, or why there is none.
@@ -107,19 +94,12 @@ fn entry_told(alloc: Global, entry: Entry) -> Result<String, AllocError>
     }
 }
 
-// What is said of a capability, and the item as it is written.
-fn with_item(alloc: Global, said: &str, text: &str) -> Result<String, AllocError>
-    ensures { IfOk result (λ told. string_bytes told ≡ said.now ++ codes "\nWritten: " ++ text.now) }
-{
-    format!(in alloc; "{said}\nWritten: {text}")
-}
-
 // The name of a capability, and what it is.
 fn head_told(alloc: Global, capability: Cap) -> Result<String, AllocError>
     ensures { IfOk result (λ told. string_bytes told ≡ head_told capability) }
 {
     let detail = detail_of(alloc, capability)?;
-    said_of(alloc, name(capability), detail.as_str())
+    joined(alloc, name(capability), ": ", detail.as_str())
 }
 
 // What is said of a capability, and the item as it is written.
@@ -127,7 +107,7 @@ fn item_told(alloc: Global, capability: Cap, text: &str) -> Result<String, Alloc
     ensures { IfOk result (λ told. string_bytes told ≡ item_told capability text.now) }
 {
     let documentation = documentation_of(alloc, capability)?;
-    with_item(alloc, documentation.as_str(), text)
+    joined(alloc, documentation.as_str(), "\nWritten: ", text)
 }
 
 // What an item means.
@@ -148,7 +128,7 @@ fn read_told(alloc: Global, meaning: &Meaning) -> Result<String, AllocError>
     ensures { IfOk result (λ told. string_bytes told ≡ read_told (meaning_seen meaning.now)) }
 {
     let meaning = meaning_told(alloc, meaning)?;
-    said_of(alloc, "Read", meaning.as_str())
+    joined(alloc, "Read", ": ", meaning.as_str())
 }
 
 // What is said of a capability, and the item as it is written and as it is read.
@@ -162,7 +142,7 @@ fn lines_told(
 {
     let item = item_told(alloc, capability, text)?;
     let read = read_told(alloc, meaning)?;
-    joined(alloc, item.as_str(), read.as_str())
+    joined(alloc, item.as_str(), "\n", read.as_str())
 }
 
 // What a capability is, and the item as it is written and as it is read.
@@ -176,15 +156,66 @@ fn capability_told(
 {
     let head = head_told(alloc, capability)?;
     let lines = lines_told(alloc, capability, text, meaning)?;
-    joined(alloc, head.as_str(), lines.as_str())
+    joined(alloc, head.as_str(), "\n", lines.as_str())
 }
 
-// What became of a name.
-fn name_told(alloc: Global, name: &str, entry: Entry) -> Result<String, AllocError>
-    ensures { IfOk result (λ told. string_bytes told ≡ name.now ++ codes ": " ++ entry_told entry) }
+// Adds the names of capabilities, each after a comma.
+fn push_more(text: &mut String, capabilities: &[Cap]) -> Result<(), AllocError>
+    ensures { OnOk result (string_bytes text.new ≡ string_bytes text.old ++ more_told capabilities.now) }
+{
+    for capability in capabilities {
+        text.push_str(", ")?;
+        text.push_str(name(*capability))?;
+    }
+    Ok(())
+}
+
+// Adds the names of capabilities.
+fn push_capabilities(text: &mut String, capabilities: &[Cap]) -> Result<(), AllocError>
+    ensures { OnOk result (string_bytes text.new ≡ string_bytes text.old ++ capabilities_told capabilities.now) }
+{
+    match capabilities.split_first() {
+        None => Ok(()),
+        Some((first, more)) => {
+            text.push_str(name(*first))?;
+            push_more(text, more)
+        }
+    }
+}
+
+// Adds a line with a block, and the capabilities that it decides.
+fn push_source(text: &mut String, source: &Source) -> Result<(), AllocError>
+    ensures { OnOk result (string_bytes text.new ≡ string_bytes text.old ++ source_told (source_seen source.now)) }
+{
+    text.push_str("\nFrom ")?;
+    text.push_str(source.name.as_str())?;
+    text.push_str(": ")?;
+    push_capabilities(text, &source.capabilities)
+}
+
+// Adds a line for each block.
+fn push_sources(text: &mut String, sources: &[Source]) -> Result<(), AllocError>
+    ensures { OnOk result (string_bytes text.new ≡ string_bytes text.old ++ sources_told (map source_seen sources.now)) }
+{
+    for source in sources {
+        push_source(text, source)?;
+    }
+    Ok(())
+}
+
+// What became of a name, and the blocks that decide what its owner's entry inherits.
+fn name_told(
+    alloc: Global,
+    name: &str,
+    entry: Entry,
+    sources: &[Source],
+) -> Result<String, AllocError>
+    ensures { IfOk result (λ told. string_bytes told ≡ name.now ++ codes ": " ++ entry_told entry ++ sources_told (map source_seen sources.now)) }
 {
     let found = entry_told(alloc, entry)?;
-    said_of(alloc, name, found.as_str())
+    let mut told = joined(alloc, name, ": ", found.as_str())?;
+    push_sources(&mut told, sources)?;
+    Ok(told)
 }
 
 // What a place is on.
@@ -197,7 +228,11 @@ fn about_told(alloc: Global, about: &About) -> Result<String, AllocError>
             text,
             meaning,
         } => capability_told(alloc, *capability, text.as_str(), meaning),
-        About::Name { name, entry } => name_told(alloc, name.as_str(), *entry),
+        About::Name {
+            name,
+            entry,
+            sources,
+        } => name_told(alloc, name.as_str(), *entry, sources),
     }
 }
 

@@ -8,6 +8,7 @@ from .listing import written
 from .source import CANCEL, WHITE, ends_of_items, read
 from .texts import blocks_of, offset_of, refused_line, width
 
+REACH = 4096  # how many items may be on the way to the block that decides a capability
 STRUCT = 23  # of "SymbolKind"
 FIELD_ITEM, STRUCT_ITEM = 5, 22  # of "CompletionItemKind"
 WORDS = {FLAG: "boolean", NUMBER: "number", TEXT: "string"}
@@ -237,6 +238,38 @@ def completion_of(text, place):
     return {"isIncomplete": False, "items": items}
 
 
+def deciding(meaning, owner):
+    """For each block that counts for one: of each capability the block that decides it, and how far that is."""
+    found, todo = {}, [owner]
+    while todo:
+        at = todo[-1]
+        uses = [use for use in meaning.used[at] if use not in found]
+        todo.extend(uses)
+        if not uses:
+            todo.pop()
+            ways, next_use = {}, iter(meaning.used[at])
+            for passed, item in enumerate(meaning.blocks[at].items, 1):
+                said = found[next(next_use)] if item.cap is None else {item.cap: (at, 0)}
+                for cap, (by, more) in said.items():
+                    ways.setdefault(cap, (by, passed + more))
+            found[at] = ways
+    return found[owner]
+
+
+def sources_told(meaning, owner):
+    """The blocks that decide what an entry inherits, each with the capabilities that it decides."""
+    inherited = {}
+    for cap, (by, passed) in deciding(meaning, owner).items():
+        if by != owner and passed <= REACH and meaning.mentions[owner][cap] is not CANCEL:
+            inherited.setdefault(by, []).append(cap)
+    lines = ""
+    for by in sorted(inherited):
+        caps = sorted(inherited[by], key=lambda cap: (KINDS.index(cap[0]), cap[1]))
+        names = [NAMES_OF[kind][at].decode() for kind, at in caps]
+        lines += f"\nFrom {shown(meaning.blocks[by].names[0])}: {', '.join(names)}"
+    return lines
+
+
 def name_told(meaning, name):
     """What is told of a name."""
     owner = meaning.owners.get(name)
@@ -248,7 +281,7 @@ def name_told(meaning, name):
     held = [cap[0] for cap, value in mentions.items() if value is not CANCEL]
     flags, numbers, texts = (held.count(kind) for kind in KINDS)
     counts = f"Booleans: {flags}, numbers: {numbers}, strings: {texts}"
-    return f"{shown(name)}: an entry of {len(image)} bytes\n{counts}"
+    return f"{shown(name)}: an entry of {len(image)} bytes\n{counts}{sources_told(meaning, owner)}"
 
 
 def meaning_told(block, ordinal):
