@@ -1,5 +1,5 @@
 use Rattle.std.proofs.Common.{◌∙◌, sym}
-use Rattle.ti_lsp.proofs.Offers.{named_at}
+use Rattle.ti_lsp.proofs.Capabilities.{named_at}
 use Rattle.ti_lsp.proofs.offers.cap_at.Goals as goal
 
 pub unwrap-requires : goal.unwrap-requires

@@ -1,6 +1,6 @@
 use Rattle.std.proofs.Common.{ap, map}
 use Rattle.serde_json.specs.View.{view}
-use Rattle.ti_lsp.proofs.Offers.{items_of_all}
+use Rattle.ti_lsp.proofs.Capabilities.{items_of_all}
 use Rattle.ti_lsp.specs.Offers.{capability_item}
 use Rattle.ti_lsp.proofs.offers.capability_items.Goals as goal
 

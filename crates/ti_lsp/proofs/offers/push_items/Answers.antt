@@ -5,7 +5,7 @@ use Rattle.serde_json.specs.View.{view}
 use Rattle.ti_caps.proofs.NameOrder.{length-in_name_order}
 use Rattle.ti_caps.specs.NameOrder.{in_name_order}
 use Rattle.ti_caps.specs.Tables.{Capability}
-use Rattle.ti_lsp.proofs.Offers.{one_more}
+use Rattle.ti_lsp.proofs.Capabilities.{one_more}
 use Rattle.ti_lsp.specs.Offers.{capability_item}
 use Rattle.ti_lsp.proofs.offers.push_items.Goals as goal
 
