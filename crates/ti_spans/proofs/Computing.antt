@@ -130,9 +130,13 @@ same_breaks joining [] = refl
 same_breaks joining (x ∷ xs) =
     ap₂ (λ (out kept : List PlacedByte). cond (x.0 == 10 || (joining && is_white_space x.0)) out (x ∷ kept)) (same_breaks true xs) (same_breaks false xs)
 
+-- what is left of a text that is these lines
+pub left_of : (whole : List PlacedByte) (lines : List (List PlacedByte)) (text : List PlacedByte) → AreLines whole lines → Joins (kept_of lines) text
+    → text ≡ without_breaks false (without_comments false 10 whole)
+left_of whole lines text are joins = joins_so _ text joins ∙ same_breaks false (kept_of lines) ∙ ap (without_breaks false) (sym (lines_left false whole lines are))
+
 pub only_folded : (block : List ℕ) (text : List PlacedByte) → FoldsAt block text → text ≡ folded_of block
-only_folded block text f =
-    joins_so _ text f.joins ∙ same_breaks false (kept_of f.lines) ∙ ap (without_breaks false) (sym (lines_left false (bytes_at 0 block) f.lines f.are_lines))
+only_folded block text f = left_of (bytes_at 0 block) f.lines text f.are_lines f.joins
 
 -- of the bytes of the lines that are kept
 pub only_joined : (block : List ℕ) (kept text : List PlacedByte) → KeepsLines block kept → Joins kept text → text ≡ folded_of block

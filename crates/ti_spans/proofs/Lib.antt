@@ -1,10 +1,12 @@
 pub mod Computing
+pub mod Fielding
 pub mod Itemizing
 pub mod Joining
 pub mod Laws
 pub mod Lines
 pub mod Marking
 pub mod Naming
+pub mod Ordinals
 pub mod Parting
 pub mod Seeing
 pub mod Spanning

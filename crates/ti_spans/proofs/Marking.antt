@@ -1,67 +1,28 @@
 -- The name of an item, as it is found.
-use Rattle.std.proofs.Common.{◌≡◌, ℕ, ◌+◌, ◌-◌, ◌<◌, ◌≤◌, ◌==◌, true, false, List, [], ◌∷◌, ◌++◌, get_or, length, take, drop, Option, Some, None, refl, sym, ap, ◌∙◌, arith}
+use Rattle.std.proofs.Common.{◌≡◌, ℕ, ◌+◌, ◌-◌, ◌<◌, ◌≤◌, ◌==◌, true, false, List, [], ◌∷◌, ◌++◌, get_or, length, take, drop, refl, sym, ap, ◌∙◌, arith}
 use Rattle.std.specs.List.{slice_range}
-use Rattle.std.specs.Option.{option_map}
-use Rattle.std.proofs.lemmas.List.{append-nil, append_assoc}
+use Rattle.std.proofs.Math.Seq.{take-append_seam}
+use Rattle.std.proofs.lemmas.List.{length-append, map-append}
+use Rattle.ti_text.specs.Texts.{last_byte}
 use Rattle.ti_source.specs.Folding.{PlacedByte}
-use Rattle.ti_source.specs.Items.{is_mark}
-use Rattle.ti_spans.specs.Touching.{marked_name, without_at}
-use Rattle.ti_spans.proofs.Parting.{none_of}
-use Rattle.ti_spans.proofs.Seeing.{part_less, part_more}
+use Rattle.ti_source.specs.Items.{bytes}
+use Rattle.ti_source.proofs.TextLemmas.{last_byte-push}
+use Rattle.ti_spans.specs.Touching.{without_at}
+use Rattle.ti_spans.proofs.Seeing.{part_more}
 
--- ---- before the first mark
+last_is : (xs : List PlacedByte) (x : PlacedByte) → last_byte 0 (bytes (xs ++ x ∷ [])) ≡ x.0
+last_is xs x = ap (last_byte 0) (map-append (λ (y : PlacedByte). y.0) xs (x ∷ [])) ∙ last_byte-push 0 (bytes xs) x.0
 
--- a name that begins with the bytes from `start` to before `at`
-abbrev pub behind : List PlacedByte → ℕ → ℕ → Option (List PlacedByte) → Option (List PlacedByte)
-behind text start at name = option_map (λ (t : List PlacedByte). slice_range text start at ++ t) name
-
-pub behind_none : (text : List PlacedByte) (start : ℕ) (name : Option (List PlacedByte)) → behind text start start name ≡ name
-behind_none text start None = refl
-behind_none text start (Some t) = ap (λ (front : List PlacedByte). Some (front ++ t)) (none_of text start)
-
-mark_here : (x : PlacedByte) (xs : List PlacedByte) → is_mark x.0 ≡ true → marked_name (x ∷ xs) ≡ Some []
-mark_here x xs mark = rw mark
-
-mark_later : (x : PlacedByte) (xs : List PlacedByte) → is_mark x.0 ≡ false → marked_name (x ∷ xs) ≡ option_map (λ (t : List PlacedByte). x ∷ t) (marked_name xs)
-mark_later x xs plain = rw plain
-
-behind_one : (text : List PlacedByte) (start at : ℕ) (d : PlacedByte) (name : Option (List PlacedByte)) → start ≤ at → at < length text
-    → behind text start (at + 1) name ≡ behind text start at (option_map (λ (t : List PlacedByte). get_or text at d ∷ t) name)
-behind_one text start at d None order within = refl
-behind_one text start at d (Some t) order within =
-    ap (λ (front : List PlacedByte). Some (front ++ t)) (part_more text start at d order within)
-    ∙ ap (λ (all : List PlacedByte). Some all) (append_assoc (slice_range text start at) (get_or text at d ∷ []) t)
-
-pub mark_next : (text : List PlacedByte) (start at end : ℕ) (d : PlacedByte) (name : Option (List PlacedByte)) → start ≤ at → at < end → end ≤ length text
-    → is_mark (get_or text at d).0 ≡ false → behind text start at (marked_name (slice_range text at end)) ≡ name
-    → behind text start (at + 1) (marked_name (slice_range text (at + 1) end)) ≡ name
-mark_next text start at end d name order less within plain e =
-    behind_one text start at d (marked_name (slice_range text (at + 1) end)) order (omega (arith, less, within))
-    ∙ ap (behind text start at) (sym (ap marked_name (part_less text at end d less within) ∙ mark_later (get_or text at d) (slice_range text (at + 1) end) plain)) ∙ e
-
-pub mark_found : (text : List PlacedByte) (start at end : ℕ) (d : PlacedByte) (name : Option (List PlacedByte)) → at < end → end ≤ length text
-    → is_mark (get_or text at d).0 ≡ true → behind text start at (marked_name (slice_range text at end)) ≡ name → Some (slice_range text start at) ≡ name
-mark_found text start at end d name less within mark e =
-    ap (λ (t : List PlacedByte). Some t) (sym (append-nil (slice_range text start at)))
-    ∙ ap (behind text start at) (sym (ap marked_name (part_less text at end d less within) ∙ mark_here (get_or text at d) (slice_range text (at + 1) end) mark)) ∙ e
-
-pub mark_none : (text : List PlacedByte) (start at end : ℕ) (name : Option (List PlacedByte)) → end ≤ at
-    → behind text start at (marked_name (slice_range text at end)) ≡ name → None ≡ name
-mark_none text start at end name past e =
-    let none : end - at ≡ 0 = omega (arith, past) in
-    ap (λ (n : ℕ). behind text start at (marked_name (take n (drop at text)))) (sym none) ∙ e
-
--- ---- an `@` at the end
+without_last : (xs : List PlacedByte) (x : PlacedByte) → take (length (xs ++ x ∷ []) - 1) (xs ++ x ∷ []) ≡ xs
+without_last xs x =
+    let size : length (xs ++ x ∷ []) - 1 ≡ length xs = omega (arith, length-append xs (x ∷ [])) in
+    ap (λ (n : ℕ). take n (xs ++ x ∷ [])) size ∙ take-append_seam xs (x ∷ [])
 
 at_cut : (xs : List PlacedByte) (x : PlacedByte) → (x.0 == 64) ≡ true → without_at (xs ++ x ∷ []) ≡ xs
-at_cut [] x is = rw is
-at_cut (y ∷ []) x is = rw is
-at_cut (y ∷ z ∷ zs) x is = ap (λ (t : List PlacedByte). y ∷ t) (at_cut (z ∷ zs) x is)
+at_cut xs x is = rw (last_is xs x, is) (without_last xs x)
 
 at_kept : (xs : List PlacedByte) (x : PlacedByte) → (x.0 == 64) ≡ false → without_at (xs ++ x ∷ []) ≡ xs ++ x ∷ []
-at_kept [] x not = rw not
-at_kept (y ∷ []) x not = rw not
-at_kept (y ∷ z ∷ zs) x not = ap (λ (t : List PlacedByte). y ∷ t) (at_kept (z ∷ zs) x not)
+at_kept xs x not = rw (last_is xs x, not) refl
 
 last_one : (text : List PlacedByte) (start end : ℕ) (d : PlacedByte) → start < end → end ≤ length text → slice_range text start end ≡ slice_range text start (end - 1) ++ get_or text (end - 1) d ∷ []
 last_one text start end d some within =

@@ -1,5 +1,6 @@
 -- The definitions that the contracts of this crate cite.
 pub mod Folding
+pub mod Ordinals
 pub mod Parts
 pub mod Subjects
 pub mod Touching

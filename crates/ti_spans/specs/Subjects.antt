@@ -2,7 +2,7 @@
 -- offset at an end is on is own).
 use Rattle.ti_text.specs.Ascii as ascii
 use Rattle.std.specs.Prelude.{ℕ, ◌-◌, ◌==◌, ◌&&◌, nat_le, Bool, true, false, List, [], ◌∷◌, codes, drop, flat_map, length, map, take, Option, None, Some, option_and_then, if◌then◌else◌}
-use Rattle.std.specs.List.{list_all}
+use Rattle.std.specs.List.{find, list_all}
 use Rattle.std.specs.Option.{option_map, option_map_or, option_or}
 use Rattle.ti_text.specs.WhiteSpace.{is_white_space}
 use Rattle.ti_source.specs.Folding.{PlacedByte}
@@ -86,8 +86,7 @@ is_on offset text = option_map_or (λ span. nat_le span.start offset && nat_le o
 
 -- the first of these parts that an offset is on
 abbrev pub part_on : ℕ → List (List PlacedByte) → Option (List PlacedByte)
-part_on offset [] = None
-part_on offset (part ∷ parts) = if is_on offset part then Some part else part_on offset parts
+part_on offset parts = find (is_on offset) parts
 
 -- what an offset is on, as plain data: a name by which the block is found, or a name that an item
 -- uses

@@ -1,7 +1,9 @@
 -- The item that an offset of a block is on, as it is written (own).
 use Rattle.ti_text.specs.Ascii as ascii
-use Rattle.std.specs.Prelude.{ℕ, ◌+◌, ◌==◌, List, [], ◌∷◌, Option, None, Some, if◌then◌else◌}
+use Rattle.std.specs.Prelude.{ℕ, ◌-◌, ◌==◌, List, length, take, Option, None, Some, if◌then◌else◌}
+use Rattle.std.specs.List.{position}
 use Rattle.std.specs.Option.{option_map}
+use Rattle.ti_text.specs.Texts.{last_byte}
 use Rattle.ti_source.specs.Folding.{PlacedByte}
 use Rattle.ti_source.specs.Items.{bytes, is_mark}
 use Rattle.ti_spans.specs.Folding.{folded_of}
@@ -22,14 +24,11 @@ item_seen item = record { span = item.span; name = item.name.items; text = item.
 
 -- what is before the first `#` or `=`, if there is one
 abbrev pub marked_name : List PlacedByte → Option (List PlacedByte)
-marked_name [] = None
-marked_name (x ∷ xs) = if is_mark x.0 then Some [] else option_map (λ name. x ∷ name) (marked_name xs)
+marked_name item = option_map (λ at. take at item) (position (λ x. is_mark x.0) item)
 
 -- bytes without an `@` at their end
 abbrev pub without_at : List PlacedByte → List PlacedByte
-without_at [] = []
-without_at (x ∷ []) = if x.0 == ascii.at_sign then [] else x ∷ []
-without_at (x ∷ y ∷ ys) = x ∷ without_at (y ∷ ys)
+without_at item = if last_byte 0 (bytes item) == ascii.at_sign then take (length item - 1) item else item
 
 -- the name, given what is before the first mark
 abbrev pub name_or : Option (List PlacedByte) → List PlacedByte → List PlacedByte
@@ -52,12 +51,6 @@ item_in text offset = option_map seen_of (part_on offset (items_of text))
 abbrev pub item_at : List ℕ → ℕ → Option ItemSeen
 item_at block offset = item_in (folded_of block) offset
 
--- the place among these parts of the first that an offset is on, if the first of them has that
--- place
-abbrev pub ordinal_from : ℕ → ℕ → List (List PlacedByte) → Option ℕ
-ordinal_from ordinal offset [] = None
-ordinal_from ordinal offset (part ∷ parts) = if is_on offset part then Some ordinal else ordinal_from (ordinal + 1) offset parts
-
--- the place among the items of a block, from 0, of the one that an offset is on
+-- the ordinal of the item that an offset of a block is on: which of its items that is, from 0
 abbrev pub ordinal_at : List ℕ → ℕ → Option ℕ
-ordinal_at block offset = ordinal_from 0 offset (items_of (folded_of block))
+ordinal_at block offset = position (is_on offset) (items_of (folded_of block))

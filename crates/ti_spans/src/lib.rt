@@ -5,7 +5,7 @@
 //! - `heads`: where the names field of a block is
 //! - `items`: the items as they are seen, and the names that they use
 //! - `subjects`: what an offset of a block is on
-//! - `touching`: the item that an offset of a block is on, as it is written
+//! - `touching`: the item that an offset of a block is on, as it is written, and its ordinal
 //! - `words`: the word that an editor completes
 #![tactic(auto)]
 
@@ -22,5 +22,5 @@ pub use heads::{Head, head_of};
 pub use items::{Use, uses_of};
 pub use parts::{Part, field_len, item_parts, name_parts, parts_are_computed, span_of};
 pub use subjects::{Subject, Touched, subject_at};
-pub use touching::{Item, item_at, ordinal_at};
+pub use touching::{Item, item_at, ordinal_at, ordinals_are_read};
 pub use words::{Word, word_before};

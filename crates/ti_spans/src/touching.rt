@@ -1,10 +1,14 @@
 //! The item that an offset of a block is on, as it is written.
 ghost use Rattle.std.specs.Prelude.{◌≡◌, ◌^◌, ◌<◌, All, IfOk, IfSome, length, map};
+ghost use Rattle.std.specs.List.{position};
 ghost use Rattle.std.specs.Option.{option_map};
+ghost use Rattle.ti_source.specs.Folding.{PlacedByte};
 ghost use Rattle.ti_source.specs.Items.{is_mark};
+ghost use Rattle.ti_spans.specs.Ordinals.{OrdinalsAreOfItems, OrdinalsAreOfTouched, SeenItemsAreRead};
 ghost use Rattle.ti_spans.specs.Parts.{IsWithin, part_of};
 ghost use Rattle.ti_spans.specs.Touching as spec;
-ghost use Rattle.ti_spans.specs.Touching.{item_in, marked_name, name_of, ordinal_from, seen_of, without_at};
+ghost use Rattle.ti_spans.specs.Subjects.{is_on};
+ghost use Rattle.ti_spans.specs.Touching.{item_in, marked_name, name_of, seen_of, without_at};
 
 use crate::folding::folded;
 use crate::heads::span_or_start;
@@ -25,11 +29,11 @@ pub struct Item {
     pub text: Vec<u8>,
 }
 
-// Whether a byte ends a name.
-fn is_mark(byte: u8) -> bool
-    ensures { result ≡ is_mark byte }
+// Where the first mark of a text is, if it has one.
+fn mark_at(text: &[(u8, usize)]) -> Option<usize>
+    ensures { result ≡ position (λ (x : PlacedByte). is_mark x.0) text.now }
 {
-    byte == b'#' || byte == b'='
+    text.iter().position(|x| x.0 == b'#' || x.0 == b'=')
 }
 
 // What is before the first mark of a part, if it has one.
@@ -38,15 +42,11 @@ fn marked_name(text: &[(u8, usize)], part: Part) -> Option<Part>
     ensures part { option_map (part_of text.now) result ≡ marked_name (part_of text.now part) }
     ensures within { IfSome result (IsWithin text.now) }
 {
-    for at in part.start..part.end {
-        if is_mark(text[at].0) {
-            return Some(Part {
-                start: part.start,
-                end: at,
-            });
-        }
-    }
-    None
+    let at = mark_at(&text[part.start..part.end])?;
+    Some(Part {
+        start: part.start,
+        end: part.start + at,
+    })
 }
 
 // A part without an `@` at its end.
@@ -118,11 +118,11 @@ pub fn item_at(alloc: Global, block: &[u8], offset: usize) -> Result<Option<Item
     item_in(alloc, &text, offset)
 }
 
-// The place among parts of the first that an offset is on.
+// Which of some parts is the first that an offset is on, from 0.
 fn ordinal_on(text: &[(u8, usize)], parts: &[Part], offset: usize) -> Option<usize>
     requires within { All (IsWithin text.now) parts.now }
     requires offsets { All (λ x. x.1 < 2 ^ 63) text.now }
-    ensures { result ≡ ordinal_from 0 offset (map (part_of text.now) parts.now) }
+    ensures { result ≡ position (is_on offset) (map (part_of text.now) parts.now) }
 {
     for at in 0..parts.len() {
         if is_on(text, parts[at], offset) {
@@ -132,8 +132,8 @@ fn ordinal_on(text: &[(u8, usize)], parts: &[Part], offset: usize) -> Option<usi
     None
 }
 
-/// The place among the items of a block of the one that an offset is on, counted from 0. Empty and
-/// disabled items count.
+/// The ordinal of the item that an offset of a block is on: which of its items that is, counted
+/// from 0. Empty and disabled items count.
 ///
 /// # Errors
 /// Out of memory.
@@ -144,3 +144,11 @@ pub fn ordinal_at(alloc: Global, block: &[u8], offset: usize) -> Result<Option<u
     let items = visible_items(alloc, &text)?;
     Ok(ordinal_on(&text, &items, offset))
 }
+
+/// A law, with no code: the items that are seen are those that are read, by their ordinals, and an
+/// offset is on the item of its ordinal.
+pub fn ordinals_are_read()
+    ensures seen { SeenItemsAreRead }
+    ensures items { OrdinalsAreOfItems }
+    ensures touched { OrdinalsAreOfTouched }
+{}

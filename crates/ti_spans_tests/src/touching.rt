@@ -37,7 +37,7 @@ fn items(rt: HostRuntime) -> Result<(), AllocError> {
     Ok(())
 }
 
-/// Offsets of it, and the places among the items of those that they are on; the disabled one counts.
+/// Offsets of it, and the ordinals of the items that they are on; the disabled one counts.
 const ORDINALS: [(usize, usize); 4] = [(9, 0), (18, 1), (46, 3), (63, 6)];
 
 #[test]

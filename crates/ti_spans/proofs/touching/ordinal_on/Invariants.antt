@@ -1,7 +1,8 @@
 use Rattle.std.proofs.Common.{◌≡◌, drop, map}
+use Rattle.std.specs.List.{position, position_from}
 use Rattle.ti_spans.specs.Parts.{part_of}
-use Rattle.ti_spans.specs.Touching.{ordinal_from}
+use Rattle.ti_spans.specs.Subjects.{is_on}
 use Rattle.ti_spans.proofs.touching.ordinal_on.Given as goal
 
 abbrev pub invariant-loop-at : goal.invariant-loop-at
-invariant-loop-at l = ordinal_from l.at l.offset (map (part_of l.text) (drop l.at l.parts)) ≡ ordinal_from 0 l.offset (map (part_of l.text) l.parts)
+invariant-loop-at l = position_from (is_on l.offset) l.at (map (part_of l.text) (drop l.at l.parts)) ≡ position (is_on l.offset) (map (part_of l.text) l.parts)
