@@ -2,10 +2,9 @@
 use Rattle.std.specs.Prelude.{ℕ, List, [], Option, None, Some, codes, map}
 use Rattle.serde_json.specs.Data.{Data, array, null}
 use Rattle.serde_json.specs.View.{items_of}
-use Rattle.ti_messages.specs.Shapes.{item_data, list_data, location_data, symbol_data}
+use Rattle.ti_messages.specs.Messages.{Query, completion, hover, definition, references, symbols, rename, prepare_rename}
+use Rattle.ti_messages.specs.Shapes.{Said, said_answer, item_data, list_data, location_data, symbol_data}
 use Rattle.ti_messages.specs.declared.answers.ItemKind.TheVariants as items
-use Rattle.ti_messages.specs.declared.messages.Question.{Question}
-use Rattle.ti_messages.specs.declared.messages.Question.TheVariants.{Completion, Hover, Definition, References, Symbols}
 use Rattle.ti_messages.specs.declared.places.Range.{Range}
 use Rattle.ti_features.specs.Completions.{CompletionSeen, OffersSeen, completion_of, offers_capabilities, offers_names}
 use Rattle.ti_features.specs.Hovers.{hover_of}
@@ -47,13 +46,15 @@ abbrev pub completion_data : Option CompletionSeen → Data
 completion_data None = list_data (items_of [])
 completion_data (Some found) = list_data (items_of (offered_items found.range found.offers))
 
--- the answer to a question about a text, under the URI of its document
-abbrev pub answer_of : List ℕ → List ℕ → Question → Data
-answer_of text uri (Completion place) = completion_data (completion_of text place)
-answer_of text uri (Hover place) = hover_shown (hover_of text place)
-answer_of text uri (Definition place) = definition_data uri (definition_of text place)
-answer_of text uri (References place with_declaration) = references_data uri (references_of text place with_declaration)
-answer_of text uri Symbols = outline_data (symbols_of text)
+-- what comes of a question about a text, under the URI of its document
+abbrev pub answer_of : List ℕ → List ℕ → Query → Said
+answer_of text uri (completion place) = said_answer (completion_data (completion_of text place))
+answer_of text uri (hover place) = said_answer (hover_shown (hover_of text place))
+answer_of text uri (definition place) = said_answer (definition_data uri (definition_of text place))
+answer_of text uri (references place with_declaration) = said_answer (references_data uri (references_of text place with_declaration))
+answer_of text uri symbols = said_answer (outline_data (symbols_of text))
+answer_of text uri (rename place name) = said_answer null
+answer_of text uri (prepare_rename place) = said_answer null
 
 abbrev pub sayings : Sayings
 sayings = record { diagnostics = shown_of; answers = answer_of }

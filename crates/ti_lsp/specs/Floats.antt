@@ -8,11 +8,10 @@ use Rattle.ti_features.specs.Completions.{CompletionSeen, OffersSeen, completion
 use Rattle.ti_features.specs.Hovers.{HoverSeen, hover_of}
 use Rattle.ti_features.specs.Names.{definition_of, references_of}
 use Rattle.ti_features.specs.Symbols.{SymbolSeen, symbols_of}
+use Rattle.ti_messages.specs.Messages.{Query, completion, hover, definition, references, symbols, rename, prepare_rename}
 use Rattle.ti_messages.specs.Shapes.{location_data}
-use Rattle.ti_messages.specs.declared.messages.Question.{Question}
-use Rattle.ti_messages.specs.declared.messages.Question.TheVariants.{Completion, Hover, Definition, References, Symbols}
 use Rattle.ti_messages.specs.declared.places.Range.{Range}
-use Rattle.ti_server.specs.Sayings.{HasNoFloats}
+use Rattle.ti_server.specs.Sayings.{HasNoFloats, SaidHasNoFloat}
 use Rattle.ti_lsp.specs.Answers.{answer_of, completion_data, definition_data, entry_item, offered_items, sayings, symbol_shown}
 use Rattle.ti_lsp.specs.Hovers.{hover_shown}
 use Rattle.ti_lsp.specs.Offers.{all_capabilities, capability_item}
@@ -57,12 +56,14 @@ none_in_hover : (told : Option HoverSeen) → has_float (hover_shown told) ≡ f
 none_in_hover None = refl
 none_in_hover (Some told) = refl
 
-answers_have_no_floats : (text uri : List ℕ) (question : Question) → has_float (answer_of text uri question) ≡ false
-answers_have_no_floats text uri (Completion place) = none_in_completion (completion_of text place)
-answers_have_no_floats text uri (Hover place) = none_in_hover (hover_of text place)
-answers_have_no_floats text uri (Definition place) = none_in_definition uri (definition_of text place)
-answers_have_no_floats text uri (References place with_declaration) = none_in_references uri (references_of text place with_declaration)
-answers_have_no_floats text uri Symbols = none_in_outline (symbols_of text)
+answers_have_no_floats : (text uri : List ℕ) (query : Query) → SaidHasNoFloat (answer_of text uri query)
+answers_have_no_floats text uri (completion place) = none_in_completion (completion_of text place)
+answers_have_no_floats text uri (hover place) = none_in_hover (hover_of text place)
+answers_have_no_floats text uri (definition place) = none_in_definition uri (definition_of text place)
+answers_have_no_floats text uri (references place with_declaration) = none_in_references uri (references_of text place with_declaration)
+answers_have_no_floats text uri symbols = none_in_outline (symbols_of text)
+answers_have_no_floats text uri (rename place name) = refl
+answers_have_no_floats text uri (prepare_rename place) = refl
 
 pub sayings_have_no_floats : HasNoFloats sayings
 sayings_have_no_floats = record { diagnostics = shown_have_no_floats; answers = answers_have_no_floats }

@@ -10,7 +10,7 @@ use serde_json::Value;
 use std::alloc::{AllocError, Global};
 use ti_document::{Diagnostic, Document, offset_of};
 use ti_messages::writing::diagnostic_value;
-use ti_messages::{Position, Question};
+use ti_messages::{Position, Question, Reply};
 use ti_server::Source;
 
 /// A terminfo source.
@@ -75,16 +75,23 @@ impl Source for Terminfo {
         values_of(alloc, all.as_slice())
     }
 
-    fn answer(&self, alloc: Global, uri: &str, question: Question) -> Result<Value, AllocError> {
-        match question {
-            Question::Completion(place) => completion(alloc, &self.document, place),
-            Question::Definition(place) => definition(alloc, &self.document, uri, place),
+    fn answer(
+        &self,
+        alloc: Global,
+        uri: &str,
+        question: Question<'_>,
+    ) -> Result<Reply, AllocError> {
+        let answer = match question {
+            Question::Completion(place) => completion(alloc, &self.document, place)?,
+            Question::Definition(place) => definition(alloc, &self.document, uri, place)?,
             Question::References {
                 place,
                 with_declaration,
-            } => references(alloc, &self.document, uri, place, with_declaration),
-            Question::Hover(place) => hover(alloc, &self.document, place),
-            Question::Symbols => outline(alloc, &self.document),
-        }
+            } => references(alloc, &self.document, uri, place, with_declaration)?,
+            Question::Hover(place) => hover(alloc, &self.document, place)?,
+            Question::Symbols => outline(alloc, &self.document)?,
+            Question::Rename { .. } | Question::PrepareRename(_) => Value::Null,
+        };
+        Ok(Reply::Answer(answer))
     }
 }

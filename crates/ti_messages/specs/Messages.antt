@@ -5,8 +5,6 @@ use Rattle.serde_json.specs.Data.{Num, Data, null, boolean, number, unsigned, ne
 use Rattle.serde_json.specs.Find.{as_array, as_bool, as_number, as_str, get, is_float}
 use Rattle.ti_messages.specs.declared.asking.Topic.{Topic}
 use Rattle.ti_messages.specs.declared.asking.Topic.TheVariants as asks
-use Rattle.ti_messages.specs.declared.messages.Question.{Question}
-use Rattle.ti_messages.specs.declared.messages.Question.TheVariants.{Completion, Hover, Definition, References, Symbols}
 use Rattle.ti_messages.specs.declared.places.Position.{Position}
 use Rattle.ti_messages.specs.declared.places.Range.{Range}
 
@@ -15,12 +13,23 @@ pub record Edit : Type 0 where
   pub range : Option Range
   pub text : List ℕ
 
+-- what is asked about a document: of references whether the definition is asked for too, of a
+-- rename the new name
+pub data Query : Type 0 where
+  completion : Position → Query
+  hover : Position → Query
+  definition : Position → Query
+  references : Position → Bool → Query
+  symbols : Query
+  rename : Position → List ℕ → Query
+  prepare_rename : Position → Query
+
 -- a request: of a document its URI and what is asked about it; `unreadable` are those whose
 -- parameters are not those of the method
 pub data Asked : Type 0 where
   initialize : Asked
   shutdown : Asked
-  about : List ℕ → Question → Asked
+  about : List ℕ → Query → Asked
   unreadable : Asked
   unknown : Asked
 
@@ -126,27 +135,39 @@ topic_of method =
     else (if bytes_eq method (codes "textDocument/hover") then Some asks.Hover
     else (if bytes_eq method (codes "textDocument/definition") then Some asks.Definition
     else (if bytes_eq method (codes "textDocument/references") then Some asks.References
-    else (if bytes_eq method (codes "textDocument/documentSymbol") then Some asks.Symbols else None))))
+    else (if bytes_eq method (codes "textDocument/documentSymbol") then Some asks.Symbols
+    else (if bytes_eq method (codes "textDocument/rename") then Some asks.Rename
+    else (if bytes_eq method (codes "textDocument/prepareRename") then Some asks.PrepareRename else None))))))
 
 -- "TextDocumentPositionParams"
 abbrev pub asked_place : Data → Option Position
 asked_place params = option_and_then position_of (get (codes "position") params)
 
 -- "ReferenceParams"
-abbrev pub references_of : Data → Option Question
+abbrev pub references_of : Data → Option Query
 references_of params = do
   place ← asked_place params
   context ← get (codes "context") params
   with_declaration ← option_and_then as_bool (get (codes "includeDeclaration") context)
-  Some (References place with_declaration)
+  Some (references place with_declaration)
 
--- "CompletionParams", "HoverParams", "DefinitionParams", "DocumentSymbolParams"
-abbrev pub question_of : Topic → Data → Option Question
-question_of asks.Completion params = option_map Completion (asked_place params)
-question_of asks.Hover params = option_map Hover (asked_place params)
-question_of asks.Definition params = option_map Definition (asked_place params)
+-- "RenameParams"
+abbrev pub rename_of : Data → Option Query
+rename_of params = do
+  place ← asked_place params
+  name ← text_at (codes "newName") params
+  Some (rename place name)
+
+-- "CompletionParams", "HoverParams", "DefinitionParams", "DocumentSymbolParams",
+-- "PrepareRenameParams"
+abbrev pub question_of : Topic → Data → Option Query
+question_of asks.Completion params = option_map completion (asked_place params)
+question_of asks.Hover params = option_map hover (asked_place params)
+question_of asks.Definition params = option_map definition (asked_place params)
 question_of asks.References params = references_of params
-question_of asks.Symbols params = Some Symbols
+question_of asks.Symbols params = Some symbols
+question_of asks.Rename params = rename_of params
+question_of asks.PrepareRename params = option_map prepare_rename (asked_place params)
 
 abbrev pub about_of : Topic → Data → Option Asked
 about_of topic params = do

@@ -77,6 +77,16 @@ refusal_data id failure =
     (member (codes "id") (unwrap_or id null)
     (member (codes "jsonrpc") (string (codes "2.0")) no_members)))
 
+-- what comes of a question about a document: its answer, or why it is refused
+pub data Said : Type 0 where
+  said_answer : Data → Said
+  said_refusal : Failure → Said
+
+-- "Response Message" to a question about a document
+abbrev pub reply_data : Data → Said → Data
+reply_data id (said_answer result) = response_data id result
+reply_data id (said_refusal failure) = refusal_data (Some id) failure
+
 -- ---- answers to questions about a document
 
 -- "Location"
@@ -102,6 +112,10 @@ hover_data text range = object (member (codes "contents") (plain_data text) (mem
 -- "TextEdit"
 abbrev pub text_edit_data : List ℕ → Range → Data
 text_edit_data text range = object (member (codes "newText") (string text) (member (codes "range") (range_data range) no_members))
+
+-- "WorkspaceEdit": the edits of one document
+abbrev pub workspace_edit_data : List ℕ → Items → Data
+workspace_edit_data uri edits = object (member (codes "changes") (object (member uri (array edits) no_members)) no_members)
 
 -- "CompletionItemKind": a field, a struct
 abbrev pub item_number : ItemKind → ℕ
@@ -140,6 +154,10 @@ abbrev pub completion_options_data : Data
 completion_options_data =
     object (member (codes "triggerCharacters") (array (item (string (codes "=")) (item (string (codes ",")) no_items))) no_members)
 
+-- "RenameOptions": a client may ask first which name a rename is of
+abbrev pub rename_options_data : Data
+rename_options_data = object (member (codes "prepareProvider") (boolean true) no_members)
+
 -- "ServerCapabilities"
 abbrev pub capabilities_data : Data
 capabilities_data =
@@ -149,7 +167,8 @@ capabilities_data =
     (member (codes "hoverProvider") (boolean true)
     (member (codes "positionEncoding") (string (codes "utf-16"))
     (member (codes "referencesProvider") (boolean true)
-    (member (codes "textDocumentSync") sync_data no_members)))))))
+    (member (codes "renameProvider") rename_options_data
+    (member (codes "textDocumentSync") sync_data no_members))))))))
 
 -- "InitializeResult"
 abbrev pub server_data : List ℕ → Data

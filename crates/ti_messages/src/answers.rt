@@ -1,7 +1,7 @@
 //! The values that answer questions about a document. Each call writes one object of the protocol.
 ghost use Rattle.std.specs.Prelude.{◌≡◌, IfOk, option_map};
 ghost use Rattle.serde_json.specs.View.{items_view, view};
-ghost use Rattle.ti_messages.specs.Shapes.{hover_data, item_data, item_number, list_data, location_data, plain_data, symbol_data, text_edit_data};
+ghost use Rattle.ti_messages.specs.Shapes.{hover_data, item_data, item_number, list_data, location_data, plain_data, symbol_data, text_edit_data, workspace_edit_data};
 
 use crate::places::Range;
 use crate::writing::range_value;
@@ -77,12 +77,30 @@ pub fn hover_value(alloc: Global, text: &str, range: Range) -> Result<Value, All
     json!(in alloc; {"contents": contents, "range": range})
 }
 
-// A text in place of a part of a document ("TextEdit").
-fn text_edit_value(alloc: Global, text: &str, range: Range) -> Result<Value, AllocError>
+/// A text in place of a part of a document ("TextEdit").
+///
+/// # Errors
+/// `AllocError` if memory ran out.
+pub fn text_edit_value(alloc: Global, text: &str, range: Range) -> Result<Value, AllocError>
     ensures { IfOk result (λ v. view v ≡ text_edit_data text.now range) }
 {
     let range = range_value(alloc, range)?;
     json!(in alloc; {"newText": text, "range": range})
+}
+
+/// Edits of one document ("WorkspaceEdit").
+///
+/// # Errors
+/// `AllocError` if memory ran out.
+pub fn workspace_edit_value(
+    alloc: Global,
+    uri: &str,
+    edits: Vec<Value>,
+) -> Result<Value, AllocError>
+    ensures { IfOk result (λ v. view v ≡ workspace_edit_data uri.now (items_view edits.items)) }
+{
+    let edits = Value::Array(edits);
+    json!(in alloc; {"changes": {uri: edits}})
 }
 
 /// An item of a completion ("CompletionItem"): its label is the text that it puts in place of the

@@ -2,8 +2,8 @@
 ghost use Rattle.std.specs.Prelude.{◌≡◌, codes, option_and_then, option_map};
 ghost use Rattle.serde_json.specs.Find.{as_bool, get};
 ghost use Rattle.serde_json.specs.View.{view};
-ghost use Rattle.ti_messages.specs.Messages.{about_document, about_of, question_of, references_of, topic_of};
-ghost use Rattle.ti_messages.specs.Views.{asked_view};
+ghost use Rattle.ti_messages.specs.Messages.{about_document, about_of, question_of, references_of, rename_of, topic_of};
+ghost use Rattle.ti_messages.specs.Views.{asked_view, question_view};
 
 use crate::members::{position_at, text_at};
 use crate::messages::{Call, Question};
@@ -22,6 +22,10 @@ pub(crate) enum Topic {
     References,
     /// What the document defines.
     Symbols,
+    /// The changes that give what has a name at a place another one.
+    Rename,
+    /// Which name a rename at a place is of.
+    PrepareRename,
 }
 
 /// What a method asks about a document, if it does.
@@ -38,14 +42,18 @@ pub(crate) fn topic_of(method: &str) -> Option<Topic>
         Some(Topic::References)
     } else if method == "textDocument/documentSymbol" {
         Some(Topic::Symbols)
+    } else if method == "textDocument/rename" {
+        Some(Topic::Rename)
+    } else if method == "textDocument/prepareRename" {
+        Some(Topic::PrepareRename)
     } else {
         None
     }
 }
 
 // Where a name is used ("ReferenceParams").
-fn read_references(params: &Value) -> Option<Question>
-    ensures { result ≡ references_of (view params.now) }
+fn read_references(params: &Value) -> Option<Question<'_>>
+    ensures { option_map question_view result ≡ references_of (view params.now) }
 {
     let place = position_at(params, "position")?;
     let with_declaration = params.get("context")?.get("includeDeclaration")?.as_bool()?;
@@ -55,9 +63,18 @@ fn read_references(params: &Value) -> Option<Question>
     })
 }
 
+// The changes that give what has a name another one ("RenameParams").
+fn read_rename(params: &Value) -> Option<Question<'_>>
+    ensures { option_map question_view result ≡ rename_of (view params.now) }
+{
+    let place = position_at(params, "position")?;
+    let name = text_at(params, "newName")?;
+    Some(Question::Rename { place, name })
+}
+
 // What parameters ask ("TextDocumentPositionParams" and others).
-fn read_question(topic: Topic, params: &Value) -> Option<Question>
-    ensures { result ≡ question_of topic (view params.now) }
+fn read_question(topic: Topic, params: &Value) -> Option<Question<'_>>
+    ensures { option_map question_view result ≡ question_of topic (view params.now) }
 {
     match topic {
         Topic::Completion => Some(Question::Completion(position_at(params, "position")?)),
@@ -65,6 +82,8 @@ fn read_question(topic: Topic, params: &Value) -> Option<Question>
         Topic::Definition => Some(Question::Definition(position_at(params, "position")?)),
         Topic::References => read_references(params),
         Topic::Symbols => Some(Question::Symbols),
+        Topic::Rename => read_rename(params),
+        Topic::PrepareRename => Some(Question::PrepareRename(position_at(params, "position")?)),
     }
 }
 

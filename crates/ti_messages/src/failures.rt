@@ -15,6 +15,10 @@ pub enum Failure {
     BadParameters,
     /// A request came before `initialize`.
     NotInitialized,
+    /// A new name is none that an entry can have.
+    NoName,
+    /// A new name is that of another entry.
+    NameTaken,
 }
 
 impl Failure {
@@ -28,6 +32,7 @@ impl Failure {
             Failure::NoMethod => -32601,
             Failure::BadParameters => -32602,
             Failure::NotInitialized => -32002,
+            Failure::NoName | Failure::NameTaken => -32803,
         }
     }
 
@@ -41,6 +46,8 @@ impl Failure {
             Failure::NoMethod => "there is no such method",
             Failure::BadParameters => "the parameters are not those of the method",
             Failure::NotInitialized => "the server is not initialized",
+            Failure::NoName => "no entry can have the new name",
+            Failure::NameTaken => "another entry has the new name",
         }
     }
 }

@@ -21,6 +21,6 @@ pub mod writing;
 
 pub use failures::Failure;
 pub use frames::{Frame, FrameFault, read_frame, write_frame};
-pub use messages::{Call, Change, Message, Notice, Question};
+pub use messages::{Call, Change, Message, Notice, Question, Reply};
 pub use places::{Position, Range};
 pub use reading::{parse, read_message};

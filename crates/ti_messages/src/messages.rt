@@ -1,4 +1,5 @@
 //! What a client asks for or tells. The strings are those of the value that was read.
+use crate::failures::Failure;
 use crate::places::{Position, Range};
 use serde_json::Value;
 
@@ -13,7 +14,7 @@ pub struct Change<'a> {
 
 /// What is asked about a document.
 #[derive(Clone, Copy, Debug, PartialEq, Eq, Drop)]
-pub enum Question {
+pub enum Question<'a> {
     /// What may be written at a place ("Completion Request").
     Completion(Position),
     /// What is at a place ("Hover Request").
@@ -29,6 +30,24 @@ pub enum Question {
     },
     /// What the document defines ("Document Symbols Request").
     Symbols,
+    /// The changes that give what has a name at a place another one ("Rename Request").
+    Rename {
+        /// The place.
+        place: Position,
+        /// The new name.
+        name: &'a str,
+    },
+    /// Which name a rename at a place is of ("Prepare Rename Request").
+    PrepareRename(Position),
+}
+
+/// What comes of a question about a document.
+#[derive(Drop)]
+pub enum Reply {
+    /// Its answer.
+    Answer(Value),
+    /// Nothing: it is refused.
+    Refusal(Failure),
 }
 
 /// What a request asks for.
@@ -43,7 +62,7 @@ pub enum Call<'a> {
         /// The document's URI.
         uri: &'a str,
         /// What is asked.
-        question: Question,
+        question: Question<'a>,
     },
     /// Something about a document, but the parameters are not those of the method.
     Faulty,

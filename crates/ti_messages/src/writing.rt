@@ -2,9 +2,11 @@
 ghost use Rattle.std.specs.Prelude.{◌≡◌, IfOk, option_map, unwrap_or};
 ghost use Rattle.serde_json.specs.Data.{null};
 ghost use Rattle.serde_json.specs.View.{items_view, view};
-ghost use Rattle.ti_messages.specs.Shapes.{capabilities_data, completion_options_data, diagnostic_data, failure_data, initialized_data, notification_data, position_data, publish_data, published_data, range_data, refusal_data, response_data, server_data, severity_number, sync_data};
+ghost use Rattle.ti_messages.specs.Views.{reply_view};
+ghost use Rattle.ti_messages.specs.Shapes.{capabilities_data, completion_options_data, diagnostic_data, failure_data, initialized_data, notification_data, position_data, publish_data, published_data, range_data, refusal_data, rename_options_data, reply_data, response_data, server_data, severity_number, sync_data};
 
 use crate::failures::Failure;
+use crate::messages::Reply;
 use crate::places::{Position, Range};
 use serde_json::{Value, json};
 use std::alloc::{AllocError, Global};
@@ -157,6 +159,20 @@ pub fn refusal_value(
     json!(in alloc; {"error": error, "id": id, "jsonrpc": "2.0"})
 }
 
+/// The answer to a question about a document, or its refusal ("Response Message"), with the id of
+/// the request.
+///
+/// # Errors
+/// `AllocError` if memory ran out.
+pub fn reply_value(alloc: Global, id: &Value, reply: Reply) -> Result<Value, AllocError>
+    ensures { IfOk result (λ v. view v ≡ reply_data (view id.now) (reply_view reply)) }
+{
+    match reply {
+        Reply::Answer(answer) => response_value(alloc, id, answer),
+        Reply::Refusal(failure) => refusal_value(alloc, Some(id), failure),
+    }
+}
+
 // How documents are told ("TextDocumentSyncOptions").
 fn sync_value(alloc: Global) -> Result<Value, AllocError>
     ensures { IfOk result (λ v. view v ≡ sync_data) }
@@ -171,13 +187,21 @@ fn completion_options_value(alloc: Global) -> Result<Value, AllocError>
     json!(in alloc; {"triggerCharacters": ["=", ","]})
 }
 
+// How names are changed ("RenameOptions").
+fn rename_options_value(alloc: Global) -> Result<Value, AllocError>
+    ensures { IfOk result (λ v. view v ≡ rename_options_data) }
+{
+    json!(in alloc; {"prepareProvider": true})
+}
+
 // What the server can do ("ServerCapabilities").
 fn capabilities_value(alloc: Global) -> Result<Value, AllocError>
     ensures { IfOk result (λ v. view v ≡ capabilities_data) }
 {
     let completions = completion_options_value(alloc)?;
+    let renames = rename_options_value(alloc)?;
     let sync = sync_value(alloc)?;
-    json!(in alloc; {"completionProvider": completions, "definitionProvider": true, "documentSymbolProvider": true, "hoverProvider": true, "positionEncoding": "utf-16", "referencesProvider": true, "textDocumentSync": sync})
+    json!(in alloc; {"completionProvider": completions, "definitionProvider": true, "documentSymbolProvider": true, "hoverProvider": true, "positionEncoding": "utf-16", "referencesProvider": true, "renameProvider": renames, "textDocumentSync": sync})
 }
 
 // What the server is.

@@ -4,13 +4,12 @@ use Rattle.serde_json.specs.Data.{Num, unsigned, negative, float, Data, null, bo
 use Rattle.serde_json.specs.Find.{as_str, get}
 use Rattle.serde_json.specs.Written.{has_float}
 use Rattle.std.specs.Prelude.{codes, option_and_then}
-use Rattle.ti_messages.specs.Messages.{Asked, initialize, shutdown, about, unreadable, unknown, Meaning, request, notification, response, faulty, Told, exited, opened, changed, closed, nothing, id_in, id_of, message_of, meaning_by, method_meaning, request_of, told_of}
-use Rattle.ti_messages.specs.Shapes.{refusal_data}
-use Rattle.ti_messages.specs.declared.messages.Question.{Question}
+use Rattle.ti_messages.specs.Messages.{Asked, initialize, shutdown, about, unreadable, unknown, Meaning, Query, request, notification, response, faulty, Told, exited, opened, changed, closed, nothing, id_in, id_of, message_of, meaning_by, method_meaning, request_of, told_of}
+use Rattle.ti_messages.specs.Shapes.{Said, said_answer, said_refusal, refusal_data, reply_data}
 use Rattle.ti_messages.specs.declared.failures.Failure.{Failure}
 use Rattle.ti_messages.specs.declared.failures.Failure.TheVariants.{BadParameters, NoJson, NoMethod, NoRequest, NotInitialized}
 use Rattle.ti_server.specs.Answers.{answer_data}
-use Rattle.ti_server.specs.Sayings.{HasNoFloats, Sayings}
+use Rattle.ti_server.specs.Sayings.{HasNoFloats, SaidHasNoFloat, Sayings}
 use Rattle.ti_server.specs.Steps.{Answer, ready, done, refused, answered, shown, cleared, Open, Places, State, answered_of, open_at, replied, requested, requested_fresh, requested_running, step, told, told_in, with_edits}
 use Rattle.ti_server.specs.declared.phase.Phase.{Phase}
 use Rattle.ti_server.specs.declared.phase.Phase.TheVariants.{Fresh, Running, Finished, Ended}
@@ -77,7 +76,7 @@ abbrev id_answered : Answer → Option Data
 id_answered (ready id) = Some id
 id_answered (done id) = Some id
 id_answered (refused id failure) = id
-id_answered (answered id document question) = Some id
+id_answered (answered id document query) = Some id
 id_answered (shown document) = None
 id_answered (cleared uri) = None
 
@@ -85,11 +84,15 @@ plain_refusal : (id : Option Data) (failure : Failure) → HasNoFloat id → has
 plain_refusal None failure h = refl
 plain_refusal (Some id) failure h = rw h refl
 
+plain_reply : (id : Data) (said : Said) → has_float id ≡ false → SaidHasNoFloat said → has_float (reply_data id said) ≡ false
+plain_reply id (said_answer result) h plain = rw h (rw plain refl)
+plain_reply id (said_refusal failure) h plain = plain_refusal (Some id) failure h
+
 plain_answer : (says : Sayings) (answer : Answer) → HasNoFloats says → HasNoFloat (id_answered answer) → has_float (answer_data says answer) ≡ false
 plain_answer says (ready id) plain h = rw h refl
 plain_answer says (done id) plain h = rw h refl
 plain_answer says (refused id failure) plain h = plain_refusal id failure h
-plain_answer says (answered id document question) plain h = rw h (rw (plain.answers document.text document.uri question) refl)
+plain_answer says (answered id document query) plain h = plain_reply id (says.answers document.text document.uri query) h (plain.answers document.text document.uri query)
 plain_answer says (shown document) plain h = rw (plain.diagnostics document.text) refl
 plain_answer says (cleared uri) plain h = refl
 
@@ -101,18 +104,18 @@ IsPlain says answer = HasNoFloat (option_map (answer_data says) answer)
 plain_fresh : (says : Sayings) (id : Data) (asked : Asked) → HasNoFloats says → has_float id ≡ false → has_float (answer_data says (requested_fresh id asked).1) ≡ false
 plain_fresh says id initialize plain h = plain_answer says (ready id) plain h
 plain_fresh says id shutdown plain h = plain_answer says (refused (Some id) NotInitialized) plain h
-plain_fresh says id (about uri question) plain h = plain_answer says (refused (Some id) NotInitialized) plain h
+plain_fresh says id (about uri query) plain h = plain_answer says (refused (Some id) NotInitialized) plain h
 plain_fresh says id unreadable plain h = plain_answer says (refused (Some id) NotInitialized) plain h
 plain_fresh says id unknown plain h = plain_answer says (refused (Some id) NotInitialized) plain h
 
-plain_about : (says : Sayings) (id : Data) (question : Question) (found : Option Open) → HasNoFloats says → has_float id ≡ false → has_float (answer_data says (answered_of id question found)) ≡ false
-plain_about says id question None plain h = plain_answer says (refused (Some id) BadParameters) plain h
-plain_about says id question (Some document) plain h = plain_answer says (answered id document question) plain h
+plain_about : (says : Sayings) (id : Data) (query : Query) (found : Option Open) → HasNoFloats says → has_float id ≡ false → has_float (answer_data says (answered_of id query found)) ≡ false
+plain_about says id query None plain h = plain_answer says (refused (Some id) BadParameters) plain h
+plain_about says id query (Some document) plain h = plain_answer says (answered id document query) plain h
 
 plain_running : (says : Sayings) (documents : List Open) (id : Data) (asked : Asked) → HasNoFloats says → has_float id ≡ false → has_float (answer_data says (requested_running documents id asked).1) ≡ false
 plain_running says documents id initialize plain h = plain_answer says (refused (Some id) NoRequest) plain h
 plain_running says documents id shutdown plain h = plain_answer says (done id) plain h
-plain_running says documents id (about uri question) plain h = plain_about says id question (open_at uri documents) plain h
+plain_running says documents id (about uri query) plain h = plain_about says id query (open_at uri documents) plain h
 plain_running says documents id unreadable plain h = plain_answer says (refused (Some id) BadParameters) plain h
 plain_running says documents id unknown plain h = plain_answer says (refused (Some id) NoMethod) plain h
 

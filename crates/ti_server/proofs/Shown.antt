@@ -5,8 +5,7 @@ use Rattle.std.specs.Option.{option_to_list}
 use Rattle.std.specs.Str.{bytes_eq}
 use Rattle.std.proofs.lemmas.Slice.Eq.{bytes_eq-Decides}
 use Rattle.serde_json.specs.Data.{Data}
-use Rattle.ti_messages.specs.Messages.{Asked, initialize, shutdown, about, unreadable, unknown, Meaning, message_of, request, notification, response, faulty, Told, exited, opened, changed, closed, nothing}
-use Rattle.ti_messages.specs.declared.messages.Question.{Question}
+use Rattle.ti_messages.specs.Messages.{Asked, initialize, shutdown, about, unreadable, unknown, Meaning, message_of, Query, request, notification, response, faulty, Told, exited, opened, changed, closed, nothing}
 use Rattle.ti_server.specs.Runs.{AnswersAreOfShownTexts, answers_to, last_shown, shown_by, state_after, OpenDocumentsAreShown}
 use Rattle.ti_server.specs.Serving.{ServedDocumentsAreShown, replies_to, served_state}
 use Rattle.ti_server.specs.Steps.{Answer, shown, cleared, Open, Places, State, answered_of, at_start, open_at, requested, requested_fresh, requested_running, replied, step, told, told_in, with_change, with_document, with_edits, without}
@@ -161,18 +160,18 @@ shown_in places uri (Ended status) notice ds = refl
 shown_fresh : (uri : List ℕ) (before : Option Open) (id : Data) (asked : Asked) → shown_by uri before (requested_fresh id asked).1 ≡ before
 shown_fresh uri before id initialize = refl
 shown_fresh uri before id shutdown = refl
-shown_fresh uri before id (about other question) = refl
+shown_fresh uri before id (about other query) = refl
 shown_fresh uri before id unreadable = refl
 shown_fresh uri before id unknown = refl
 
-shown_about : (uri : List ℕ) (before : Option Open) (id : Data) (question : Question) (found : Option Open) → shown_by uri before (answered_of id question found) ≡ before
-shown_about uri before id question None = refl
-shown_about uri before id question (Some document) = refl
+shown_about : (uri : List ℕ) (before : Option Open) (id : Data) (query : Query) (found : Option Open) → shown_by uri before (answered_of id query found) ≡ before
+shown_about uri before id query None = refl
+shown_about uri before id query (Some document) = refl
 
 shown_running : (uri : List ℕ) (before : Option Open) (documents : List Open) (id : Data) (asked : Asked) → shown_by uri before (requested_running documents id asked).1 ≡ before
 shown_running uri before documents id initialize = refl
 shown_running uri before documents id shutdown = refl
-shown_running uri before documents id (about other question) = shown_about uri before id question (open_at other documents)
+shown_running uri before documents id (about other query) = shown_about uri before id query (open_at other documents)
 shown_running uri before documents id unreadable = refl
 shown_running uri before documents id unknown = refl
 
@@ -207,14 +206,14 @@ all_shown places messages uri = shown_through places uri at_start messages
 -- ---- questions
 
 -- a question to a server in that phase
-asked_in : (places : Places) (phase : Phase) (state : State) (id : Data) (uri : List ℕ) (question : Question) → state.phase ≡ phase → phase ≡ Running → (step places state (request id (about uri question))).1 ≡ Some (answered_of id question (open_at uri state.documents))
-asked_in places phase state id uri question is runs = rw (is ∙ runs) refl
+asked_in : (places : Places) (phase : Phase) (state : State) (id : Data) (uri : List ℕ) (query : Query) → state.phase ≡ phase → phase ≡ Running → (step places state (request id (about uri query))).1 ≡ Some (answered_of id query (open_at uri state.documents))
+asked_in places phase state id uri query is runs = rw (is ∙ runs) refl
 
 pub all_answered : AnswersAreOfShownTexts
-all_answered places messages id uri question runs =
+all_answered places messages id uri query runs =
     let state = state_after places at_start messages in
-    asked_in places state.phase state id uri question refl runs
-    ∙ ap (λ (found : Option Open). Some (answered_of id question found)) (sym (all_shown places messages uri))
+    asked_in places state.phase state id uri query refl runs
+    ∙ ap (λ (found : Option Open). Some (answered_of id query found)) (sym (all_shown places messages uri))
 
 -- ---- runs of frames
 

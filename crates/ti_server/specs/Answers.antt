@@ -1,7 +1,7 @@
 -- The values that are sent (LSP 3.17).
 use Rattle.std.specs.Prelude.{ℕ, List, None, Some, codes}
 use Rattle.serde_json.specs.Data.{Data, no_items, null}
-use Rattle.ti_messages.specs.Shapes.{initialized_data, publish_data, refusal_data, response_data}
+use Rattle.ti_messages.specs.Shapes.{initialized_data, publish_data, refusal_data, reply_data, response_data}
 use Rattle.ti_server.specs.Sayings.{Sayings}
 use Rattle.ti_server.specs.Steps.{Answer, ready, done, refused, answered, shown, cleared}
 
@@ -14,6 +14,6 @@ abbrev pub answer_data : Sayings → Answer → Data
 answer_data says (ready id) = response_data id (initialized_data server_version)
 answer_data says (done id) = response_data id null
 answer_data says (refused id failure) = refusal_data id failure
-answer_data says (answered id document question) = response_data id (says.answers document.text document.uri question)
+answer_data says (answered id document query) = reply_data id (says.answers document.text document.uri query)
 answer_data says (shown document) = publish_data document.uri (Some document.version) (says.diagnostics document.text)
 answer_data says (cleared uri) = publish_data uri None no_items

@@ -3,8 +3,7 @@ use Rattle.std.specs.Prelude.{ℕ, ◌≡◌, List, [], ◌∷◌, ◌++◌, Opt
 use Rattle.std.specs.Option.{option_to_list}
 use Rattle.std.specs.Str.{bytes_eq}
 use Rattle.serde_json.specs.Data.{Data}
-use Rattle.ti_messages.specs.Messages.{Meaning, about, request}
-use Rattle.ti_messages.specs.declared.messages.Question.{Question}
+use Rattle.ti_messages.specs.Messages.{Meaning, Query, about, request}
 use Rattle.ti_server.specs.Steps.{Answer, ready, done, refused, answered, shown, cleared, Open, Places, State, answered_of, at_start, open_at, step}
 use Rattle.ti_server.specs.declared.phase.Phase.TheVariants.{Running}
 
@@ -24,7 +23,7 @@ abbrev pub shown_by : List ℕ → Option Open → Answer → Option Open
 shown_by uri before (ready id) = before
 shown_by uri before (done id) = before
 shown_by uri before (refused id failure) = before
-shown_by uri before (answered id document question) = before
+shown_by uri before (answered id document query) = before
 shown_by uri before (shown document) = if bytes_eq document.uri uri then Some document else before
 shown_by uri before (cleared other) = if bytes_eq other uri then None else before
 
@@ -44,7 +43,7 @@ OpenDocumentsAreShown =
 -- were published last, or refused if none are shown
 abbrev pub AnswersAreOfShownTexts : Type 0
 AnswersAreOfShownTexts =
-    (places : Places) (messages : List Meaning) (id : Data) (uri : List ℕ) (question : Question)
+    (places : Places) (messages : List Meaning) (id : Data) (uri : List ℕ) (query : Query)
     → (state_after places at_start messages).phase ≡ Running
-    → (step places (state_after places at_start messages) (request id (about uri question))).1
-    ≡ Some (answered_of id question (last_shown uri None (answers_to places at_start messages)))
+    → (step places (state_after places at_start messages) (request id (about uri query))).1
+    ≡ Some (answered_of id query (last_shown uri None (answers_to places at_start messages)))

@@ -4,10 +4,9 @@ use Rattle.std.specs.Prelude.{ℕ, ◌++◌, List, [], ◌∷◌, not, Option, N
 use Rattle.std.specs.List.{filter}
 use Rattle.std.specs.Str.{bytes_eq}
 use Rattle.serde_json.specs.Data.{Data}
-use Rattle.ti_messages.specs.Messages.{Asked, initialize, shutdown, about, unreadable, unknown, Edit, Meaning, message_of, request, notification, response, faulty, Told, exited, opened, changed, closed, nothing}
+use Rattle.ti_messages.specs.Messages.{Asked, initialize, shutdown, about, unreadable, unknown, Edit, Meaning, message_of, Query, request, notification, response, faulty, Told, exited, opened, changed, closed, nothing}
 use Rattle.ti_messages.specs.declared.failures.Failure.{Failure}
 use Rattle.ti_messages.specs.declared.failures.Failure.TheVariants.{BadParameters, NoJson, NoMethod, NoRequest, NotInitialized}
-use Rattle.ti_messages.specs.declared.messages.Question.{Question}
 use Rattle.ti_messages.specs.declared.places.Position.{Position}
 use Rattle.ti_messages.specs.declared.places.Range.{Range}
 use Rattle.ti_server.specs.declared.phase.Phase.{Phase}
@@ -24,13 +23,13 @@ pub record State : Type 0 where
   pub phase : Phase
   pub documents : List Open
 
--- what is sent: that the server is ready, or will end, or why a request is refused; the answer to a
+-- what is sent: that the server is ready, or will end, or why a request is refused; what comes of a
 -- question about a document; the diagnostics of a document, or none of one that was closed
 pub data Answer : Type 0 where
   ready : Data → Answer
   done : Data → Answer
   refused : Option Data → Failure → Answer
-  answered : Data → Open → Question → Answer
+  answered : Data → Open → Query → Answer
   shown : Open → Answer
   cleared : List ℕ → Answer
 
@@ -48,19 +47,19 @@ open_at uri (document ∷ documents) = if bytes_eq document.uri uri then Some do
 abbrev pub requested_fresh : Data → Asked → Phase × Answer
 requested_fresh id initialize = (Running, ready id)
 requested_fresh id shutdown = (Fresh, refused (Some id) NotInitialized)
-requested_fresh id (about uri question) = (Fresh, refused (Some id) NotInitialized)
+requested_fresh id (about uri query) = (Fresh, refused (Some id) NotInitialized)
 requested_fresh id unreadable = (Fresh, refused (Some id) NotInitialized)
 requested_fresh id unknown = (Fresh, refused (Some id) NotInitialized)
 
 -- a question about a document is answered if it is open
-abbrev pub answered_of : Data → Question → Option Open → Answer
-answered_of id question None = refused (Some id) BadParameters
-answered_of id question (Some document) = answered id document question
+abbrev pub answered_of : Data → Query → Option Open → Answer
+answered_of id query None = refused (Some id) BadParameters
+answered_of id query (Some document) = answered id document query
 
 abbrev pub requested_running : List Open → Data → Asked → Phase × Answer
 requested_running documents id initialize = (Running, refused (Some id) NoRequest)
 requested_running documents id shutdown = (Finished, done id)
-requested_running documents id (about uri question) = (Running, answered_of id question (open_at uri documents))
+requested_running documents id (about uri query) = (Running, answered_of id query (open_at uri documents))
 requested_running documents id unreadable = (Running, refused (Some id) BadParameters)
 requested_running documents id unknown = (Running, refused (Some id) NoMethod)
 

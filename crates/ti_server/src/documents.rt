@@ -2,7 +2,7 @@
 ghost use Rattle.std.specs.Prelude.{◌≡◌, ◌<◌, IfOk, IfSome, OnOk, Some, length, map, option_map};
 ghost use Rattle.serde_json.specs.View.{view};
 ghost use Rattle.ti_messages.specs.Shapes.{publish_data};
-ghost use Rattle.ti_messages.specs.Views.{edit_view};
+ghost use Rattle.ti_messages.specs.Views.{edit_view, question_view, reply_view};
 ghost use Rattle.ti_server.specs.Answers.{answer_data};
 ghost use Rattle.ti_server.specs.States.{documents_view, open_view};
 ghost use Rattle.ti_server.specs.Steps.{changed_at, closed_at, open_at, shown, with_document, with_edits, without};
@@ -13,7 +13,7 @@ use crate::source::Source;
 use serde_json::Value;
 use std::alloc::{AllocError, Global};
 use ti_messages::writing::publish_value;
-use ti_messages::{Change, Question};
+use ti_messages::{Change, Question, Reply};
 
 /// An open document.
 #[derive(Drop)]
@@ -161,7 +161,7 @@ pub fn close<D: Source + Drop>(
     }
 }
 
-/// The answer to a question about a document, or `None` if it is not open.
+/// What comes of a question about a document, or `None` if it is not open.
 ///
 /// # Errors
 /// Out of memory.
@@ -169,19 +169,19 @@ pub fn ask<D: Source>(
     alloc: Global,
     documents: &[Opened<D>],
     uri: &str,
-    question: Question,
-) -> Result<Option<Value>, AllocError>
-    ensures { IfOk result (λ answer. option_map view answer ≡ option_map
-        (λ document. D.says.answers document.text document.uri question) (open_at uri.now (documents_view D.text_of documents.now))) }
+    question: Question<'_>,
+) -> Result<Option<Reply>, AllocError>
+    ensures { IfOk result (λ reply. option_map reply_view reply ≡ option_map
+        (λ document. D.says.answers document.text document.uri (question_view question.entry)) (open_at uri.now (documents_view D.text_of documents.now))) }
 {
     match find(documents, uri) {
         None => Ok(None),
         Some(at) => {
             let document = &documents[at];
-            let answer = document
+            let reply = document
                 .source
                 .answer(alloc, document.uri.as_str(), question)?;
-            Ok(Some(answer))
+            Ok(Some(reply))
         }
     }
 }

@@ -1,7 +1,7 @@
 //! Requests, answered by how far the server has come.
 ghost use Rattle.std.specs.Prelude.{◌≡◌, IfOk};
 ghost use Rattle.serde_json.specs.View.{view};
-ghost use Rattle.ti_messages.specs.Views.{asked_view};
+ghost use Rattle.ti_messages.specs.Views.{asked_view, question_view};
 ghost use Rattle.ti_server.specs.Answers.{answer_data};
 ghost use Rattle.ti_server.specs.Sayings.{Sayings};
 ghost use Rattle.ti_server.specs.States.{documents_view};
@@ -13,7 +13,7 @@ use crate::phase::Phase;
 use crate::source::Source;
 use serde_json::Value;
 use std::alloc::{AllocError, Global};
-use ti_messages::writing::{initialized_value, refusal_value, response_value};
+use ti_messages::writing::{initialized_value, refusal_value, reply_value, response_value};
 use ti_messages::{Call, Failure, Question};
 
 /// The version of the server.
@@ -46,14 +46,14 @@ fn answer_about<D: Source>(
     documents: &[Opened<D>],
     id: &Value,
     uri: &str,
-    question: Question,
+    question: Question<'_>,
 ) -> Result<Value, AllocError>
     ensures { IfOk result (λ v. view v ≡ answer_data D.says
-        (answered_of (view id.now) question (open_at uri.now (documents_view D.text_of documents.now)))) }
+        (answered_of (view id.now) (question_view question.entry) (open_at uri.now (documents_view D.text_of documents.now)))) }
 {
     match documents::ask(alloc, documents, uri, question)? {
         None => refusal_value(alloc, Some(id), Failure::BadParameters),
-        Some(answer) => response_value(alloc, id, answer),
+        Some(reply) => reply_value(alloc, id, reply),
     }
 }
 

@@ -1,12 +1,13 @@
 //! What a text has to offer that is open in an editor.
 use serde_json::Value;
 use std::alloc::{AllocError, Global};
-use ti_messages::{Position, Question};
+use ti_messages::{Position, Question, Reply};
 
 /// A text with what is wrong with it, and with answers to questions about it.
 pub trait Source {
     ghost use Rattle.std.specs.Prelude.{◌≡◌, ◌≤◌, ℕ, List, IfOk, OnOk, length};
-    ghost use Rattle.serde_json.specs.View.{items_view, view};
+    ghost use Rattle.serde_json.specs.View.{items_view};
+    ghost use Rattle.ti_messages.specs.Views.{question_view, reply_view};
     ghost use Rattle.ti_messages.specs.declared.places.Position.{Position};
     ghost use Rattle.ti_server.specs.Sayings.{HasNoFloats, Sayings};
 
@@ -51,12 +52,13 @@ pub trait Source {
     fn diagnostics(&self, alloc: Global) -> Result<Vec<Value>, AllocError>
         ensures { IfOk result (λ values. items_view values.items ≡ says.diagnostics (text_of self.now)) };
 
-    /// The answer to a question about it, which may have its URI in it, as a value of the protocol.
+    /// What comes of a question about it: the answer, which may have its URI in it, as a value of
+    /// the protocol, or why the question is refused.
     ///
     /// # Errors
     /// Out of memory.
-    fn answer(&self, alloc: Global, uri: &str, question: Question) -> Result<Value, AllocError>
-        ensures { IfOk result (λ v. view v ≡ says.answers (text_of self.now) uri.now question) };
+    fn answer(&self, alloc: Global, uri: &str, question: Question<'_>) -> Result<Reply, AllocError>
+        ensures { IfOk result (λ reply. reply_view reply ≡ says.answers (text_of self.now) uri.now (question_view question.entry)) };
 
     // A law: nothing that is said has a float, whose text would not be known.
     ghost no_floats: { HasNoFloats says };

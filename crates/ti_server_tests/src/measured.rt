@@ -1,11 +1,13 @@
 //! A source for tests: its one diagnostic is the length of its text, and lines do not count. The
-//! answer to a question about it has the URI, the text, and what was asked.
+//! answer to a question about it has the URI, the text, and what was asked: of a rename the new
+//! name. A rename to an empty name is refused.
 ghost use Rattle.std.specs.Prelude.{◌≡◌};
 ghost use Rattle.ti_server_tests.specs.Measured.{flag_of, place_of, word_of};
+ghost use Rattle.ti_messages.specs.Views.{question_view};
 
 use serde_json::{Value, json};
 use std::alloc::{AllocError, Global};
-use ti_messages::{Position, Question};
+use ti_messages::{Failure, Position, Question, Reply};
 use ti_server::Source;
 
 /// A text.
@@ -15,10 +17,10 @@ pub struct Measured {
 }
 
 // What is asked, as a word, its place, and whether the definition is asked for too.
-fn parts_of(question: Question) -> (&'static str, Position, bool)
-    ensures word { result.0.now ≡ word_of question }
-    ensures place { result.1 ≡ place_of question }
-    ensures flag { result.2 ≡ flag_of question }
+fn parts_of(question: Question<'_>) -> (&str, Position, bool)
+    ensures word { result.0.now ≡ word_of (question_view question.entry) }
+    ensures place { result.1 ≡ place_of (question_view question.entry) }
+    ensures flag { result.2 ≡ flag_of (question_view question.entry) }
 {
     let start = Position { line: 0, column: 0 };
     match question {
@@ -30,6 +32,8 @@ fn parts_of(question: Question) -> (&'static str, Position, bool)
             with_declaration,
         } => ("references", place, with_declaration),
         Question::Symbols => ("symbols", start, false),
+        Question::Rename { place, name } => (name, place, false),
+        Question::PrepareRename(place) => ("prepareRename", place, false),
     }
 }
 
@@ -69,9 +73,17 @@ impl Source for Measured {
         Ok(values)
     }
 
-    fn answer(&self, alloc: Global, uri: &str, question: Question) -> Result<Value, AllocError> {
+    fn answer(
+        &self,
+        alloc: Global,
+        uri: &str,
+        question: Question<'_>,
+    ) -> Result<Reply, AllocError> {
         let (word, place, flag) = parts_of(question);
+        if word.is_empty() {
+            return Ok(Reply::Refusal(Failure::NoName));
+        }
         let len = self.text.len();
-        json!(in alloc; [uri, len, word, place.line, place.column, flag])
+        Ok(Reply::Answer(json!(in alloc; [uri, len, word, place.line, place.column, flag])?))
     }
 }

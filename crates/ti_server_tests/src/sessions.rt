@@ -20,7 +20,7 @@ const INITIALIZE: &str =
     r#"{"jsonrpc":"2.0","id":1,"method":"initialize","params":{"capabilities":{}}}"#;
 
 const READY: &str =
-    r#"{"id":1,"jsonrpc":"2.0","result":{"capabilities":{"completionProvider":{"triggerCharacters":["=",","]},"definitionProvider":true,"documentSymbolProvider":true,"hoverProvider":true,"positionEncoding":"utf-16","referencesProvider":true,"textDocumentSync":{"change":2,"openClose":true}},"serverInfo":{"name":"ti-lsp","version":"1.0.0"}}}"#;
+    r#"{"id":1,"jsonrpc":"2.0","result":{"capabilities":{"completionProvider":{"triggerCharacters":["=",","]},"definitionProvider":true,"documentSymbolProvider":true,"hoverProvider":true,"positionEncoding":"utf-16","referencesProvider":true,"renameProvider":{"prepareProvider":true},"textDocumentSync":{"change":2,"openClose":true}},"serverInfo":{"name":"ti-lsp","version":"1.0.0"}}}"#;
 
 const SHUTDOWN: &str = r#"{"jsonrpc":"2.0","id":2,"method":"shutdown"}"#;
 
@@ -263,7 +263,7 @@ fn requests_that_are_refused(rt: HostRuntime) -> Result<(), Fail> {
     expect_all(&rt, rt.alloc(), &REQUESTS)
 }
 
-const QUESTIONS: [Session; 3] = [
+const QUESTIONS: [Session; 4] = [
     Session {
         name: "questions about two documents",
         sent: &[
@@ -287,6 +287,24 @@ const QUESTIONS: [Session; 3] = [
             r#"{"id":0,"jsonrpc":"2.0","result":["v",2,"references",9,8,true]}"#,
             r#"{"id":1,"jsonrpc":"2.0","result":["u",3,"references",9,8,false]}"#,
             r#"{"id":2,"jsonrpc":"2.0","result":["v",2,"symbols",0,0,false]}"#,
+        ],
+        end: Err(FrameFault::Broken),
+    },
+    Session {
+        name: "renames, of which one is refused",
+        sent: &[
+            INITIALIZE,
+            OPEN,
+            r#"{"id":"p","method":"textDocument/prepareRename","params":{"textDocument":{"uri":"u"},"position":{"line":6,"character":7}}}"#,
+            r#"{"id":"r","method":"textDocument/rename","params":{"textDocument":{"uri":"u"},"position":{"line":8,"character":9},"newName":"vt\u00e9"}}"#,
+            r#"{"id":5,"method":"textDocument/rename","params":{"textDocument":{"uri":"u"},"position":{"line":8,"character":9},"newName":""}}"#,
+        ],
+        answers: &[
+            READY,
+            OPENED,
+            r#"{"id":"p","jsonrpc":"2.0","result":["u",3,"prepareRename",6,7,false]}"#,
+            r#"{"id":"r","jsonrpc":"2.0","result":["u",3,"vté",8,9,false]}"#,
+            r#"{"error":{"code":-32803,"message":"no entry can have the new name"},"id":5,"jsonrpc":"2.0"}"#,
         ],
         end: Err(FrameFault::Broken),
     },
@@ -327,10 +345,18 @@ const QUESTIONS: [Session; 3] = [
             r#"{"id":3,"method":"textDocument/references","params":{"textDocument":{"uri":"u"},"position":{"line":0,"character":0}}}"#,
             r#"{"id":3,"method":"textDocument/references","params":{"textDocument":{"uri":"u"},"position":{"line":0,"character":0},"context":{"includeDeclaration":1}}}"#,
             r#"{"id":3,"method":"textDocument/documentSymbol","params":{"textDocument":"u"}}"#,
+            r#"{"id":3,"method":"textDocument/rename","params":{"textDocument":{"uri":"u"},"position":{"line":0,"character":0}}}"#,
+            r#"{"id":3,"method":"textDocument/rename","params":{"textDocument":{"uri":"u"},"position":{"line":0,"character":0},"newName":null}}"#,
+            r#"{"id":3,"method":"textDocument/rename","params":{"textDocument":{"uri":"u"},"newName":"vt"}}"#,
+            r#"{"id":3,"method":"textDocument/prepareRename","params":{"textDocument":{"uri":"u"}}}"#,
         ],
         answers: &[
             READY,
             OPENED,
+            NOT_ANSWERED,
+            NOT_ANSWERED,
+            NOT_ANSWERED,
+            NOT_ANSWERED,
             NOT_ANSWERED,
             NOT_ANSWERED,
             NOT_ANSWERED,

@@ -3,13 +3,14 @@ use serde_json::Value;
 use std::process::Abort;
 use std::test::Fail;
 use ti_messages::answers::{
-    ItemKind, hover_value, item_value, list_value, location_value, symbol_value,
+    ItemKind, hover_value, item_value, list_value, location_value, symbol_value, text_edit_value,
+    workspace_edit_value,
 };
 use ti_messages::writing::{
     Severity, diagnostic_value, initialized_value, position_value, publish_value, range_value,
-    refusal_value, response_value,
+    refusal_value, reply_value, response_value,
 };
-use ti_messages::{Failure, Message, Notice, Position, Range, parse, read_message};
+use ti_messages::{Failure, Message, Notice, Position, Range, Reply, parse, read_message};
 
 const RANGE: Range = Range {
     start: Position { line: 2, column: 1 },
@@ -86,6 +87,18 @@ fn symbols_and_hovers(rt: HostRuntime) -> Result<(), Fail> {
     Ok(())
 }
 
+const EDITS_TEXT: &str =
+    r#"{"changes":{"file:///a":[{"newText":"vt","range":{"end":{"character":0,"line":3},"start":{"character":1,"line":2}}}]}}"#;
+
+#[test]
+fn edits(rt: HostRuntime) -> Result<(), Fail> {
+    let alloc = rt.alloc();
+    let edit = text_edit_value(alloc, "vt", RANGE)?;
+    let edits = workspace_edit_value(alloc, "file:///a", Vec::from_array(alloc, [edit])?)?;
+    assert!(rt; edits.to_string(alloc)?.as_str() == EDITS_TEXT);
+    Ok(())
+}
+
 const PUBLISHED: &str =
     r#"{"jsonrpc":"2.0","method":"textDocument/publishDiagnostics","params":{"diagnostics":[],"uri":"file:///a%20b.ti","version":0}}"#;
 
@@ -94,8 +107,11 @@ const RESPONSE: &str = r#"{"id":null,"jsonrpc":"2.0","result":true}"#;
 const REFUSAL: &str =
     r#"{"error":{"code":-32602,"message":"the parameters are not those of the method"},"id":true,"jsonrpc":"2.0"}"#;
 
+const REFUSED: &str =
+    r#"{"error":{"code":-32803,"message":"another entry has the new name"},"id":null,"jsonrpc":"2.0"}"#;
+
 const READY: &str =
-    r#"{"capabilities":{"completionProvider":{"triggerCharacters":["=",","]},"definitionProvider":true,"documentSymbolProvider":true,"hoverProvider":true,"positionEncoding":"utf-16","referencesProvider":true,"textDocumentSync":{"change":2,"openClose":true}},"serverInfo":{"name":"ti-lsp","version":"9"}}"#;
+    r#"{"capabilities":{"completionProvider":{"triggerCharacters":["=",","]},"definitionProvider":true,"documentSymbolProvider":true,"hoverProvider":true,"positionEncoding":"utf-16","referencesProvider":true,"renameProvider":{"prepareProvider":true},"textDocumentSync":{"change":2,"openClose":true}},"serverInfo":{"name":"ti-lsp","version":"9"}}"#;
 
 #[test]
 fn messages(rt: HostRuntime) -> Result<(), Fail> {
@@ -104,6 +120,10 @@ fn messages(rt: HostRuntime) -> Result<(), Fail> {
     assert!(rt; published.to_string(alloc)?.as_str() == PUBLISHED);
     let response = response_value(alloc, &Value::Null, Value::Bool(true))?;
     assert!(rt; response.to_string(alloc)?.as_str() == RESPONSE);
+    let reply = reply_value(alloc, &Value::Null, Reply::Answer(Value::Bool(true)))?;
+    assert!(rt; reply.to_string(alloc)?.as_str() == RESPONSE);
+    let reply = reply_value(alloc, &Value::Null, Reply::Refusal(Failure::NameTaken))?;
+    assert!(rt; reply.to_string(alloc)?.as_str() == REFUSED);
     let id = Value::Bool(true);
     let refusal = refusal_value(alloc, Some(&id), Failure::BadParameters)?;
     assert!(rt; refusal.to_string(alloc)?.as_str() == REFUSAL);
@@ -113,12 +133,14 @@ fn messages(rt: HostRuntime) -> Result<(), Fail> {
 }
 
 // JSON-RPC 2.0, section 5.1, and "ErrorCodes" of the protocol.
-const CODES: [(Failure, i32); 5] = [
+const CODES: [(Failure, i32); 7] = [
     (Failure::NoJson, -32700),
     (Failure::NoRequest, -32600),
     (Failure::NoMethod, -32601),
     (Failure::BadParameters, -32602),
     (Failure::NotInitialized, -32002),
+    (Failure::NoName, -32803),
+    (Failure::NameTaken, -32803),
 ];
 
 #[test]
