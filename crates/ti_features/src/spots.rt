@@ -16,13 +16,13 @@ use ti_text::count_lines;
 
 /// A place in a block of a document.
 #[derive(Clone, Copy)]
-pub(crate) struct Spot {
+pub struct Spot {
     /// The position of the block.
-    pub(crate) at: usize,
+    pub at: usize,
     /// The line on which the block begins, from 0.
-    pub(crate) line: usize,
+    pub line: usize,
     /// The offset of the place in the block.
-    pub(crate) offset: usize,
+    pub offset: usize,
 }
 
 /// The line on which the first block of a document begins, from 0.
@@ -61,7 +61,7 @@ pub(crate) fn place_in(line: usize, block: &[u8], offset: usize) -> Position
 }
 
 /// The part of a text that is a part of a block which begins on that line.
-pub(crate) fn range_in(line: usize, block: &[u8], part: Part) -> Range
+pub fn range_in(line: usize, block: &[u8], part: Part) -> Range
     requires { line + length block.now < 2 ^ 64 }
     ensures { result ≡ spec.range_in line block.now part }
 {
@@ -71,8 +71,9 @@ pub(crate) fn range_in(line: usize, block: &[u8], part: Part) -> Range
     }
 }
 
-// The offset of a place in a block that begins on that line.
-fn offset_in(line: usize, block: &[u8], place: Position) -> usize
+/// The offset of a place in a block that begins on that line; of a place past its end that of its
+/// end.
+pub fn offset_in(line: usize, block: &[u8], place: Position) -> usize
     ensures { result ≡ spec.offset_in line block.now place }
 {
     offset_of(
@@ -121,7 +122,7 @@ fn settled(text: &[u8], place: Position) -> Position
 }
 
 /// Where in the blocks of a document a place is, if it is in one.
-pub(crate) fn spot_at(document: &Document, place: Position) -> Option<Spot>
+pub fn spot_at(document: &Document, place: Position) -> Option<Spot>
     ensures spot { result ≡ spec.spot_at document.now place }
     ensures within { IfSome result (λ spot. spot.at < length (held document.now)) }
     ensures room { IfSome result (λ spot. spot.line + length (text_at (held document.now) spot.at) < 2 ^ 64) }

@@ -41,7 +41,7 @@ fn without_front(text: &[(u8, usize)], part: Part) -> Part
 }
 
 /// A part without the white space at its end.
-pub(crate) fn without_end(text: &[(u8, usize)], part: Part) -> Part
+pub fn without_end(text: &[(u8, usize)], part: Part) -> Part
     requires { IsWithin text.now part }
     ensures part { part_of text.now result ≡ spec.without_end (part_of text.now part) }
     ensures within { IsWithin text.now result }
@@ -59,7 +59,10 @@ pub(crate) fn without_end(text: &[(u8, usize)], part: Part) -> Part
 }
 
 /// The items of a folded text, without the white space at their front.
-pub(crate) fn visible_items(alloc: Global, text: &[(u8, usize)]) -> Result<Vec<Part>, AllocError>
+///
+/// # Errors
+/// Out of memory.
+pub fn visible_items(alloc: Global, text: &[(u8, usize)]) -> Result<Vec<Part>, AllocError>
     ensures items { IfOk result (λ parts. map (part_of text.now) parts.items ≡ items_of text.now) }
     ensures within { IfOk result (λ parts. All (IsWithin text.now) parts.items) }
 {
@@ -102,7 +105,7 @@ pub(crate) fn value_part(text: &[(u8, usize)], item: Part) -> Part
 }
 
 /// The name that an item uses, if it is a use.
-pub(crate) fn used_part(text: &[(u8, usize)], item: Part) -> Option<Part>
+pub fn used_part(text: &[(u8, usize)], item: Part) -> Option<Part>
     requires { IsWithin text.now item }
     ensures name { option_map (part_of text.now) result ≡ used_name (part_of text.now item) }
     ensures within { IfSome result (IsWithin text.now) }

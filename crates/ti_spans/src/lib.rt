@@ -19,8 +19,8 @@ mod words;
 
 pub use folding::{folded, one_folding_at};
 pub use heads::{Head, head_of};
-pub use items::{Use, uses_of};
+pub use items::{Use, used_part, uses_of, visible_items, without_end};
 pub use parts::{Part, field_len, item_parts, name_parts, parts_are_computed, span_of};
 pub use subjects::{Subject, Touched, subject_at};
-pub use touching::{Item, item_at, ordinal_at, ordinals_are_read};
+pub use touching::{Item, item_at, name_of, ordinal_at, ordinals_are_read};
 pub use words::{Word, word_before};

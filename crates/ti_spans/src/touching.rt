@@ -65,8 +65,8 @@ fn without_at(text: &[(u8, usize)], part: Part) -> Part
     }
 }
 
-// The name of an item that has no white space around it.
-fn name_of(text: &[(u8, usize)], item: Part) -> Part
+/// The name of an item that has no white space around it.
+pub fn name_of(text: &[(u8, usize)], item: Part) -> Part
     requires { IsWithin text.now item }
     ensures part { part_of text.now result ≡ name_of (part_of text.now item) }
     ensures within { IsWithin text.now result }

@@ -1,0 +1,6 @@
+-- The definitions that the contracts of this crate cite.
+pub mod Candidates
+pub mod Edits
+pub mod Nearest
+pub mod Pieces
+pub mod Shown

@@ -1,0 +1,18 @@
+//! What an editor offers against the faults of a document's items: the code actions of the Language
+//! Server Protocol 3.17, "Code Action Request", of the kind `quickfix`.
+//!
+//! - `distances`: the names that are nearest to one that nothing has
+//! - `candidates`: the names that an item may have in place of its own
+//! - `pieces`: the parts of an item as it is written
+//! - `texts`: bytes as an editor is sent them
+//! - `edits`: what is offered against the fault of an item, as edits of its block
+#![tactic(auto)]
+
+mod candidates;
+mod distances;
+mod edits;
+mod pieces;
+mod texts;
+
+pub use distances::nearest;
+pub use edits::{Advice, Edit};
