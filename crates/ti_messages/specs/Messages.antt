@@ -1,5 +1,6 @@
 -- What a client asks for or tells (LSP 3.17; the section is named at each).
 use Rattle.std.specs.Prelude.{ℕ, ◌^◌, ◌||◌, List, [], ◌∷◌, Bool, true, false, not, Option, None, Some, codes, is_some, option_and_then, option_map, unwrap_or, nat_lt, if◌then◌else◌}
+use Rattle.std.specs.Option.{option_map_or}
 use Rattle.std.specs.Str.{bytes_eq}
 use Rattle.serde_json.specs.Data.{Num, Data, null, boolean, number, unsigned, negative, float, string, array, object, Items, no_items, item}
 use Rattle.serde_json.specs.Find.{as_array, as_bool, as_number, as_str, get, is_float}
@@ -14,7 +15,7 @@ pub record Edit : Type 0 where
   pub text : List ℕ
 
 -- what is asked about a document: of references whether the definition is asked for too, of a
--- rename the new name
+-- rename the new name, of fixes whether those of the kind "quickfix" are asked for
 pub data Query : Type 0 where
   completion : Position → Query
   hover : Position → Query
@@ -23,6 +24,7 @@ pub data Query : Type 0 where
   symbols : Query
   rename : Position → List ℕ → Query
   prepare_rename : Position → Query
+  fixes : Range → Bool → Query
 
 -- a request: of a document its URI and what is asked about it; `unreadable` are those whose
 -- parameters are not those of the method
@@ -137,7 +139,8 @@ topic_of method =
     else (if bytes_eq method (codes "textDocument/references") then Some asks.References
     else (if bytes_eq method (codes "textDocument/documentSymbol") then Some asks.Symbols
     else (if bytes_eq method (codes "textDocument/rename") then Some asks.Rename
-    else (if bytes_eq method (codes "textDocument/prepareRename") then Some asks.PrepareRename else None))))))
+    else (if bytes_eq method (codes "textDocument/prepareRename") then Some asks.PrepareRename
+    else (if bytes_eq method (codes "textDocument/codeAction") then Some asks.Fixes else None)))))))
 
 -- "TextDocumentPositionParams"
 abbrev pub asked_place : Data → Option Position
@@ -158,8 +161,30 @@ rename_of params = do
   name ← text_at (codes "newName") params
   Some (rename place name)
 
+-- "CodeActionKind": quick fixes are of their kind, and of the empty one of all actions
+abbrev pub has_quick_fixes : Data → Bool
+has_quick_fixes d = option_map_or (λ kind. bytes_eq kind (codes "quickfix") || bytes_eq kind []) (as_str d) false
+
+-- one of these kinds has quick fixes in it
+abbrev pub have_quick_fixes : Items → Bool
+have_quick_fixes no_items = false
+have_quick_fixes (item d ds) = has_quick_fixes d || have_quick_fixes ds
+
+-- "CodeActionContext": whether quick fixes are asked for, given `only`, if it is there
+abbrev pub wanted_by : Option Data → Option Bool
+wanted_by None = Some true
+wanted_by (Some d) = option_map have_quick_fixes (as_array d)
+
+-- "CodeActionParams"; the diagnostics are not read
+abbrev pub fixes_of : Data → Option Query
+fixes_of params = do
+  range ← option_and_then range_of (get (codes "range") params)
+  context ← get (codes "context") params
+  wanted ← wanted_by (get (codes "only") context)
+  Some (fixes range wanted)
+
 -- "CompletionParams", "HoverParams", "DefinitionParams", "DocumentSymbolParams",
--- "PrepareRenameParams"
+-- "PrepareRenameParams", "CodeActionParams"
 abbrev pub question_of : Topic → Data → Option Query
 question_of asks.Completion params = option_map completion (asked_place params)
 question_of asks.Hover params = option_map hover (asked_place params)
@@ -168,6 +193,7 @@ question_of asks.References params = references_of params
 question_of asks.Symbols params = Some symbols
 question_of asks.Rename params = rename_of params
 question_of asks.PrepareRename params = option_map prepare_rename (asked_place params)
+question_of asks.Fixes params = fixes_of params
 
 abbrev pub about_of : Topic → Data → Option Asked
 about_of topic params = do

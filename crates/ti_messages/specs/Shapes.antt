@@ -117,6 +117,13 @@ text_edit_data text range = object (member (codes "newText") (string text) (memb
 abbrev pub workspace_edit_data : List ℕ → Items → Data
 workspace_edit_data uri edits = object (member (codes "changes") (object (member uri (array edits) no_members)) no_members)
 
+-- "CodeAction": a quick fix that makes one edit in one document
+abbrev pub action_data : List ℕ → List ℕ → Range → List ℕ → Data
+action_data uri title range text =
+    object (member (codes "edit") (workspace_edit_data uri (item (text_edit_data text range) no_items))
+    (member (codes "kind") (string (codes "quickfix"))
+    (member (codes "title") (string title) no_members)))
+
 -- "CompletionItemKind": a field, a struct
 abbrev pub item_number : ItemKind → ℕ
 item_number Capability = 5
@@ -158,17 +165,22 @@ completion_options_data =
 abbrev pub rename_options_data : Data
 rename_options_data = object (member (codes "prepareProvider") (boolean true) no_members)
 
+-- "CodeActionOptions": the actions are quick fixes
+abbrev pub action_options_data : Data
+action_options_data = object (member (codes "codeActionKinds") (array (item (string (codes "quickfix")) no_items)) no_members)
+
 -- "ServerCapabilities"
 abbrev pub capabilities_data : Data
 capabilities_data =
-    object (member (codes "completionProvider") completion_options_data
+    object (member (codes "codeActionProvider") action_options_data
+    (member (codes "completionProvider") completion_options_data
     (member (codes "definitionProvider") (boolean true)
     (member (codes "documentSymbolProvider") (boolean true)
     (member (codes "hoverProvider") (boolean true)
     (member (codes "positionEncoding") (string (codes "utf-16"))
     (member (codes "referencesProvider") (boolean true)
     (member (codes "renameProvider") rename_options_data
-    (member (codes "textDocumentSync") sync_data no_members))))))))
+    (member (codes "textDocumentSync") sync_data no_members)))))))))
 
 -- "InitializeResult"
 abbrev pub server_data : List ℕ → Data

@@ -10,7 +10,7 @@ use Rattle.ti_messages.specs.declared.messages.Call.TheVariants as call
 use Rattle.ti_messages.specs.declared.messages.Notice.{Notice}
 use Rattle.ti_messages.specs.declared.messages.Notice.TheVariants.{Exited, Opened, Changed, Closed, Nothing}
 use Rattle.ti_messages.specs.declared.messages.Question.{Question}
-use Rattle.ti_messages.specs.declared.messages.Question.TheVariants.{Completion, Hover, Definition, References, Symbols, Rename, PrepareRename}
+use Rattle.ti_messages.specs.declared.messages.Question.TheVariants.{Completion, Hover, Definition, References, Symbols, Rename, PrepareRename, Fixes}
 use Rattle.ti_messages.specs.declared.messages.Reply.{Reply}
 use Rattle.ti_messages.specs.declared.messages.Reply.TheVariants.{Answer, Refusal}
 use Rattle.ti_messages.specs.declared.messages.Message.{Message}
@@ -28,6 +28,7 @@ question_view (References place with_declaration) = means.references place with_
 question_view Symbols = means.symbols
 question_view (Rename place name) = means.rename place name.now
 question_view (PrepareRename place) = means.prepare_rename place
+question_view (Fixes range wanted) = means.fixes range wanted
 
 -- what comes of a question, held in memory
 abbrev pub reply_view : Reply → Said

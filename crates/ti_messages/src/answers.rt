@@ -1,7 +1,8 @@
 //! The values that answer questions about a document. Each call writes one object of the protocol.
 ghost use Rattle.std.specs.Prelude.{◌≡◌, IfOk, option_map};
+ghost use Rattle.serde_json.specs.Data.{item, no_items};
 ghost use Rattle.serde_json.specs.View.{items_view, view};
-ghost use Rattle.ti_messages.specs.Shapes.{hover_data, item_data, item_number, list_data, location_data, plain_data, symbol_data, text_edit_data, workspace_edit_data};
+ghost use Rattle.ti_messages.specs.Shapes.{action_data, hover_data, item_data, item_number, list_data, location_data, plain_data, symbol_data, text_edit_data, workspace_edit_data};
 
 use crate::places::Range;
 use crate::writing::range_value;
@@ -101,6 +102,33 @@ pub fn workspace_edit_value(
 {
     let edits = Value::Array(edits);
     json!(in alloc; {"changes": {uri: edits}})
+}
+
+// One edit of a document ("WorkspaceEdit").
+fn one_edit_value(alloc: Global, uri: &str, range: Range, text: &str) -> Result<Value, AllocError>
+    ensures { IfOk result (λ v. view v ≡ workspace_edit_data uri.now (item (text_edit_data text.now range) no_items)) }
+{
+    let mut edits = Vec::new(alloc);
+    edits.push(text_edit_value(alloc, text, range)?)?;
+    workspace_edit_value(alloc, uri, edits)
+}
+
+/// What is offered against a fault ("CodeAction"): a title, and a text that is put in the place of a
+/// range.
+///
+/// # Errors
+/// `AllocError` if memory ran out.
+pub fn action_value(
+    alloc: Global,
+    uri: &str,
+    title: &str,
+    range: Range,
+    text: &str,
+) -> Result<Value, AllocError>
+    ensures { IfOk result (λ v. view v ≡ action_data uri.now title.now range text.now) }
+{
+    let edit = one_edit_value(alloc, uri, range, text)?;
+    json!(in alloc; {"edit": edit, "kind": "quickfix", "title": title})
 }
 
 /// An item of a completion ("CompletionItem"): its label is the text that it puts in place of the

@@ -1,11 +1,11 @@
 //! What a request asks about a document, read from its parameters.
 ghost use Rattle.std.specs.Prelude.{◌≡◌, codes, option_and_then, option_map};
 ghost use Rattle.serde_json.specs.Find.{as_bool, get};
-ghost use Rattle.serde_json.specs.View.{view};
-ghost use Rattle.ti_messages.specs.Messages.{about_document, about_of, question_of, references_of, rename_of, topic_of};
+ghost use Rattle.serde_json.specs.View.{items_view, view};
+ghost use Rattle.ti_messages.specs.Messages.{about_document, about_of, fixes_of, has_quick_fixes, have_quick_fixes, question_of, references_of, rename_of, topic_of, wanted_by};
 ghost use Rattle.ti_messages.specs.Views.{asked_view, question_view};
 
-use crate::members::{position_at, text_at};
+use crate::members::{position_at, read_range, text_at};
 use crate::messages::{Call, Question};
 use serde_json::Value;
 
@@ -26,6 +26,8 @@ pub(crate) enum Topic {
     Rename,
     /// Which name a rename at a place is of.
     PrepareRename,
+    /// What is offered against faults.
+    Fixes,
 }
 
 /// What a method asks about a document, if it does.
@@ -46,6 +48,8 @@ pub(crate) fn topic_of(method: &str) -> Option<Topic>
         Some(Topic::Rename)
     } else if method == "textDocument/prepareRename" {
         Some(Topic::PrepareRename)
+    } else if method == "textDocument/codeAction" {
+        Some(Topic::Fixes)
     } else {
         None
     }
@@ -72,6 +76,47 @@ fn read_rename(params: &Value) -> Option<Question<'_>>
     Some(Question::Rename { place, name })
 }
 
+// Whether a kind of actions has quick fixes in it: theirs, or that of all actions.
+fn has_quick_fixes(kind: &Value) -> bool
+    ensures { result ≡ has_quick_fixes (view kind.now) }
+{
+    match kind.as_str() {
+        Some(kind) => kind == "quickfix" || kind.is_empty(),
+        None => false,
+    }
+}
+
+// Whether one of some kinds has quick fixes in it.
+fn have_quick_fixes(kinds: &Vec<Value>) -> bool
+    ensures { result ≡ have_quick_fixes (items_view kinds.now.items) }
+{
+    for kind in kinds {
+        if has_quick_fixes(kind) {
+            return true;
+        }
+    }
+    false
+}
+
+// Whether quick fixes are asked for, given the kinds that are, if these are given.
+fn wanted_by(kinds: Option<&Value>) -> Option<bool>
+    ensures { result ≡ wanted_by (option_map (λ kinds. view kinds.now) kinds.entry) }
+{
+    match kinds {
+        None => Some(true),
+        Some(kinds) => Some(have_quick_fixes(kinds.as_array()?)),
+    }
+}
+
+// What is offered against faults ("CodeActionParams").
+fn read_fixes(params: &Value) -> Option<Question<'_>>
+    ensures { option_map question_view result ≡ fixes_of (view params.now) }
+{
+    let range = read_range(params.get("range")?)?;
+    let wanted = wanted_by(params.get("context")?.get("only"))?;
+    Some(Question::Fixes { range, wanted })
+}
+
 // What parameters ask ("TextDocumentPositionParams" and others).
 fn read_question(topic: Topic, params: &Value) -> Option<Question<'_>>
     ensures { option_map question_view result ≡ question_of topic (view params.now) }
@@ -84,6 +129,7 @@ fn read_question(topic: Topic, params: &Value) -> Option<Question<'_>>
         Topic::Symbols => Some(Question::Symbols),
         Topic::Rename => read_rename(params),
         Topic::PrepareRename => Some(Question::PrepareRename(position_at(params, "position")?)),
+        Topic::Fixes => read_fixes(params),
     }
 }
 

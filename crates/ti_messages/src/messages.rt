@@ -39,6 +39,13 @@ pub enum Question<'a> {
     },
     /// Which name a rename at a place is of ("Prepare Rename Request").
     PrepareRename(Position),
+    /// What is offered against the faults of a part ("Code Action Request").
+    Fixes {
+        /// The part.
+        range: Range,
+        /// Whether quick fixes are asked for, and not only actions of other kinds.
+        wanted: bool,
+    },
 }
 
 /// What comes of a question about a document.

@@ -3,7 +3,7 @@ ghost use Rattle.std.specs.Prelude.{◌≡◌, IfOk, option_map, unwrap_or};
 ghost use Rattle.serde_json.specs.Data.{null};
 ghost use Rattle.serde_json.specs.View.{items_view, view};
 ghost use Rattle.ti_messages.specs.Views.{reply_view};
-ghost use Rattle.ti_messages.specs.Shapes.{capabilities_data, completion_options_data, diagnostic_data, failure_data, initialized_data, notification_data, position_data, publish_data, published_data, range_data, refusal_data, rename_options_data, reply_data, response_data, server_data, severity_number, sync_data};
+ghost use Rattle.ti_messages.specs.Shapes.{action_options_data, capabilities_data, completion_options_data, diagnostic_data, failure_data, initialized_data, notification_data, position_data, publish_data, published_data, range_data, refusal_data, rename_options_data, reply_data, response_data, server_data, severity_number, sync_data};
 
 use crate::failures::Failure;
 use crate::messages::Reply;
@@ -187,6 +187,13 @@ fn completion_options_value(alloc: Global) -> Result<Value, AllocError>
     json!(in alloc; {"triggerCharacters": ["=", ","]})
 }
 
+// Which actions there are ("CodeActionOptions").
+fn action_options_value(alloc: Global) -> Result<Value, AllocError>
+    ensures { IfOk result (λ v. view v ≡ action_options_data) }
+{
+    json!(in alloc; {"codeActionKinds": ["quickfix"]})
+}
+
 // How names are changed ("RenameOptions").
 fn rename_options_value(alloc: Global) -> Result<Value, AllocError>
     ensures { IfOk result (λ v. view v ≡ rename_options_data) }
@@ -198,10 +205,11 @@ fn rename_options_value(alloc: Global) -> Result<Value, AllocError>
 fn capabilities_value(alloc: Global) -> Result<Value, AllocError>
     ensures { IfOk result (λ v. view v ≡ capabilities_data) }
 {
+    let actions = action_options_value(alloc)?;
     let completions = completion_options_value(alloc)?;
     let renames = rename_options_value(alloc)?;
     let sync = sync_value(alloc)?;
-    json!(in alloc; {"completionProvider": completions, "definitionProvider": true, "documentSymbolProvider": true, "hoverProvider": true, "positionEncoding": "utf-16", "referencesProvider": true, "renameProvider": renames, "textDocumentSync": sync})
+    json!(in alloc; {"codeActionProvider": actions, "completionProvider": completions, "definitionProvider": true, "documentSymbolProvider": true, "hoverProvider": true, "positionEncoding": "utf-16", "referencesProvider": true, "renameProvider": renames, "textDocumentSync": sync})
 }
 
 // What the server is.

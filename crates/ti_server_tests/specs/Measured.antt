@@ -1,7 +1,7 @@
 -- What the source for tests says of a text.
 use Rattle.std.specs.Prelude.{ℕ, List, Bool, codes, false, length, nat_eq, refl, true, if◌then◌else◌}
 use Rattle.serde_json.specs.Data.{Data, Items, array, boolean, item, no_items, number, string, unsigned}
-use Rattle.ti_messages.specs.Messages.{Query, completion, hover, definition, references, symbols, rename, prepare_rename}
+use Rattle.ti_messages.specs.Messages.{Query, completion, hover, definition, references, symbols, rename, prepare_rename, fixes}
 use Rattle.ti_messages.specs.Shapes.{Said, said_answer, said_refusal}
 use Rattle.ti_messages.specs.declared.failures.Failure.TheVariants.{NoName}
 use Rattle.ti_messages.specs.declared.places.Position.{Position}
@@ -15,6 +15,7 @@ word_of (references place with_declaration) = codes "references"
 word_of symbols = codes "symbols"
 word_of (rename place name) = name
 word_of (prepare_rename place) = codes "prepareRename"
+word_of (fixes range wanted) = codes "fixes"
 
 abbrev pub place_of : Query → Position
 place_of (completion place) = place
@@ -24,6 +25,7 @@ place_of (references place with_declaration) = place
 place_of symbols = record { line = 0; column = 0 }
 place_of (rename place name) = place
 place_of (prepare_rename place) = place
+place_of (fixes range wanted) = range.start
 
 abbrev pub flag_of : Query → Bool
 flag_of (completion place) = false
@@ -33,6 +35,7 @@ flag_of (references place with_declaration) = with_declaration
 flag_of symbols = false
 flag_of (rename place name) = false
 flag_of (prepare_rename place) = false
+flag_of (fixes range wanted) = wanted
 
 abbrev pub diagnostics_of : List ℕ → Items
 diagnostics_of text = item (number (unsigned (length text))) no_items

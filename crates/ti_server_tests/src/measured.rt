@@ -1,6 +1,7 @@
 //! A source for tests: its one diagnostic is the length of its text, and lines do not count. The
 //! answer to a question about it has the URI, the text, and what was asked: of a rename the new
-//! name. A rename to an empty name is refused.
+//! name, of fixes the start of the range and whether they are wanted. A rename to an empty name is
+//! refused.
 ghost use Rattle.std.specs.Prelude.{◌≡◌};
 ghost use Rattle.ti_server_tests.specs.Measured.{flag_of, place_of, word_of};
 ghost use Rattle.ti_messages.specs.Views.{question_view};
@@ -34,6 +35,7 @@ fn parts_of(question: Question<'_>) -> (&str, Position, bool)
         Question::Symbols => ("symbols", start, false),
         Question::Rename { place, name } => (name, place, false),
         Question::PrepareRename(place) => ("prepareRename", place, false),
+        Question::Fixes { range, wanted } => ("fixes", range.start, wanted),
     }
 }
 

@@ -20,7 +20,7 @@ const INITIALIZE: &str =
     r#"{"jsonrpc":"2.0","id":1,"method":"initialize","params":{"capabilities":{}}}"#;
 
 const READY: &str =
-    r#"{"id":1,"jsonrpc":"2.0","result":{"capabilities":{"completionProvider":{"triggerCharacters":["=",","]},"definitionProvider":true,"documentSymbolProvider":true,"hoverProvider":true,"positionEncoding":"utf-16","referencesProvider":true,"renameProvider":{"prepareProvider":true},"textDocumentSync":{"change":2,"openClose":true}},"serverInfo":{"name":"ti-lsp","version":"1.0.0"}}}"#;
+    r#"{"id":1,"jsonrpc":"2.0","result":{"capabilities":{"codeActionProvider":{"codeActionKinds":["quickfix"]},"completionProvider":{"triggerCharacters":["=",","]},"definitionProvider":true,"documentSymbolProvider":true,"hoverProvider":true,"positionEncoding":"utf-16","referencesProvider":true,"renameProvider":{"prepareProvider":true},"textDocumentSync":{"change":2,"openClose":true}},"serverInfo":{"name":"ti-lsp","version":"1.0.0"}}}"#;
 
 const SHUTDOWN: &str = r#"{"jsonrpc":"2.0","id":2,"method":"shutdown"}"#;
 
@@ -263,7 +263,7 @@ fn requests_that_are_refused(rt: HostRuntime) -> Result<(), Fail> {
     expect_all(&rt, rt.alloc(), &REQUESTS)
 }
 
-const QUESTIONS: [Session; 4] = [
+const QUESTIONS: [Session; 5] = [
     Session {
         name: "questions about two documents",
         sent: &[
@@ -309,6 +309,28 @@ const QUESTIONS: [Session; 4] = [
         end: Err(FrameFault::Broken),
     },
     Session {
+        name: "fixes, with and without the kinds that are asked for",
+        sent: &[
+            INITIALIZE,
+            OPEN,
+            r#"{"id":1,"method":"textDocument/codeAction","params":{"textDocument":{"uri":"u"},"range":{"start":{"line":1,"character":2},"end":{"line":3,"character":4}},"context":{"diagnostics":[]}}}"#,
+            r#"{"id":2,"method":"textDocument/codeAction","params":{"textDocument":{"uri":"u"},"range":{"start":{"line":1,"character":2},"end":{"line":3,"character":4}},"context":{"diagnostics":[],"only":["refactor","quickfix"]}}}"#,
+            r#"{"id":3,"method":"textDocument/codeAction","params":{"textDocument":{"uri":"u"},"range":{"start":{"line":1,"character":2},"end":{"line":3,"character":4}},"context":{"diagnostics":[],"only":[""]}}}"#,
+            r#"{"id":4,"method":"textDocument/codeAction","params":{"textDocument":{"uri":"u"},"range":{"start":{"line":1,"character":2},"end":{"line":3,"character":4}},"context":{"diagnostics":[],"only":["quickfix.x","quick",1]}}}"#,
+            r#"{"id":5,"method":"textDocument/codeAction","params":{"textDocument":{"uri":"u"},"range":{"start":{"line":1,"character":2},"end":{"line":3,"character":4}},"context":{"diagnostics":[],"only":[]}}}"#,
+        ],
+        answers: &[
+            READY,
+            OPENED,
+            r#"{"id":1,"jsonrpc":"2.0","result":["u",3,"fixes",1,2,true]}"#,
+            r#"{"id":2,"jsonrpc":"2.0","result":["u",3,"fixes",1,2,true]}"#,
+            r#"{"id":3,"jsonrpc":"2.0","result":["u",3,"fixes",1,2,true]}"#,
+            r#"{"id":4,"jsonrpc":"2.0","result":["u",3,"fixes",1,2,false]}"#,
+            r#"{"id":5,"jsonrpc":"2.0","result":["u",3,"fixes",1,2,false]}"#,
+        ],
+        end: Err(FrameFault::Broken),
+    },
+    Session {
         name: "a question after a change, and after the document was closed",
         sent: &[
             INITIALIZE,
@@ -349,10 +371,16 @@ const QUESTIONS: [Session; 4] = [
             r#"{"id":3,"method":"textDocument/rename","params":{"textDocument":{"uri":"u"},"position":{"line":0,"character":0},"newName":null}}"#,
             r#"{"id":3,"method":"textDocument/rename","params":{"textDocument":{"uri":"u"},"newName":"vt"}}"#,
             r#"{"id":3,"method":"textDocument/prepareRename","params":{"textDocument":{"uri":"u"}}}"#,
+            r#"{"id":3,"method":"textDocument/codeAction","params":{"textDocument":{"uri":"u"},"range":{"start":{"line":1,"character":2},"end":{"line":3,"character":4}}}}"#,
+            r#"{"id":3,"method":"textDocument/codeAction","params":{"textDocument":{"uri":"u"},"range":{"start":{"line":1,"character":2},"end":{"line":3,"character":4}},"context":{"only":"quickfix"}}}"#,
+            r#"{"id":3,"method":"textDocument/codeAction","params":{"textDocument":{"uri":"u"},"range":{"start":{"line":0,"character":0}},"context":{}}}"#,
         ],
         answers: &[
             READY,
             OPENED,
+            NOT_ANSWERED,
+            NOT_ANSWERED,
+            NOT_ANSWERED,
             NOT_ANSWERED,
             NOT_ANSWERED,
             NOT_ANSWERED,

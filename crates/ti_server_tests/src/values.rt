@@ -3,7 +3,7 @@ use serde_json::Value;
 use std::process::Abort;
 use std::test::Fail;
 use ti_messages::answers::{
-    ItemKind, hover_value, item_value, list_value, location_value, symbol_value, text_edit_value,
+    ItemKind, action_value, hover_value, item_value, list_value, location_value, symbol_value, text_edit_value,
     workspace_edit_value,
 };
 use ti_messages::writing::{
@@ -90,12 +90,17 @@ fn symbols_and_hovers(rt: HostRuntime) -> Result<(), Fail> {
 const EDITS_TEXT: &str =
     r#"{"changes":{"file:///a":[{"newText":"vt","range":{"end":{"character":0,"line":3},"start":{"character":1,"line":2}}}]}}"#;
 
+const ACTION_TEXT: &str =
+    r#"{"edit":{"changes":{"u":[{"newText":"am","range":{"end":{"character":0,"line":3},"start":{"character":1,"line":2}}}]}},"kind":"quickfix","title":"T"}"#;
+
 #[test]
 fn edits(rt: HostRuntime) -> Result<(), Fail> {
     let alloc = rt.alloc();
     let edit = text_edit_value(alloc, "vt", RANGE)?;
     let edits = workspace_edit_value(alloc, "file:///a", Vec::from_array(alloc, [edit])?)?;
     assert!(rt; edits.to_string(alloc)?.as_str() == EDITS_TEXT);
+    let action = action_value(alloc, "u", "T", RANGE, "am")?;
+    assert!(rt; action.to_string(alloc)?.as_str() == ACTION_TEXT);
     Ok(())
 }
 
@@ -111,7 +116,7 @@ const REFUSED: &str =
     r#"{"error":{"code":-32803,"message":"another entry has the new name"},"id":null,"jsonrpc":"2.0"}"#;
 
 const READY: &str =
-    r#"{"capabilities":{"completionProvider":{"triggerCharacters":["=",","]},"definitionProvider":true,"documentSymbolProvider":true,"hoverProvider":true,"positionEncoding":"utf-16","referencesProvider":true,"renameProvider":{"prepareProvider":true},"textDocumentSync":{"change":2,"openClose":true}},"serverInfo":{"name":"ti-lsp","version":"9"}}"#;
+    r#"{"capabilities":{"codeActionProvider":{"codeActionKinds":["quickfix"]},"completionProvider":{"triggerCharacters":["=",","]},"definitionProvider":true,"documentSymbolProvider":true,"hoverProvider":true,"positionEncoding":"utf-16","referencesProvider":true,"renameProvider":{"prepareProvider":true},"textDocumentSync":{"change":2,"openClose":true}},"serverInfo":{"name":"ti-lsp","version":"9"}}"#;
 
 #[test]
 fn messages(rt: HostRuntime) -> Result<(), Fail> {
