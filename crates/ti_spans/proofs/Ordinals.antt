@@ -1,23 +1,26 @@
 -- The items of a block as they are seen, next to those that are read.
-use Rattle.std.proofs.Common.{◌≡◌, ℕ, suc, ◌+◌, ◌==◌, ◌||◌, ◌&&◌, Bool, true, false, cond, All, List, [], ◌∷◌, length, map, slice_get, Option, Some, None, refl, sym, ap, ap₂, subst, ◌∙◌, arith, zero-add}
-use Rattle.std.specs.List.{position_or_len}
-use Rattle.std.specs.Option.{option_and_then}
+use Rattle.std.proofs.Common.{◌≡◌, ℕ, suc, ◌+◌, ◌==◌, ◌||◌, ◌&&◌, Bool, true, false, cond, All, List, [], ◌∷◌, length, map, slice_get, Option, Some, None, refl, sym, ap, ap₂, subst, ◌∙◌, arith, zero-add, zero, ◌++◌}
+use Rattle.std.specs.List.{find, position_or_len}
+use Rattle.std.specs.Option.{option_and_then, option_map}
 use Rattle.std.specs.Prelude.{nat_lt}
 use Rattle.std.proofs.lemmas.Simd.{map-map}
 use Rattle.std.proofs.lemmas.List.Elements.{All-append, All-cons, All-nil}
 use Rattle.std.proofs.lemmas.List.Folds.{find_at}
-use Rattle.std.proofs.lemmas.Bool.{ltb-false}
+use Rattle.std.proofs.lemmas.Bool.{eq-eqb, ltb-false, ne_eqb}
 use Rattle.std.proofs.lemmas.Option.{slice_get_past}
 use Rattle.ti_text.specs.WhiteSpace.{is_white_space}
 use Rattle.ti_source.specs.Folding.{Folds, PlacedByte}
-use Rattle.ti_source.specs.Items.{bytes, piece_of, takes, without_front}
+use Rattle.ti_source.specs.Items.{Statement, bytes, piece_of, takes, without_front}
 use Rattle.ti_source.specs.Judging.{AreJudged, IsJudged, Judged, item_and_rest, item_ignored, item_judged, items_at, items_from, no_item}
 use Rattle.ti_source.specs.Parsing.{reading_of_text}
 use Rattle.ti_source.specs.Reading.{ReadItem, Reading, Said}
 use Rattle.ti_source.specs.Verdicts.{Verdict, accepted, accepted_odd, refused, items_by, said_by}
+use Rattle.ti_source.specs.inside.Verdicts.{verdict_of}
+use Rattle.ti_source.proofs.ItemLaws.{one_statement}
+use Rattle.ti_source.proofs.JudgingLaws.{one_verdict}
 use Rattle.ti_source.proofs.ReadingLaws.{has_reading}
 use Rattle.ti_spans.specs.Folding.{bytes_at, folded_of, in_comment, without_breaks, without_comments}
-use Rattle.ti_spans.specs.Ordinals.{IsTextOf, OrdinalsAreOfItems, OrdinalsAreOfTouched, SeenItemsAreRead}
+use Rattle.ti_spans.specs.Ordinals.{IsTextOf, OrdinalsAreOfItems, OrdinalsAreOfTouched, SayingsAreRead, SeenItemsAreRead}
 use Rattle.ti_spans.specs.Parts.{items_after, rest_of, with_first}
 use Rattle.ti_spans.specs.Subjects.{is_on, items_of}
 use Rattle.ti_spans.proofs.Computing.{left_of}
@@ -157,6 +160,56 @@ ordinals_of_items block k d within =
     let all = subst (All (IsFound 0 (map text_read p.items))) (sym items) (all_found 0 p.items p.judged p.are_judged) in
     let (at, text, ordinal, is, says) = subst (λ (t : List (List ℕ)). All (IsFound 0 t) (reading_of_text block).items) (sym (seen_are_read block (reading_of_text block) p)) all k d within in
     (text, ap (slice_get texts) (omega (arith, ordinal)) ∙ is, says)
+
+-- what the accepted item of an ordinal says
+abbrev said_in : ℕ → List ReadItem → Option Said
+said_in ordinal items = option_map (λ (item : ReadItem). item.said) (find (λ (item : ReadItem). item.ordinal == ordinal) items)
+
+said_by_verdict : (from line : ℕ) (v : Verdict) (said : Said) (rest : List ReadItem) → said_by v ≡ Some said → said_in from (items_by from line v ++ rest) ≡ Some said
+said_by_verdict from line (accepted x) said rest e = rw (eq-eqb from from refl) e
+said_by_verdict from line (accepted_odd x) said rest e = rw (eq-eqb from from refl) e
+said_by_verdict from line (refused code) said rest e = cc
+
+past_verdict : (from line ordinal : ℕ) (v : Verdict) (rest : List ReadItem) → (from == ordinal) ≡ false → said_in ordinal (items_by from line v ++ rest) ≡ said_in ordinal rest
+past_verdict from line ordinal (accepted x) rest other = rw other refl
+past_verdict from line ordinal (accepted_odd x) rest other = rw other refl
+past_verdict from line ordinal (refused code) rest other = refl
+
+past_item : (from ordinal : ℕ) (o : Option Judged) (rest : List ReadItem) → (from == ordinal) ≡ false → said_in ordinal (items_at from o ++ rest) ≡ said_in ordinal rest
+past_item from ordinal None rest other = refl
+past_item from ordinal (Some j) rest other = past_verdict from j.line ordinal j.verdict rest other
+
+said_here : (from : ℕ) (item : List PlacedByte) (said : Said) (o : Option Judged) (rest : List ReadItem) → IsJudged item o → IsTextOf (text_read item) said
+    → said_in from (items_at from o ++ rest) ≡ Some said
+said_here from _ said _ rest (item_ignored item states) t =
+    let same : None ≡ Some t.statement = one_statement (text_read item) None states ∙ sym (one_statement (text_read item) (Some t.statement) t.states) in
+    cc
+said_here from _ said _ rest (item_judged item s v states judges) t =
+    let both : Some s ≡ Some t.statement = one_statement (text_read item) (Some s) states ∙ sym (one_statement (text_read item) (Some t.statement) t.states) in
+    let same : s ≡ t.statement = cc in
+    let verdicts : v ≡ t.verdict =
+    one_verdict s.name s.claim v judges ∙ ap (λ (x : Statement). verdict_of x.name x.claim) same ∙ sym (one_verdict t.statement.name t.statement.claim t.verdict t.judges) in
+    said_by_verdict from (piece_of item).line v said rest (ap said_by verdicts ∙ t.accepts)
+
+said_at : (from at : ℕ) (items : List (List PlacedByte)) (judged : List (Option Judged)) (text : List ℕ) (said : Said) → AreJudged items judged → slice_get (map text_read items) at ≡ Some text
+    → IsTextOf text said → said_in (at + from) (items_from from judged) ≡ Some said
+said_at from at _ _ text said no_item is t = absurd cc
+said_at from zero _ _ text said (item_and_rest {item = item} {items = items} {outcome = outcome} {outcomes = outcomes} first rest) is t =
+    let same : text ≡ text_read item = cc in
+    ap (λ (n : ℕ). said_in n (items_from from (outcome ∷ outcomes))) (zero-add from)
+    ∙ said_here from item said outcome (items_from (from + 1) outcomes) first (subst (λ (x : List ℕ). IsTextOf x said) same t)
+said_at from (suc at) _ _ text said (item_and_rest {item = item} {items = items} {outcome = outcome} {outcomes = outcomes} first rest) is t =
+    let more : suc at + from ≡ at + (from + 1) = omega arith in
+    past_item from (suc at + from) outcome (items_from (from + 1) outcomes) (ne_eqb from (suc at + from) (λ e. absurd (omega (arith, e))))
+    ∙ ap (λ (n : ℕ). said_in n (items_from (from + 1) outcomes)) more ∙ said_at (from + 1) at items outcomes text said rest is t
+
+pub sayings_are_read : SayingsAreRead
+sayings_are_read block ordinal text said is t =
+    let p = has_reading block in
+    let items : (reading_of_text block).items ≡ items_from 0 p.judged = ap (λ (r : Reading). r.items) p.is in
+    let there = ap (λ (texts : List (List ℕ)). slice_get texts ordinal) (sym (seen_are_read block (reading_of_text block) p)) ∙ is in
+    let so : ordinal ≡ ordinal + 0 = omega arith in
+    ap (said_in ordinal) items ∙ ap (λ (n : ℕ). said_in n (items_from 0 p.judged)) so ∙ said_at 0 ordinal p.items p.judged text said p.are_judged there t
 
 -- ---- the item that an offset is on
 

@@ -1,5 +1,7 @@
 -- The items of a block as they are seen are those that are read, and have their ordinals (own).
-use Rattle.std.specs.Prelude.{ℕ, ◌≡◌, All, List, map, slice_get, Some, option_and_then}
+use Rattle.std.specs.Prelude.{ℕ, ◌≡◌, ◌==◌, All, List, map, slice_get, Some, option_and_then}
+use Rattle.std.specs.List.{find}
+use Rattle.std.specs.Option.{option_map}
 use Rattle.ti_source.specs.Items.{Statement, States, bytes, piece_of}
 use Rattle.ti_source.specs.Parsing.{Parses, reading_of_text}
 use Rattle.ti_source.specs.Reading.{ReadItem, Reading, Said}
@@ -28,6 +30,12 @@ OrdinalsAreOfItems =
     (block : List ℕ)
     → All (λ (item : ReadItem). (text : List ℕ) × (slice_get (map bytes (items_of (folded_of block))) item.ordinal ≡ Some text) × IsTextOf text item.said)
     (reading_of_text block).items
+
+-- what the text states of the item that is seen at an ordinal, an accepted item of that ordinal says
+abbrev pub SayingsAreRead : Type 0
+SayingsAreRead =
+    (block : List ℕ) (ordinal : ℕ) (text : List ℕ) (said : Said) → slice_get (map bytes (items_of (folded_of block))) ordinal ≡ Some text → IsTextOf text said
+    → option_map (λ item. item.said) (find (λ item. item.ordinal == ordinal) (reading_of_text block).items) ≡ Some said
 
 -- the item that an offset is on is the one of its ordinal
 abbrev pub OrdinalsAreOfTouched : Type 0

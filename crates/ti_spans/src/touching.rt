@@ -4,7 +4,7 @@ ghost use Rattle.std.specs.List.{position};
 ghost use Rattle.std.specs.Option.{option_map};
 ghost use Rattle.ti_source.specs.Folding.{PlacedByte};
 ghost use Rattle.ti_source.specs.Items.{is_mark};
-ghost use Rattle.ti_spans.specs.Ordinals.{OrdinalsAreOfItems, OrdinalsAreOfTouched, SeenItemsAreRead};
+ghost use Rattle.ti_spans.specs.Ordinals.{OrdinalsAreOfItems, OrdinalsAreOfTouched, SayingsAreRead, SeenItemsAreRead};
 ghost use Rattle.ti_spans.specs.Parts.{IsWithin, part_of};
 ghost use Rattle.ti_spans.specs.Touching as spec;
 ghost use Rattle.ti_spans.specs.Subjects.{is_on};
@@ -150,5 +150,6 @@ pub fn ordinal_at(alloc: Global, block: &[u8], offset: usize) -> Result<Option<u
 pub fn ordinals_are_read()
     ensures seen { SeenItemsAreRead }
     ensures items { OrdinalsAreOfItems }
+    ensures sayings { SayingsAreRead }
     ensures touched { OrdinalsAreOfTouched }
 {}
