@@ -2,8 +2,8 @@
 //!
 //! - `command`: what the words of the command line ask for
 //! - `terminfo`: a source as the server holds and shows it; `answering` answers questions about it,
-//!   `offers` has the capabilities as a completion offers them, and `hovering` tells what a place is
-//!   on
+//!   `offers` has the capabilities as a completion offers them, and `hovering` tells what a place
+//!   is on
 #![tactic(auto)]
 
 mod answering;

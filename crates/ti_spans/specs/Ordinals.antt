@@ -31,7 +31,8 @@ OrdinalsAreOfItems =
     → All (λ (item : ReadItem). (text : List ℕ) × (slice_get (map bytes (items_of (folded_of block))) item.ordinal ≡ Some text) × IsTextOf text item.said)
     (reading_of_text block).items
 
--- what the text states of the item that is seen at an ordinal, an accepted item of that ordinal says
+-- what the text states of the item that is seen at an ordinal is what an accepted item of that
+-- ordinal says
 abbrev pub SayingsAreRead : Type 0
 SayingsAreRead =
     (block : List ℕ) (ordinal : ℕ) (text : List ℕ) (said : Said) → slice_get (map bytes (items_of (folded_of block))) ordinal ≡ Some text → IsTextOf text said
