@@ -1,3 +1,4 @@
 pub mod Listing
+pub mod Offering
 pub mod Printing
 pub mod Wholes

@@ -1,6 +1,7 @@
 -- The definitions that the contracts of this crate cite.
 pub mod Candidates
 pub mod Edits
+pub mod Fixes
 pub mod Nearest
 pub mod Pieces
 pub mod Shown

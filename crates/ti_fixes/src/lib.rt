@@ -6,13 +6,18 @@
 //! - `pieces`: the parts of an item as it is written
 //! - `texts`: bytes as an editor is sent them
 //! - `edits`: what is offered against the fault of an item, as edits of its block
+//! - `uses`: what is offered against a use of a name that no block has
+//! - `fixes`: what is offered for the items that a range touches
 #![tactic(auto)]
 
 mod candidates;
 mod distances;
 mod edits;
+mod fixes;
 mod pieces;
 mod texts;
+mod uses;
 
 pub use distances::nearest;
-pub use edits::{Advice, Edit};
+pub use edits::Advice;
+pub use fixes::{Fix, fixes_of};
