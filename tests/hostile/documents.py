@@ -14,11 +14,16 @@ from model.server import QUESTIONS, Server, agree, frames_in, seen
 EDITS_A_RUN = 20
 LETTERS = [
     "é", "\u20ac", "\U0001d11e", "\U0001f600", "a", "\r", "\r\n", "\n", "\t", "", "x,", "use=a,", "\u2028", "\x85",
+    "colr#8,", "kf64=x,", "amm,", "Cols@,", "use=aa,", "cols=80,", "bel#^G,", "am=,", "bel=a\\q\\072,", "li\n\tne#2,",
 ]
 URIS = ["file:///a.ti", "file:///b%20c.ti", "u\U0001d11e"]
 METHODS = [
     "initialize", "shutdown", "exit", "initialized", "textDocument/rename", "$/cancelRequest", "textDocument/didOpen",
     "textDocument/didChange", "textDocument/didClose", "textDocument/didSave", "", "textDocument/didOpen\0", "Initialize",
+]
+# of code actions, which are asked for
+KINDS = [
+    ["quickfix"], [""], [], ["refactor"], ["source", "quickfix"], ["quickfix.a"], ["Quickfix"], "quickfix", None, [1, None],
 ]
 ODD_VALUES = [
     None, True, 0, -1, 2**31 - 1, 2**31, 2**32, 2**63, 2**64 - 1, 1.5, "", "file:///a.ti", "am", [], [1], {},
@@ -122,7 +127,17 @@ class Editor:
         params = {"textDocument": {"uri": uri}, "position": place(self.texts.get(uri, "a,b"))}
         if method == "textDocument/references":
             params["context"] = {"includeDeclaration": self.one([True, False])}
+        if method == "textDocument/codeAction":
+            params |= {"range": self.part(params.pop("position")), "context": {"diagnostics": []}}
+            if self.random.random() < 0.3:
+                params["context"]["only"] = self.one(KINDS)
         return {"jsonrpc": "2.0", "id": self.number, "method": method, "params": params}
+
+    def part(self, start):
+        """A range from a place on, often over some lines, at times to a place before it."""
+        end = {"line": start["line"] + self.one([0, 0, 1, 5, 2**30]), "character": self.one([0, 3, 9, 2**31 - 1])}
+        return self.one([{"start": start, "end": start}, {"start": start, "end": end}, {"start": end, "end": start},
+                         {"start": {**start, "character": 0}, "end": {**start, "character": 2**31 - 1}}])
 
     def oddity(self):
         """A body of no sense, or a message with parts that are not what they should be."""

@@ -2,12 +2,14 @@
 use Rattle.std.specs.Prelude.{ℕ, List, [], Option, None, Some, codes, map}
 use Rattle.serde_json.specs.Data.{Data, array, null}
 use Rattle.serde_json.specs.View.{items_of}
-use Rattle.ti_messages.specs.Messages.{Query, completion, hover, definition, references, symbols, rename, prepare_rename}
+use Rattle.ti_messages.specs.Messages.{Query, completion, hover, definition, references, symbols, rename, prepare_rename, fixes}
 use Rattle.ti_messages.specs.Shapes.{Said, said_answer, item_data, list_data, location_data, symbol_data}
 use Rattle.ti_messages.specs.declared.answers.ItemKind.TheVariants as items
 use Rattle.ti_messages.specs.declared.places.Range.{Range}
 use Rattle.ti_features.specs.Completions.{CompletionSeen, OffersSeen, completion_of, offers_capabilities, offers_names}
 use Rattle.ti_features.specs.Hovers.{hover_of}
+use Rattle.ti_fixes.specs.Fixes.{fixes_of}
+use Rattle.ti_lsp.specs.Fixes.{fixes_data}
 use Rattle.ti_features.specs.Names.{definition_of, references_of}
 use Rattle.ti_features.specs.Symbols.{SymbolSeen, symbols_of}
 use Rattle.ti_server.specs.Sayings.{Sayings}
@@ -55,6 +57,7 @@ answer_of text uri (references place with_declaration) = said_answer (references
 answer_of text uri symbols = said_answer (outline_data (symbols_of text))
 answer_of text uri (rename place name) = said_answer null
 answer_of text uri (prepare_rename place) = said_answer null
+answer_of text uri (fixes range wanted) = said_answer (fixes_data uri wanted (fixes_of text range))
 
 abbrev pub sayings : Sayings
 sayings = record { diagnostics = shown_of; answers = answer_of }

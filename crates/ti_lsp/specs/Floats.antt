@@ -1,5 +1,5 @@
 -- No diagnostic and no answer has a float.
-use Rattle.std.specs.Prelude.{ℕ, ◌≡◌, List, [], ◌∷◌, false, Option, None, Some, map, refl}
+use Rattle.std.specs.Prelude.{ℕ, ◌≡◌, Bool, List, [], ◌∷◌, false, true, Option, None, Some, map, refl}
 use Rattle.serde_json.specs.View.{items_of}
 use Rattle.serde_json.specs.Written.{has_float, items_have_float}
 use Rattle.ti_caps.specs.Tables.{Capability}
@@ -8,7 +8,9 @@ use Rattle.ti_features.specs.Completions.{CompletionSeen, OffersSeen, completion
 use Rattle.ti_features.specs.Hovers.{HoverSeen, hover_of}
 use Rattle.ti_features.specs.Names.{definition_of, references_of}
 use Rattle.ti_features.specs.Symbols.{SymbolSeen, symbols_of}
-use Rattle.ti_messages.specs.Messages.{Query, completion, hover, definition, references, symbols, rename, prepare_rename}
+use Rattle.ti_fixes.specs.Fixes.{FixSeen, fixes_of}
+use Rattle.ti_lsp.specs.Fixes.{fix_shown, fixes_data}
+use Rattle.ti_messages.specs.Messages.{Query, completion, hover, definition, references, symbols, rename, prepare_rename, fixes}
 use Rattle.ti_messages.specs.Shapes.{location_data}
 use Rattle.ti_messages.specs.declared.places.Range.{Range}
 use Rattle.ti_server.specs.Sayings.{HasNoFloats, SaidHasNoFloat}
@@ -56,6 +58,14 @@ none_in_hover : (told : Option HoverSeen) → has_float (hover_shown told) ≡ f
 none_in_hover None = refl
 none_in_hover (Some told) = refl
 
+none_in_fixes : (uri : List ℕ) (fixes : List FixSeen) → items_have_float (items_of (map (fix_shown uri) fixes)) ≡ false
+none_in_fixes uri [] = refl
+none_in_fixes uri (fix ∷ fixes) = none_in_fixes uri fixes
+
+none_in_wanted : (uri : List ℕ) (wanted : Bool) (fixes : List FixSeen) → has_float (fixes_data uri wanted fixes) ≡ false
+none_in_wanted uri true fixes = none_in_fixes uri fixes
+none_in_wanted uri false fixes = refl
+
 answers_have_no_floats : (text uri : List ℕ) (query : Query) → SaidHasNoFloat (answer_of text uri query)
 answers_have_no_floats text uri (completion place) = none_in_completion (completion_of text place)
 answers_have_no_floats text uri (hover place) = none_in_hover (hover_of text place)
@@ -64,6 +74,7 @@ answers_have_no_floats text uri (references place with_declaration) = none_in_re
 answers_have_no_floats text uri symbols = none_in_outline (symbols_of text)
 answers_have_no_floats text uri (rename place name) = refl
 answers_have_no_floats text uri (prepare_rename place) = refl
+answers_have_no_floats text uri (fixes range wanted) = none_in_wanted uri wanted (fixes_of text range)
 
 pub sayings_have_no_floats : HasNoFloats sayings
 sayings_have_no_floats = record { diagnostics = shown_have_no_floats; answers = answers_have_no_floats }

@@ -1,6 +1,7 @@
 -- The definitions that the contracts of this program cite.
 pub mod Answers
 pub mod Command
+pub mod Fixes
 pub mod Floats
 pub mod Hovers
 pub mod Offers

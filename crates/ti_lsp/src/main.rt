@@ -2,12 +2,13 @@
 //!
 //! - `command`: what the words of the command line ask for
 //! - `terminfo`: a source as the server holds and shows it; `answering` answers questions about it,
-//!   `offers` has the capabilities as a completion offers them, and `hovering` tells what a place
-//!   is on
+//!   `offers` has the capabilities as a completion offers them, `hovering` tells what a place is on,
+//!   and `fixing` says what is offered against faults
 #![tactic(auto)]
 
 mod answering;
 mod command;
+mod fixing;
 mod hovering;
 mod offers;
 mod terminfo;

@@ -5,6 +5,7 @@ ghost use Rattle.ti_document.specs.Diagnostics.{diagnostic_seen};
 ghost use Rattle.ti_lsp.specs.Shown.{shown_data};
 
 use crate::answering::{completion, definition, outline, references};
+use crate::fixing::fixes;
 use crate::hovering::hover;
 use serde_json::Value;
 use std::alloc::{AllocError, Global};
@@ -90,6 +91,9 @@ impl Source for Terminfo {
             } => references(alloc, &self.document, uri, place, with_declaration)?,
             Question::Hover(place) => hover(alloc, &self.document, place)?,
             Question::Symbols => outline(alloc, &self.document)?,
+            Question::Fixes { range, wanted } => {
+                fixes(alloc, &self.document, uri, range, wanted)?
+            }
             Question::Rename { .. } | Question::PrepareRename(_) => Value::Null,
         };
         Ok(Reply::Answer(answer))

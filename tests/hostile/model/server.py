@@ -7,6 +7,7 @@ import re
 
 from .answers import completion_of, definition_of, hover_of, references_of, symbols_of
 from .base import Meaning
+from .fixes import fixes_of
 from .source import FAULTS
 from .texts import blocks_of, lines_of, offset_of, refused_line, width
 
@@ -18,6 +19,7 @@ NO_JSON, NO_REQUEST, NO_METHOD, BAD_PARAMETERS, FRESH = -32700, -32600, -32601, 
 QUESTIONS = {
     "textDocument/completion": True, "textDocument/hover": True, "textDocument/definition": True,
     "textDocument/references": True, "textDocument/documentSymbol": False,
+    "textDocument/codeAction": False,
 }
 
 
@@ -133,6 +135,23 @@ def member(value, key):
     return value.get(key) if isinstance(value, dict) else None
 
 
+def range_of(value):
+    """A range of the protocol, or None."""
+    start, end = place_of(member(value, "start")), place_of(member(value, "end"))
+    return None if start is None or end is None else (start, end)
+
+
+def wanted_of(params):
+    """Whether quick fixes are asked for; None if that is not said as it should be."""
+    if not isinstance(params, dict) or "context" not in params:
+        return None
+    context = params["context"]
+    if not isinstance(context, dict) or "only" not in context:
+        return True
+    kinds = context["only"]
+    return any(kind in ("quickfix", "") for kind in kinds if isinstance(kind, str)) if isinstance(kinds, list) else None
+
+
 def question_of(method, params):
     """What is asked of which document: its URI, the place or None, and whether the definition is asked
     for too; None if the parameters are not those of the method."""
@@ -140,6 +159,9 @@ def question_of(method, params):
     declared = member(member(params, "context"), "includeDeclaration")
     if not isinstance(uri, str) or (QUESTIONS[method] and place is None):
         return None
+    if method == "textDocument/codeAction":
+        part, wanted = range_of(member(params, "range")), wanted_of(params)
+        return None if part is None or wanted is None else (uri, part, wanted)
     if method == "textDocument/references" and not isinstance(declared, bool):
         return None
     return uri, place, declared
@@ -155,6 +177,8 @@ def answer_of(method, text, uri, place, declared):
         return references_of(text, uri, place, declared)
     if method == "textDocument/hover":
         return hover_of(text, place)
+    if method == "textDocument/codeAction":
+        return fixes_of(text, uri, *place) if declared else []
     return symbols_of(text) if method == "textDocument/documentSymbol" else None
 
 

@@ -1,0 +1,107 @@
+//! What is offered against faults, as values of the protocol.
+ghost use Rattle.std.specs.Prelude.{◌≡◌, ◌++◌, IfOk, codes, map};
+ghost use Rattle.std.specs.String.{string_bytes};
+ghost use Rattle.serde_json.specs.View.{view};
+ghost use Rattle.ti_fixes.specs.Edits.{advice_seen};
+ghost use Rattle.ti_fixes.specs.Fixes as offered;
+ghost use Rattle.ti_fixes.specs.Fixes.{fix_seen};
+ghost use Rattle.ti_lsp.specs.Fixes.{advice_told, fix_shown, fixes_data, sign_told};
+
+use serde_json::Value;
+use std::alloc::{AllocError, Global};
+use ti_caps::Kind;
+use ti_document::Document;
+use ti_fixes::{Advice, Fix, fixes_of};
+use ti_messages::Range;
+use ti_messages::answers::action_value;
+
+// What is said of the sign of a kind.
+fn sign_told(kind: Kind) -> &'static str
+    ensures { result.now ≡ sign_told kind }
+{
+    match kind {
+        Kind::Flag => "Leave the sign out",
+        Kind::Number => "Write `#` before the number",
+        Kind::Text => "Write `=` before the string",
+    }
+}
+
+// A text with memory of its own.
+fn text_of(alloc: Global, words: &str) -> Result<String, AllocError>
+    ensures { IfOk result (λ text. string_bytes text ≡ words.now) }
+{
+    let mut text = String::new(alloc);
+    text.push_str(words)?;
+    Ok(text)
+}
+
+// What is said of another name in place of one.
+fn name_told(alloc: Global, name: &str, text: &str) -> Result<String, AllocError>
+    ensures { IfOk result (λ told. string_bytes told ≡ codes "Replace `" ++ name.now ++ codes "` by `" ++ text.now ++ codes "`") }
+{
+    format!(in alloc; "Replace `{name}` by `{text}`")
+}
+
+// What is said of advice, by which a text is written.
+fn advice_told(alloc: Global, advice: &Advice, text: &str) -> Result<String, AllocError>
+    ensures { IfOk result (λ told. string_bytes told ≡ advice_told (advice_seen advice.now) text.now) }
+{
+    match advice {
+        Advice::Name(name) => name_told(alloc, name.as_str(), text),
+        Advice::Sign(kind) => text_of(alloc, sign_told(*kind)),
+        Advice::Spelling => text_of(alloc, "Spell the string as it is read"),
+    }
+}
+
+// A fix of the document of that URI.
+fn fix_value(alloc: Global, uri: &str, fix: &Fix) -> Result<Value, AllocError>
+    ensures { IfOk result (λ v. view v ≡ fix_shown uri.now (fix_seen fix.now)) }
+{
+    let text = fix.text.as_str();
+    let title = advice_told(alloc, &fix.advice, text)?;
+    action_value(alloc, uri, title.as_str(), fix.range, text)
+}
+
+// Fixes of the document of that URI.
+fn fix_values(alloc: Global, uri: &str, all: &[Fix]) -> Result<Vec<Value>, AllocError>
+    ensures { IfOk result (λ values. map view values.items ≡ map (λ fix. fix_shown uri.now (fix_seen fix)) all.now) }
+{
+    let mut values = Vec::new(alloc);
+    for fix in all {
+        values.push(fix_value(alloc, uri, fix)?)?;
+    }
+    Ok(values)
+}
+
+// What is offered for a part of a source.
+fn fixes_in(
+    alloc: Global,
+    document: &Document,
+    uri: &str,
+    range: Range,
+) -> Result<Vec<Value>, AllocError>
+    ensures { IfOk result (λ values. map view values.items ≡ map (fix_shown uri.now) (offered.fixes_of document.now range)) }
+{
+    let all = fixes_of(alloc, document, range)?;
+    fix_values(alloc, uri, &all)
+}
+
+/// What is offered against the faults of a part of a source, if quick fixes are asked for.
+///
+/// # Errors
+/// Out of memory.
+pub fn fixes(
+    alloc: Global,
+    document: &Document,
+    uri: &str,
+    range: Range,
+    wanted: bool,
+) -> Result<Value, AllocError>
+    ensures { IfOk result (λ v. view v ≡ fixes_data uri.now wanted (offered.fixes_of document.now range)) }
+{
+    if !wanted {
+        return Ok(Value::Array(Vec::new(alloc)));
+    }
+    let values = fixes_in(alloc, document, uri, range)?;
+    Ok(Value::Array(values))
+}

@@ -1,0 +1,124 @@
+"""What a language server for terminfo source offers against the faults of items."""
+
+import re
+
+from .answers import blocks_with_lines, fold_at, items_in, range_in, span_of, use_in
+from .base import Meaning
+from .caps import FIND, FLAG, KINDS, NAMES_OF, NUMBER, TEXT
+from .listing import written
+from .source import NAMES_MAX, WHITE, read
+from .texts import offset_of
+
+MOST = 3
+SIGNS = {FLAG: "Leave the sign out", NUMBER: "Write `#` before the number", TEXT: "Write `=` before the string"}
+
+
+def shown(text):
+    """Bytes as they are sent."""
+    return "".join(chr(it) if 0x20 <= it <= 0x7E else "?" for it in text)
+
+
+def distance(one, other):
+    """How many bytes are put in, taken out or exchanged from one name to the other."""
+    row = list(range(len(other) + 1))
+    for at, byte in enumerate(one):
+        before, row[0] = row[0], at + 1
+        for column, right in enumerate(other):
+            before, row[column + 1] = row[column + 1], min(
+                before + (byte != right), row[column] + 1, row[column + 1] + 1
+            )
+    return row[-1]
+
+
+def nearest(name, others):
+    """The first names of least distance, which is less than the name is long, and at most 2."""
+    if len(name) > NAMES_MAX:
+        return []
+    close = [it for it in others if abs(len(it) - len(name)) <= 2]
+    for edits in (1, 2):
+        found = [it for it in close if edits < len(name) and distance(name, it) == edits]
+        if found:
+            return found[:MOST]
+    return []
+
+
+def renamed(name, span, others):
+    return [(f"Replace `{shown(name)}` by `{shown(other)}`", span, shown(other)) for other in nearest(name, others)]
+
+
+def parts_of(folded, start, end):
+    """The end of the name of an item, and the end of the item without white space."""
+    text = folded[start:end].rstrip(WHITE)
+    mark = re.search(rb"[#=]", text)
+    name = mark.start() if mark else len(text.removesuffix(b"@"))
+    return start + name, start + len(text)
+
+
+def known(folded, where, start, end):
+    """The nearest names of capabilities in place of that of an item."""
+    name, stop = parts_of(folded, start, end)
+    kinds = {b"": [FLAG], b"#": [NUMBER], b"=": [TEXT]}.get(folded[name:stop][:1], KINDS)
+    others = [it for kind in kinds for it in NAMES_OF[kind]]
+    return renamed(folded[start:name], span_of(where, start, name), others)
+
+
+def signed(folded, where, start, end):
+    """The sign of an item's capability in place of its own."""
+    name, stop = parts_of(folded, start, end)
+    kind, value = FIND[folded[start:name]][0], folded[name + 1 : stop]
+    fits = {FLAG: value == b"", NUMBER: re.fullmatch(rb"[0-9]+", value), TEXT: value != b""}[kind]
+    if name == stop or not fits:
+        return []
+    return [(SIGNS[kind], (where[name], where[name] + 1), {FLAG: "", NUMBER: "#", TEXT: "="}[kind])]
+
+
+def spelled(folded, where, start, end, value):
+    """The value of an item as it is spelled, in place of how it is written."""
+    name, _ = parts_of(folded, start, end)
+    span = span_of(where, name + 1, end)
+    return [] if span is None else [("Spell the string as it is read", span, shown(written(value)))]
+
+
+def used(folded, where, part, names, owners):
+    """The nearest names of other blocks in place of one that no block has."""
+    name = None if part is None else folded[slice(*part)]
+    return [] if name is None or name == b"" or name in owners else renamed(name, span_of(where, *part), names)
+
+
+def offered(block, at, owners, start, stop):
+    """What is offered for the items of a block that a stretch of it touches: titles, parts, texts."""
+    folded, where = fold_at(block)
+    codes = {ordinal: fault.code for ordinal, fault in read(block).faults}
+    values = {item.ordinal: item.value for item in read(block).items}
+    others, found = [name for name, owner in owners.items() if owner != at], []
+    for ordinal, part in enumerate(items_in(folded)):
+        span, code = span_of(where, *part), codes.get(ordinal)
+        if span is None or stop < span[0] or span[1] < start:
+            continue
+        if code == "W1":
+            found += known(folded, where, *part)
+        elif code == "W2":
+            found += signed(folded, where, *part)
+        elif code == "W3":
+            found += spelled(folded, where, *part, values[ordinal])
+        found += used(folded, where, use_in(folded, *part), others, owners)
+    return found
+
+
+def offset_in(text, line, column):
+    """The place in the bytes of a text of a place in the protocol."""
+    return len(text[: offset_of(text, line, column)].encode("utf-8"))
+
+
+def fixes_of(text, uri, start, end):
+    """The quick fixes for a range of a text: of the block in which it begins."""
+    first, held, found = offset_in(text, *start), blocks_with_lines(text), []
+    owners = Meaning([block for block, _, _ in held]).owners
+    for at, (block, line, front) in enumerate(held):
+        if front <= first < front + len(block):
+            # an end before the block is in its first line
+            stop = offset_in(block.decode("utf-8"), max(0, end[0] - line), end[1])
+            for title, span, new in offered(block, at, owners, first - front, stop):
+                edit = {"newText": new, "range": range_in(block, line, *span)}
+                found.append({"edit": {"changes": {uri: [edit]}}, "kind": "quickfix", "title": title})
+    return found
