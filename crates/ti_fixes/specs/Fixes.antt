@@ -9,6 +9,7 @@ use Rattle.ti_source.specs.Items.{bytes}
 use Rattle.ti_source.specs.Parsing.{reading_of_text}
 use Rattle.ti_source.specs.Reading.{Reading, ReadFault, ReadItem, Said, said_text}
 use Rattle.ti_source.specs.declared.code.Code.{Code}
+use Rattle.ti_meaning.specs.OwnNames.{own_names}
 use Rattle.ti_meaning.specs.Owner.{owner, readings}
 use Rattle.ti_spans.specs.Folding.{folded_of}
 use Rattle.ti_spans.specs.Parts.{spanned}
@@ -18,7 +19,6 @@ use Rattle.ti_messages.specs.declared.places.Position.{Position}
 use Rattle.ti_messages.specs.declared.places.Range.{Range}
 use Rattle.ti_document.specs.Diagnostics.{text_at}
 use Rattle.ti_document.specs.Documents.{held}
-use Rattle.ti_features.specs.Completions.{own_names}
 use Rattle.ti_features.specs.Spots.{offset_in, range_in, spot_at}
 use Rattle.ti_features.specs.declared.spots.Spot.{Spot}
 use Rattle.ti_fixes.specs.Edits.{AdviceSeen, EditSeen, advice_seen, edits_for, renames}
@@ -56,7 +56,7 @@ value_at ordinal (item ∷ items) = if item.ordinal == ordinal then text_said it
 
 -- the names that a block owns, unless it is the one at the position `own`
 abbrev pub others_in : List (List ℕ) → (own at : ℕ) → List ℕ → List (List ℕ)
-others_in blocks own at block = if at == own then [] else own_names blocks at block
+others_in blocks own at block = if at == own then [] else own_names (readings blocks) at (reading_of_text block).names
 
 -- the same of blocks, the first of which is at the position `at`
 abbrev pub others_from : List (List ℕ) → (own at : ℕ) → List (List ℕ) → List (List ℕ)

@@ -1,10 +1,11 @@
 //! What is offered against a use of a name that no block has.
 ghost use Rattle.std.specs.Prelude.{◌≡◌, ◌<◌, ◌++◌, ◌^◌, All, IfOk, OnOk, length, map, option_map};
+ghost use Rattle.ti_source.specs.Parsing.{reading_of_text};
+ghost use Rattle.ti_meaning.specs.OwnNames.{own_names};
 ghost use Rattle.ti_meaning.specs.Owner as meaning;
 ghost use Rattle.ti_meaning.specs.Owner.{readings};
 ghost use Rattle.ti_spans.specs.Subjects.{used_name};
 ghost use Rattle.ti_document.specs.Diagnostics.{text_at};
-ghost use Rattle.ti_features.specs.Completions.{own_names};
 ghost use Rattle.ti_fixes.specs.Edits.{edit_seen};
 ghost use Rattle.ti_fixes.specs.Fixes as spec;
 ghost use Rattle.ti_fixes.specs.Fixes.{others_in, used_edits};
@@ -33,7 +34,7 @@ fn push_owned<'a>(
 ) -> Result<(), AllocError>
     requires { at < length database.now }
     ensures { OnOk result (map (λ name. name.now) names.new.items
-        ≡ map (λ name. name.now) names.old.items ++ own_names database.now at (text_at database.now at)) }
+        ≡ map (λ name. name.now) names.old.items ++ own_names (readings database.now) at (reading_of_text (text_at database.now at)).names) }
 {
     let once = distinct_names(alloc, database.names(at))?;
     for name in &once {
