@@ -3,7 +3,8 @@
 use Rattle.ti_text.specs.Ascii as ascii
 use Rattle.std.specs.Prelude.{ℕ, ◌-◌, ◌==◌, ◌&&◌, nat_le, Bool, true, false, List, [], ◌∷◌, codes, drop, flat_map, length, map, take, Option, None, Some, option_and_then, if◌then◌else◌}
 use Rattle.std.specs.List.{find, list_all}
-use Rattle.std.specs.Option.{option_map, option_map_or, option_or}
+use Rattle.std.specs.Option.{option_map, option_map_or, option_or, option_to_list}
+use Rattle.std.specs.Str.{bytes_eq}
 use Rattle.ti_text.specs.WhiteSpace.{is_white_space}
 use Rattle.ti_source.specs.Folding.{PlacedByte}
 use Rattle.ti_source.specs.Items.{bytes, without_front}
@@ -33,6 +34,14 @@ head_text block = bytes (field_of (folded_of block))
 -- the names of a field that can be looked up: all but the last of two or more, the description
 abbrev pub lookup_parts : List (List PlacedByte) → List (List PlacedByte)
 lookup_parts names = if length names == 1 then names else take (length names - 1) names
+
+-- where bytes are, if they are this name
+abbrev pub span_if : List ℕ → List PlacedByte → List Part
+span_if name part = if bytes_eq (bytes part) name then option_to_list (spanned part) else []
+
+-- where a block has this name in its head
+abbrev pub own_spans : List ℕ → List ℕ → List Part
+own_spans name block = flat_map (span_if name) (lookup_parts (names_of (field_of (folded_of block))))
 
 -- ---- the items of a block
 
@@ -94,9 +103,10 @@ pub data SubjectSeen : Type 0 where
   own_name : List ℕ → SubjectSeen
   used : List ℕ → SubjectSeen
 
--- what an offset is on, and where that is
+-- what an offset is on, where that is, and where its name is
 pub record TouchedSeen : Type 0 where
   pub span : Part
+  pub name : Part
   pub subject : SubjectSeen
 
 -- a subject that holds its name in memory, as plain data
@@ -106,15 +116,15 @@ subject_seen (subject.Used name) = used name.items
 
 -- what is touched, as plain data
 abbrev pub touched_seen : Touched → TouchedSeen
-touched_seen found = record { span = found.span; subject = subject_seen found.subject }
+touched_seen found = record { span = found.span; name = found.name; subject = subject_seen found.subject }
 
 -- a name of a head
 abbrev pub touched_name : List PlacedByte → TouchedSeen
-touched_name name = record { span = span_or_start (spanned name); subject = own_name (bytes name) }
+touched_name name = record { span = span_or_start (spanned name); name = span_or_start (spanned name); subject = own_name (bytes name) }
 
 -- an item, if it is a `use=`
 abbrev pub touched_item : List PlacedByte → Option TouchedSeen
-touched_item item = option_map (λ name. record { span = span_or_start (spanned item); subject = used (bytes name) }) (used_name item)
+touched_item item = option_map (λ name. record { span = span_or_start (spanned item); name = span_or_start (spanned name); subject = used (bytes name) }) (used_name item)
 
 -- what an offset of a folded text is on
 abbrev pub subject_in : List PlacedByte → ℕ → Option TouchedSeen

@@ -2,7 +2,8 @@
 //!
 //! - `folding`: the text of a block without its comments and line breaks
 //! - `parts`: the names field with its names and the items, as parts of that text
-//! - `heads`: where the names field of a block is
+//! - `heads`: where the names field of a block is; `names`: the names by which the block can be
+//!   looked up
 //! - `items`: the items as they are seen, and the names that they use
 //! - `subjects`: what an offset of a block is on
 //! - `touching`: the item that an offset of a block is on, as it is written, and its ordinal
@@ -12,6 +13,7 @@
 mod folding;
 mod heads;
 mod items;
+mod names;
 mod parts;
 mod subjects;
 mod touching;
@@ -20,6 +22,7 @@ mod words;
 pub use folding::{folded, one_folding_at};
 pub use heads::{Head, head_of};
 pub use items::{Use, used_part, uses_of, visible_items, without_end};
+pub use names::own_spans;
 pub use parts::{Part, field_len, item_parts, name_parts, parts_are_computed, span_of};
 pub use subjects::{Subject, Touched, subject_at};
 pub use touching::{Item, item_at, name_of, ordinal_at, ordinals_are_read};

@@ -1,7 +1,6 @@
 //! What an offset of a block is on.
-ghost use Rattle.std.specs.Prelude.{◌≡◌, ◌^◌, ◌<◌, ◌≤◌, All, IfOk, IfSome, List, length, map, take};
+ghost use Rattle.std.specs.Prelude.{◌≡◌, ◌^◌, ◌<◌, All, IfOk, IfSome, map};
 ghost use Rattle.std.specs.Option.{option_map};
-ghost use Rattle.ti_source.specs.Folding.{PlacedByte};
 ghost use Rattle.ti_spans.specs.Parts.{IsWithin, field_of, names_of, part_of};
 ghost use Rattle.ti_spans.specs.Subjects as spec;
 ghost use Rattle.ti_spans.specs.Subjects.{lookup_parts, subject_in, touched_item, touched_name, touched_seen};
@@ -9,7 +8,8 @@ ghost use Rattle.ti_spans.specs.Subjects.{lookup_parts, subject_in, touched_item
 use crate::folding::folded;
 use crate::heads::span_or_start;
 use crate::items::{used_part, visible_items};
-use crate::parts::{Part, field_len, name_parts, push_bytes, span_of};
+use crate::names::own_parts;
+use crate::parts::{Part, push_bytes, span_of};
 use std::alloc::{AllocError, Global};
 
 /// What an offset of a block is on.
@@ -26,6 +26,8 @@ pub enum Subject {
 pub struct Touched {
     /// Where it is in the block.
     pub span: Part,
+    /// Where its name is; an empty one is at the start of the block.
+    pub name: Part,
     /// What it is.
     pub subject: Subject,
 }
@@ -57,27 +59,14 @@ fn part_on(text: &[(u8, usize)], parts: &[Part], offset: usize) -> Option<Part>
     None
 }
 
-// How many of the names of a field can be looked up, if it has so many parts.
-fn lookup_count(parts: usize) -> usize
-    ensures within { result ≤ parts }
-    ensures count { (names : List (List PlacedByte)) → length names ≡ parts → take result names ≡ lookup_parts names }
-{
-    if parts == 1 {
-        1
-    } else {
-        parts.saturating_sub(1)
-    }
-}
-
 // The name in the head that an offset is on.
 fn name_on(alloc: Global, text: &[(u8, usize)], offset: usize) -> Result<Option<Part>, AllocError>
     requires { All (λ x. x.1 < 2 ^ 63) text.now }
     ensures part { IfOk result (λ part. option_map (part_of text.now) part ≡ spec.part_on offset (lookup_parts (names_of (field_of text.now)))) }
     ensures within { IfOk result (λ part. IfSome part (IsWithin text.now)) }
 {
-    let names = name_parts(alloc, text, field_len(text))?;
-    let count = lookup_count(names.len());
-    Ok(part_on(text, &names[..count], offset))
+    let names = own_parts(alloc, text)?;
+    Ok(part_on(text, &names, offset))
 }
 
 /// The item that an offset is on.
@@ -102,8 +91,10 @@ fn touched_name(alloc: Global, text: &[(u8, usize)], name: Part) -> Result<Touch
 {
     let mut bytes = Vec::new(alloc);
     push_bytes(&mut bytes, text, name)?;
+    let span = span_or_start(span_of(text, name));
     Ok(Touched {
-        span: span_or_start(span_of(text, name)),
+        span,
+        name: span,
         subject: Subject::OwnName(bytes),
     })
 }
@@ -125,6 +116,7 @@ fn touched_item(
     push_bytes(&mut bytes, text, name)?;
     Ok(Some(Touched {
         span: span_or_start(span_of(text, item)),
+        name: span_or_start(span_of(text, name)),
         subject: Subject::Used(bytes),
     }))
 }

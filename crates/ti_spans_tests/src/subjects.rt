@@ -1,7 +1,7 @@
 //! What offsets of blocks are on, and the names that blocks use.
 use std::alloc::{AllocError, Global};
 use std::process::Abort;
-use ti_spans::{Subject, Touched, head_of, subject_at, uses_of};
+use ti_spans::{Subject, Touched, head_of, own_spans, subject_at, uses_of};
 
 /// A block with comments, broken lines and white space around a name.
 const BLOCK: &[u8] =
@@ -53,6 +53,33 @@ fn uses(rt: HostRuntime) -> Result<(), AllocError> {
     Ok(())
 }
 
+/// A block, a name, and where the block has it in its head.
+#[rattlefmt::skip]
+const OWN: [(&[u8], &[u8], &[(usize, usize)]); 8] = [
+    (BLOCK, b"x", &[(0, 1)]),
+    (BLOCK, b"y z", &[(2, 5)]),
+    // The description is no name, unless it is alone.
+    (BLOCK, b"long one", &[]),
+    (b"a,use=a,\n", b"a", &[(0, 1)]),
+    (b"a|b|a|a,\n", b"a", &[(0, 1), (4, 5)]),
+    // A name is a whole part, and a break within it is spanned.
+    (b"ab|b,\n", b"a", &[]),
+    (b"xa\n b|c,\n", b"xab", &[(0, 5)]),
+    (b"#a|b,\n", b"a", &[]),
+];
+
+#[test]
+fn names_in_heads(rt: HostRuntime) -> Result<(), AllocError> {
+    for (block, name, wanted) in OWN {
+        let spans = own_spans(rt.alloc(), block, name)?;
+        assert!(rt; spans.len() == wanted.len());
+        for (found, (start, end)) in spans.iter().zip(wanted) {
+            assert!(rt; found.start == *start && found.end == *end);
+        }
+    }
+    Ok(())
+}
+
 /// What an offset is wanted to be on.
 #[derive(Clone, Copy)]
 enum Wanted {
@@ -60,36 +87,36 @@ enum Wanted {
     Used(&'static [u8]),
 }
 
-/// A block, an offset of it, and where what the offset is on is, with its name.
+/// A block, an offset of it, where what the offset is on is, and where its name is, with the name.
 #[rattlefmt::skip]
-const SUBJECTS: [(&[u8], usize, (usize, usize), Wanted); 8] = [
-    (BLOCK, 0, (0, 1), Wanted::Own(b"x")),
+const SUBJECTS: [(&[u8], usize, (usize, usize), (usize, usize), Wanted); 8] = [
+    (BLOCK, 0, (0, 1), (0, 1), Wanted::Own(b"x")),
     // After the last byte of a name.
-    (BLOCK, 1, (0, 1), Wanted::Own(b"x")),
-    (BLOCK, 5, (2, 5), Wanted::Own(b"y z")),
-    (b"alone,\n", 5, (0, 5), Wanted::Own(b"alone")),
+    (BLOCK, 1, (0, 1), (0, 1), Wanted::Own(b"x")),
+    (BLOCK, 5, (2, 5), (2, 5), Wanted::Own(b"y z")),
+    (b"alone,\n", 5, (0, 5), (0, 5), Wanted::Own(b"alone")),
     // Anywhere in the item, from its first byte that is no white space.
-    (BLOCK, 21, (21, 32), Wanted::Used(b"ab")),
-    (BLOCK, 30, (21, 32), Wanted::Used(b"ab")),
-    (BLOCK, 68, (63, 68), Wanted::Used(b"c")),
-    (b"a,use=,", 6, (2, 6), Wanted::Used(b"")),
+    (BLOCK, 21, (21, 32), (26, 30), Wanted::Used(b"ab")),
+    (BLOCK, 30, (21, 32), (26, 30), Wanted::Used(b"ab")),
+    (BLOCK, 68, (63, 68), (67, 68), Wanted::Used(b"c")),
+    (b"a,use=,", 6, (2, 6), (0, 0), Wanted::Used(b"")),
 ];
 
 /// Whether that is touched which is wanted.
-fn is_touched(found: &Touched, start: usize, end: usize, wanted: Wanted) -> bool {
+fn is_touched(found: &Touched, span: (usize, usize), name: (usize, usize), wanted: Wanted) -> bool {
     let same = match (&found.subject, wanted) {
-        (Subject::OwnName(name), Wanted::Own(other)) => name.as_slice() == other,
-        (Subject::Used(name), Wanted::Used(other)) => name.as_slice() == other,
+        (Subject::OwnName(bytes), Wanted::Own(other)) => bytes.as_slice() == other,
+        (Subject::Used(bytes), Wanted::Used(other)) => bytes.as_slice() == other,
         _ => false,
     };
-    same && found.span.start == start && found.span.end == end
+    same && (found.span.start, found.span.end) == span && (found.name.start, found.name.end) == name
 }
 
 #[test]
 fn subjects(rt: HostRuntime) -> Result<(), AllocError> {
-    for (block, offset, (start, end), wanted) in SUBJECTS {
+    for (block, offset, span, name, wanted) in SUBJECTS {
         let found = subject_at(rt.alloc(), block, offset)?;
-        assert!(rt; found.is_some_and(|found| is_touched(&found, start, end, wanted)));
+        assert!(rt; found.is_some_and(|found| is_touched(&found, span, name, wanted)));
     }
     Ok(())
 }
