@@ -25,6 +25,11 @@ METHODS = [
 KINDS = [
     ["quickfix"], [""], [], ["refactor"], ["source", "quickfix"], ["quickfix.a"], ["Quickfix"], "quickfix", None, [1, None],
 ]
+# some of which no entry can have
+NEW_NAMES = [
+    "new", "new", "a", "vt-1+2", "#a", "a#", "a\\", "a\\\\", "a^", "^\\", "%^\\", "a b", "a ", "a,b", "a|b", "a/b", "", ".", "..",
+    "...", "use=a", "a\n", "\ta", "é", "x" * 130,
+]
 ODD_VALUES = [
     None, True, 0, -1, 2**31 - 1, 2**31, 2**32, 2**63, 2**64 - 1, 1.5, "", "file:///a.ti", "am", [], [1], {},
     {"uri": "file:///a.ti"},
@@ -131,6 +136,9 @@ class Editor:
             params |= {"range": self.part(params.pop("position")), "context": {"diagnostics": []}}
             if self.random.random() < 0.3:
                 params["context"]["only"] = self.one(KINDS)
+        if method == "textDocument/rename":
+            names = re.findall(r"[^\s,|=]+", self.texts.get(uri, "")) + NEW_NAMES
+            params["newName"] = self.one(names if self.random.random() < 0.5 else NEW_NAMES)
         return {"jsonrpc": "2.0", "id": self.number, "method": method, "params": params}
 
     def part(self, start):

@@ -3,6 +3,7 @@ pub mod Decisions
 pub mod EntriesHeld
 pub mod EntriesRead
 pub mod EntryParts
+pub mod Following
 pub mod Naming
 pub mod OnceNamed
 pub mod Outlines

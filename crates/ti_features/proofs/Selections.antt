@@ -26,7 +26,7 @@ up_by false false place n = inr (refl, omega arith)
 step_up : (byte : ℕ) (bytes : List ℕ) (place : Position) → IsUpTo place (step_over (byte ∷ bytes) place)
 step_up byte bytes place = up_by (byte == 10) (ends_line (byte ∷ bytes)) place (units byte)
 
-up_up : (one two three : Position) → IsUpTo one two → IsUpTo two three → IsUpTo one three
+pub up_up : (one two three : Position) → IsUpTo one two → IsUpTo two three → IsUpTo one three
 up_up one two three p q =
     elim p [
       | inl less ↦ elim q [ inl more ↦ inl (omega arith) | inr same ↦ inl (omega (arith, same.0)) ]
@@ -50,7 +50,7 @@ moved : (line : ℕ) (one other : Position) → IsUpTo one other
     → IsUpTo (record { line = line + one.line; column = one.column }) (record { line = line + other.line; column = other.column })
 moved line one other p = elim p [ inl less ↦ inl (omega arith) | inr same ↦ inr (omega (arith, same.0), same.1) ]
 
-rises_in : (line : ℕ) (block : List ℕ) (one other : ℕ) → one ≤ other → IsUpTo (place_in line block one) (place_in line block other)
+pub rises_in : (line : ℕ) (block : List ℕ) (one other : ℕ) → one ≤ other → IsUpTo (place_in line block one) (place_in line block other)
 rises_in line block one other le =
     moved line (position_of block one) (position_of block other) (after_rises (record { line = 0; column = 0 }) block one other le)
 

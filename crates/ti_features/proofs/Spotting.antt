@@ -13,7 +13,7 @@ use Rattle.ti_meaning.specs.Report.{lines_before}
 use Rattle.ti_messages.specs.declared.places.Position.{Position}
 use Rattle.ti_messages.specs.declared.places.Range.{Range}
 use Rattle.ti_document.specs.Diagnostics.{text_at}
-use Rattle.ti_features.specs.Names.{uses_from, uses_in}
+use Rattle.ti_features.specs.Names.{Sought, ranges_from, ranges_in}
 use Rattle.ti_features.specs.Spots.{offset_in, spot_from}
 use Rattle.ti_features.specs.declared.spots.Spot.{Spot}
 use Rattle.ti_features.proofs.Outlines.{blocks_more, text_got}
@@ -84,15 +84,18 @@ owner_within (block ∷ blocks) name at e =
       | inr later ↦ later_within (length blocks) (owner blocks name) at (owner_within blocks name) (sym (owner_by block blocks name false later) ∙ e)
     ]
 
--- ---- the uses in all blocks
+-- ---- what is sought in all blocks
 
-pub uses_next : (blocks : List (List ℕ)) (before now : List Range) (owner line at : ℕ) (whole : List Range) → at < length blocks
-    → before ++ uses_from blocks owner line (drop at blocks) ≡ whole → now ≡ before ++ uses_in blocks owner line (text_at blocks at)
-    → now ++ uses_from blocks owner (line + line_count (text_at blocks at)) (drop (at + 1) blocks) ≡ whole
-uses_next blocks before now owner line at whole within so e =
-    let rest = uses_from blocks owner (line + line_count (text_at blocks at)) (drop (at + 1) blocks) in
-    ap (λ (t : List Range). t ++ rest) e ∙ append_assoc before (uses_in blocks owner line (text_at blocks at)) rest
-    ∙ ap (λ (t : List (List ℕ)). before ++ uses_from blocks owner line t) (sym (blocks_more blocks at within)) ∙ so
+pub ranges_next : (blocks : List (List ℕ)) (sought : Sought) (before now : List Range) (line at : ℕ) (whole : List Range) → at < length blocks
+    → before ++ ranges_from blocks sought at line (drop at blocks) ≡ whole → now ≡ before ++ ranges_in blocks sought at line (text_at blocks at)
+    → now ++ ranges_from blocks sought (at + 1) (line + line_count (text_at blocks at)) (drop (at + 1) blocks) ≡ whole
+ranges_next blocks sought before now line at whole within so e =
+    let here = ranges_in blocks sought at line (text_at blocks at) in
+    let next = line + line_count (text_at blocks at) in
+    ap (λ (t : List Range). t ++ ranges_from blocks sought (at + 1) next (drop (at + 1) blocks)) e
+    ∙ append_assoc before here (ranges_from blocks sought (at + 1) next (drop (at + 1) blocks))
+    ∙ ap (λ (n : ℕ). before ++ (here ++ ranges_from blocks sought n next (drop (at + 1) blocks))) (add-one at)
+    ∙ ap (λ (t : List (List ℕ)). before ++ ranges_from blocks sought at line t) (sym (blocks_more blocks at within)) ∙ so
 
 pub owner_found : (blocks : List (List ℕ)) (name : List ℕ) (found : Option ℕ) → found ≡ owner (readings blocks) name → IfSome found (λ at. at < length blocks)
 owner_found blocks name None e = tt

@@ -5,6 +5,7 @@ pub mod Holdings
 pub mod Hovers
 pub mod Meanings
 pub mod Names
+pub mod Renaming
 pub mod Spots
 pub mod Symbols
 pub mod inside

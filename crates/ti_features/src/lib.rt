@@ -7,6 +7,7 @@
 //! - `deciding`: which block decides what an entry has of a capability
 //! - `meanings`: what an item says, as it is read
 //! - `hovers`: what an editor tells of what a place is on
+//! - `renaming`: what an editor renames
 //! - `completions`: what an editor offers to complete a word with
 //! - `symbols`: the blocks of a document as its outline
 #![tactic(auto)]
@@ -17,6 +18,7 @@ mod holdings;
 mod hovers;
 mod meanings;
 mod names;
+mod renaming;
 mod spots;
 mod symbols;
 
@@ -26,5 +28,6 @@ pub use holdings::{Entry, Holding};
 pub use hovers::{About, Hover, hover_of};
 pub use meanings::Meaning;
 pub use names::{definition_of, references_of};
+pub use renaming::{Renaming, renamable_at, renamed_parts_follow, renaming_of};
 pub use spots::{Spot, offset_in, range_in, spot_at};
 pub use symbols::{Symbol, selections_are_inside, symbols_of};

@@ -1,24 +1,40 @@
 //! Where the names of a document lead.
-ghost use Rattle.std.specs.Prelude.{◌≡◌, ◌<◌, ◌≤◌, ◌+◌, ◌++◌, ◌^◌, Bool, IfOk, IfSome, OnOk, length, option_map};
+ghost use Rattle.std.specs.Prelude.{◌≡◌, ◌<◌, ◌≤◌, ◌+◌, ◌++◌, ◌^◌, Bool, IfOk, IfSome, OnOk, length, map, option_map};
 ghost use Rattle.ti_meaning.specs.Owner as meaning;
 ghost use Rattle.ti_meaning.specs.Owner.{owner, readings};
 ghost use Rattle.ti_spans.specs.Subjects.{subject_seen, touched_seen};
 ghost use Rattle.ti_document.specs.Diagnostics.{text_at};
 ghost use Rattle.ti_document.specs.Documents.{held};
 ghost use Rattle.ti_features.specs.Names as spec;
-ghost use Rattle.ti_features.specs.Names.{name_of, uses_from, uses_in};
+ghost use Rattle.ti_features.specs.Spots as place;
+ghost use Rattle.ti_features.specs.Names.{head_parts, is_sought, name_of, ranges_from, ranges_in, used_parts};
 ghost use Rattle.ti_features.specs.inside.Counting.{CanCount};
+ghost use Rattle.ti_features.specs.inside.Seeking.{sought_seen};
 
 use crate::spots::{block_line, head_line, range_in, spot_at};
 use std::alloc::{AllocError, Global};
 use ti_base::Database;
 use ti_document::Document;
 use ti_messages::{Position, Range};
-use ti_spans::{Subject, Touched, head_of, subject_at, uses_of};
+use ti_spans::{Part, Subject, Touched, head_of, own_spans, subject_at, uses_of};
 use ti_text::count_lines;
 
-// What a place of a document is on.
-fn touched_at(
+/// What is sought in the blocks of a document.
+#[derive(Clone, Copy)]
+pub(crate) enum Sought<'a> {
+    /// The uses of the names that the block at that position owns.
+    UsesOf(usize),
+    /// A name: in the head of the block at that position, which owns it, and in uses.
+    Name {
+        /// The position of the block.
+        owner: usize,
+        /// The name.
+        name: &'a [u8],
+    },
+}
+
+/// What a place of a document is on.
+pub(crate) fn touched_at(
     alloc: Global,
     document: &Document,
     place: Position,
@@ -31,8 +47,8 @@ fn touched_at(
     }
 }
 
-// The block that owns the name of a subject.
-fn owner_of(database: &Database, subject: &Subject) -> Option<usize>
+/// The block that owns the name of a subject.
+pub(crate) fn owner_of(database: &Database, subject: &Subject) -> Option<usize>
     ensures { result ≡ owner (readings database.now) (name_of (subject_seen subject.now)) }
 {
     match subject {
@@ -96,44 +112,100 @@ pub(crate) fn is_owner(database: &Database, name: &[u8], at: usize) -> bool
     }
 }
 
-// Adds the uses, in a block that begins on that line, of the names that the block at the position
-// `owner` owns.
+// Whether a use of that name is sought.
+fn is_sought(database: &Database, sought: Sought<'_>, name: &[u8]) -> bool
+    ensures { result ≡ is_sought database.now (sought_seen sought.entry) name.now }
+{
+    match sought {
+        Sought::UsesOf(owner) => is_owner(database, name, owner),
+        Sought::Name { name: wanted, .. } => name == wanted,
+    }
+}
+
+// The parts of the head of a block at that position that are sought.
+fn head_parts(
+    alloc: Global,
+    sought: Sought<'_>,
+    at: usize,
+    block: &[u8],
+) -> Result<Vec<Part>, AllocError>
+    ensures { IfOk result (λ parts. parts.items ≡ head_parts (sought_seen sought.entry) at block.now) }
+{
+    match sought {
+        Sought::Name { owner, name } if owner == at => own_spans(alloc, block, name),
+        _ => Ok(Vec::new(alloc)),
+    }
+}
+
+// Adds the uses in a block that are sought.
 fn push_uses(
     alloc: Global,
-    ranges: &mut Vec<Range>,
+    parts: &mut Vec<Part>,
     database: &Database,
-    owner: usize,
-    line: usize,
-    at: usize,
+    sought: Sought<'_>,
+    block: &[u8],
 ) -> Result<(), AllocError>
-    requires within { at < length database.now }
-    requires room { line + length (text_at database.now at) < 2 ^ 64 }
-    ensures { OnOk result (ranges.new.items ≡ ranges.old.items ++ uses_in database.now owner line (text_at database.now at)) }
+    ensures { OnOk result (parts.new.items ≡ parts.old.items ++ used_parts database.now (sought_seen sought.entry) block.now) }
 {
-    let block = database.text(at);
     let uses = uses_of(alloc, block)?;
     for found in &uses {
-        if is_owner(database, &found.name, owner) {
-            ranges.push(range_in(line, block, found.span))?;
+        if is_sought(database, sought, &found.name) {
+            parts.push(found.span)?;
         }
     }
     Ok(())
 }
 
-// Adds these uses in all blocks.
-fn push_all_uses(
+// Adds parts of a block that begins on that line.
+fn push_ranges(
+    ranges: &mut Vec<Range>,
+    line: usize,
+    block: &[u8],
+    parts: &[Part],
+) -> Result<(), AllocError>
+    requires { line + length block.now < 2 ^ 64 }
+    ensures { OnOk result (ranges.new.items ≡ ranges.old.items ++ map (place.range_in line block.now) parts.now) }
+{
+    for part in parts {
+        ranges.push(range_in(line, block, *part))?;
+    }
+    Ok(())
+}
+
+// Adds what is sought in the block at that position, which begins on that line.
+fn push_sought(
     alloc: Global,
     ranges: &mut Vec<Range>,
     database: &Database,
-    owner: usize,
+    sought: Sought<'_>,
+    line: usize,
+    at: usize,
+) -> Result<(), AllocError>
+    requires within { at < length database.now }
+    requires room { line + length (text_at database.now at) < 2 ^ 64 }
+    ensures { OnOk result (ranges.new.items ≡ ranges.old.items ++ ranges_in database.now (sought_seen sought.entry) at line (text_at database.now at)) }
+{
+    let block = database.text(at);
+    let mut parts = head_parts(alloc, sought, at, block)?;
+    push_uses(alloc, &mut parts, database, sought, block)?;
+    push_ranges(ranges, line, block, &parts)
+}
+
+/// Adds what is sought in all blocks, of which the first begins on that line: in the order of the
+/// text.
+pub(crate) fn push_all(
+    alloc: Global,
+    ranges: &mut Vec<Range>,
+    database: &Database,
+    sought: Sought<'_>,
     first: usize,
 ) -> Result<(), AllocError>
     requires { CanCount first database.now }
-    ensures { OnOk result (ranges.new.items ≡ ranges.old.items ++ uses_from database.now owner first database.now) }
+    ensures { OnOk result (ranges.new.items ≡ ranges.old.items ++ ranges_from database.now (sought_seen sought.entry) 0 first database.now) }
 {
     let mut line = first;
     for at in 0..database.len() {
-        push_uses(alloc, ranges, database, owner, line, at)?;
+        push_sought(alloc, ranges, database, sought, line, at)?;
         line += count_lines(database.text(at));
     }
     Ok(())
@@ -160,6 +232,12 @@ pub fn references_of(
         ranges.push(head_range(alloc, document, at)?)?;
     }
     let first = head_line(document);
-    push_all_uses(alloc, &mut ranges, document.database(), at, first)?;
+    push_all(
+        alloc,
+        &mut ranges,
+        document.database(),
+        Sought::UsesOf(at),
+        first,
+    )?;
     Ok(ranges)
 }

@@ -5,6 +5,7 @@
 //! - `hovers`: what is told of what places of documents are on
 //! - `names`: where the names of documents lead
 //! - `outlines`: the blocks of documents as their outlines show them
+//! - `renaming`: what is renamed in documents
 #![tactic(auto)]
 
 #[cfg(test)]
@@ -17,3 +18,5 @@ mod hovers;
 mod names;
 #[cfg(test)]
 mod outlines;
+#[cfg(test)]
+mod renaming;

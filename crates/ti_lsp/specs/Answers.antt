@@ -3,7 +3,7 @@ use Rattle.std.specs.Prelude.{ℕ, List, [], Option, None, Some, codes, map}
 use Rattle.serde_json.specs.Data.{Data, array, null}
 use Rattle.serde_json.specs.View.{items_of}
 use Rattle.ti_messages.specs.Messages.{Query, completion, hover, definition, references, symbols, rename, prepare_rename, fixes}
-use Rattle.ti_messages.specs.Shapes.{Said, said_answer, item_data, list_data, location_data, symbol_data}
+use Rattle.ti_messages.specs.Shapes.{Said, said_answer, said_refusal, item_data, list_data, location_data, range_data, symbol_data, text_edit_data, workspace_edit_data}
 use Rattle.ti_messages.specs.declared.answers.ItemKind.TheVariants as items
 use Rattle.ti_messages.specs.declared.places.Range.{Range}
 use Rattle.ti_features.specs.Completions.{CompletionSeen, OffersSeen, completion_of, offers_capabilities, offers_names}
@@ -11,6 +11,7 @@ use Rattle.ti_features.specs.Hovers.{hover_of}
 use Rattle.ti_fixes.specs.Fixes.{fixes_of}
 use Rattle.ti_lsp.specs.Fixes.{fixes_data}
 use Rattle.ti_features.specs.Names.{definition_of, references_of}
+use Rattle.ti_features.specs.Renaming.{RenamingSeen, refuses, renamable_at, renames, renames_nothing, renaming_of}
 use Rattle.ti_features.specs.Symbols.{SymbolSeen, symbols_of}
 use Rattle.ti_server.specs.Sayings.{Sayings}
 use Rattle.ti_lsp.specs.Hovers.{hover_shown}
@@ -48,6 +49,21 @@ abbrev pub completion_data : Option CompletionSeen → Data
 completion_data None = list_data (items_of [])
 completion_data (Some found) = list_data (items_of (offered_items found.range found.offers))
 
+-- edits that put a name in place of parts of a text
+abbrev pub edits_data : List ℕ → List ℕ → List Range → Data
+edits_data uri name parts = workspace_edit_data uri (items_of (map (text_edit_data name) parts))
+
+-- what comes of a rename ("WorkspaceEdit"): null if nothing is renamed
+abbrev pub renamed_said : List ℕ → List ℕ → RenamingSeen → Said
+renamed_said uri name renames_nothing = said_answer null
+renamed_said uri name (refuses failure) = said_refusal failure
+renamed_said uri name (renames parts) = said_answer (edits_data uri name parts)
+
+-- the name that a rename is of, or null
+abbrev pub renamable_data : Option Range → Data
+renamable_data None = null
+renamable_data (Some range) = range_data range
+
 -- what comes of a question about a text, under the URI of its document
 abbrev pub answer_of : List ℕ → List ℕ → Query → Said
 answer_of text uri (completion place) = said_answer (completion_data (completion_of text place))
@@ -55,8 +71,8 @@ answer_of text uri (hover place) = said_answer (hover_shown (hover_of text place
 answer_of text uri (definition place) = said_answer (definition_data uri (definition_of text place))
 answer_of text uri (references place with_declaration) = said_answer (references_data uri (references_of text place with_declaration))
 answer_of text uri symbols = said_answer (outline_data (symbols_of text))
-answer_of text uri (rename place name) = said_answer null
-answer_of text uri (prepare_rename place) = said_answer null
+answer_of text uri (rename place name) = renamed_said uri name (renaming_of text place name)
+answer_of text uri (prepare_rename place) = said_answer (renamable_data (renamable_at text place))
 answer_of text uri (fixes range wanted) = said_answer (fixes_data uri wanted (fixes_of text range))
 
 abbrev pub sayings : Sayings

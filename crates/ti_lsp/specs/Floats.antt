@@ -7,14 +7,15 @@ use Rattle.ti_document.specs.Diagnostics.{Shown, diagnostics_of}
 use Rattle.ti_features.specs.Completions.{CompletionSeen, OffersSeen, completion_of, offers_capabilities, offers_names}
 use Rattle.ti_features.specs.Hovers.{HoverSeen, hover_of}
 use Rattle.ti_features.specs.Names.{definition_of, references_of}
+use Rattle.ti_features.specs.Renaming.{RenamingSeen, refuses, renamable_at, renames, renames_nothing, renaming_of}
 use Rattle.ti_features.specs.Symbols.{SymbolSeen, symbols_of}
 use Rattle.ti_fixes.specs.Fixes.{FixSeen, fixes_of}
 use Rattle.ti_lsp.specs.Fixes.{fix_shown, fixes_data}
 use Rattle.ti_messages.specs.Messages.{Query, completion, hover, definition, references, symbols, rename, prepare_rename, fixes}
-use Rattle.ti_messages.specs.Shapes.{location_data}
+use Rattle.ti_messages.specs.Shapes.{location_data, text_edit_data}
 use Rattle.ti_messages.specs.declared.places.Range.{Range}
 use Rattle.ti_server.specs.Sayings.{HasNoFloats, SaidHasNoFloat}
-use Rattle.ti_lsp.specs.Answers.{answer_of, completion_data, definition_data, entry_item, offered_items, sayings, symbol_shown}
+use Rattle.ti_lsp.specs.Answers.{answer_of, completion_data, definition_data, entry_item, offered_items, renamable_data, renamed_said, sayings, symbol_shown}
 use Rattle.ti_lsp.specs.Hovers.{hover_shown}
 use Rattle.ti_lsp.specs.Offers.{all_capabilities, capability_item}
 use Rattle.ti_lsp.specs.Shown.{shown_data, shown_of}
@@ -58,6 +59,19 @@ none_in_hover : (told : Option HoverSeen) → has_float (hover_shown told) ≡ f
 none_in_hover None = refl
 none_in_hover (Some told) = refl
 
+none_in_edits : (name : List ℕ) (parts : List Range) → items_have_float (items_of (map (text_edit_data name) parts)) ≡ false
+none_in_edits name [] = refl
+none_in_edits name (part ∷ parts) = none_in_edits name parts
+
+none_in_renaming : (uri name : List ℕ) (renaming : RenamingSeen) → SaidHasNoFloat (renamed_said uri name renaming)
+none_in_renaming uri name renames_nothing = refl
+none_in_renaming uri name (refuses failure) = tt
+none_in_renaming uri name (renames parts) = rw (none_in_edits name parts) refl
+
+none_in_renamable : (found : Option Range) → has_float (renamable_data found) ≡ false
+none_in_renamable None = refl
+none_in_renamable (Some range) = refl
+
 none_in_fixes : (uri : List ℕ) (fixes : List FixSeen) → items_have_float (items_of (map (fix_shown uri) fixes)) ≡ false
 none_in_fixes uri [] = refl
 none_in_fixes uri (fix ∷ fixes) = none_in_fixes uri fixes
@@ -72,8 +86,8 @@ answers_have_no_floats text uri (hover place) = none_in_hover (hover_of text pla
 answers_have_no_floats text uri (definition place) = none_in_definition uri (definition_of text place)
 answers_have_no_floats text uri (references place with_declaration) = none_in_references uri (references_of text place with_declaration)
 answers_have_no_floats text uri symbols = none_in_outline (symbols_of text)
-answers_have_no_floats text uri (rename place name) = refl
-answers_have_no_floats text uri (prepare_rename place) = refl
+answers_have_no_floats text uri (rename place name) = none_in_renaming uri name (renaming_of text place name)
+answers_have_no_floats text uri (prepare_rename place) = none_in_renamable (renamable_at text place)
 answers_have_no_floats text uri (fixes range wanted) = none_in_wanted uri wanted (fixes_of text range)
 
 pub sayings_have_no_floats : HasNoFloats sayings

@@ -3,7 +3,7 @@
 //! - `command`: what the words of the command line ask for
 //! - `terminfo`: a source as the server holds and shows it; `answering` answers questions about it,
 //!   `offers` has the capabilities as a completion offers them, `hovering` tells what a place is on,
-//!   and `fixing` says what is offered against faults
+//!   `renaming` renames, and `fixing` says what is offered against faults
 #![tactic(auto)]
 
 mod answering;
@@ -11,6 +11,7 @@ mod command;
 mod fixing;
 mod hovering;
 mod offers;
+mod renaming;
 mod terminfo;
 
 use crate::command::{Task, asked};

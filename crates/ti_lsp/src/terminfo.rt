@@ -7,6 +7,7 @@ ghost use Rattle.ti_lsp.specs.Shown.{shown_data};
 use crate::answering::{completion, definition, outline, references};
 use crate::fixing::fixes;
 use crate::hovering::hover;
+use crate::renaming::{renamable, renamed};
 use serde_json::Value;
 use std::alloc::{AllocError, Global};
 use ti_document::{Diagnostic, Document, offset_of};
@@ -91,10 +92,13 @@ impl Source for Terminfo {
             } => references(alloc, &self.document, uri, place, with_declaration)?,
             Question::Hover(place) => hover(alloc, &self.document, place)?,
             Question::Symbols => outline(alloc, &self.document)?,
+            Question::Rename { place, name } => {
+                return renamed(alloc, &self.document, uri, place, name);
+            }
+            Question::PrepareRename(place) => renamable(alloc, &self.document, place)?,
             Question::Fixes { range, wanted } => {
                 fixes(alloc, &self.document, uri, range, wanted)?
             }
-            Question::Rename { .. } | Question::PrepareRename(_) => Value::Null,
         };
         Ok(Reply::Answer(answer))
     }

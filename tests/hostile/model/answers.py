@@ -110,16 +110,17 @@ def is_on(offset, span):
 
 
 def name_at(block, offset):
-    """The name that an offset of a block is on, of the block or one that it uses, or None."""
+    """The name that an offset of a block is on, of the block or one that it uses, and where the name
+    is; None, None if it is on none."""
     folded, where = fold_at(block)
     for start, end in names_in(folded):
         if is_on(offset, span_of(where, start, end)):
-            return folded[start:end]
+            return folded[start:end], span_of(where, start, end)
     for start, end in items_in(folded):
         if is_on(offset, span_of(where, start, end)):
             name = use_in(folded, start, end)
-            return None if name is None else folded[slice(*name)]
-    return None
+            return (None, None) if name is None else (folded[slice(*name)], span_of(where, *name))
+    return None, None
 
 
 def blocks_with_lines(text):
@@ -134,14 +135,22 @@ def blocks_with_lines(text):
     return found
 
 
-def owner_at(text, held, place):
-    """The position of the block that owns the name at a place, or None."""
+def owned_at(text, held, place):
+    """The name at a place, the position of the block that owns it, and where the name at the place
+    is; None, None, None if no block owns one."""
     offset = len(text[: offset_of(text, *place)].encode("utf-8"))
     owners = Meaning([block for block, _, _ in held]).owners
-    for block, _, start in held:
+    for block, line, start in held:
         if start <= offset < start + len(block):
-            return owners.get(name_at(block, offset - start))
-    return None
+            name, span = name_at(block, offset - start)
+            if name in owners:
+                return name, owners[name], range_in(block, line, *span)
+    return None, None, None
+
+
+def owner_at(text, held, place):
+    """The position of the block that owns the name at a place, or None."""
+    return owned_at(text, held, place)[1]
 
 
 def head_range(held, at):
@@ -174,6 +183,43 @@ def references_of(text, uri, place, declared):
             if name is not None and name[0] < name[1] and owners.get(folded[slice(*name)]) == at:
                 found.append(range_in(block, line, *span_of(where, *name)))
     return [{"range": each, "uri": uri} for each in found]
+
+
+class Refused(Exception):
+    """A question has no answer."""
+
+
+def is_name(name):
+    """Whether an entry can have a name, and another can use it."""
+    if name in (b"", b".", b"..") or name[:1] == b"#" or any(it < 0x21 or it > 0x7E or it in b",/|" for it in name):
+        return False
+    block = b"x,use=" + name + b","
+    return any(use_in(block, *part) == (6, len(block) - 1) for part in items_in(block))
+
+
+def prepared_of(text, place):
+    """The name that a rename at a place is of, or None."""
+    return owned_at(text, blocks_with_lines(text), place)[2]
+
+
+def renamed_of(text, uri, place, new):
+    """The edits that give the name at a place another one, or None."""
+    held = blocks_with_lines(text)
+    name, owner, _ = owned_at(text, held, place)
+    if owner is None:
+        return None
+    owners = Meaning([block for block, _, _ in held]).owners
+    if not is_name(new.encode("utf-8")) or owners.get(new.encode("utf-8"), owner) != owner:
+        raise Refused
+    edits = []
+    for at, (block, line, _) in enumerate(held):
+        folded, where = fold_at(block)
+        parts = names_in(folded) if at == owner else []
+        parts += [part for part in (use_in(folded, *item) for item in items_in(folded)) if part is not None]
+        for part in parts:
+            if folded[slice(*part)] == name:
+                edits.append({"newText": new, "range": range_in(block, line, *span_of(where, *part))})
+    return {"changes": {uri: edits}}
 
 
 def word_at(block, offset):

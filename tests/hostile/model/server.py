@@ -5,7 +5,9 @@ the life of the server, and the texts of the open documents as Python strings.
 import json
 import re
 
-from .answers import completion_of, definition_of, hover_of, references_of, symbols_of
+from .answers import (
+    Refused, completion_of, definition_of, hover_of, prepared_of, references_of, renamed_of, symbols_of,
+)
 from .base import Meaning
 from .fixes import fixes_of
 from .source import FAULTS
@@ -14,12 +16,12 @@ from .texts import blocks_of, lines_of, offset_of, refused_line, width
 SMALL = 2**31
 BODY_MAX = 67_108_864
 DEPTH_MAX = 127
-NO_JSON, NO_REQUEST, NO_METHOD, BAD_PARAMETERS, FRESH = -32700, -32600, -32601, -32602, -32002
+NO_JSON, NO_REQUEST, NO_METHOD, BAD_PARAMETERS, FRESH, FAILED = -32700, -32600, -32601, -32602, -32002, -32803
 # the methods that ask about a document, and whether about a place in it
 QUESTIONS = {
     "textDocument/completion": True, "textDocument/hover": True, "textDocument/definition": True,
-    "textDocument/references": True, "textDocument/documentSymbol": False,
-    "textDocument/codeAction": False,
+    "textDocument/references": True, "textDocument/documentSymbol": False, "textDocument/rename": True,
+    "textDocument/prepareRename": True, "textDocument/codeAction": False,
 }
 
 
@@ -153,32 +155,40 @@ def wanted_of(params):
 
 
 def question_of(method, params):
-    """What is asked of which document: its URI, the place or None, and whether the definition is asked
-    for too; None if the parameters are not those of the method."""
+    """What is asked of which document: its URI, the place or None, and of references whether the
+    definition is asked for too, of a rename the new name; None if the parameters are not those of the
+    method."""
     uri, place = member(member(params, "textDocument"), "uri"), place_of(member(params, "position"))
-    declared = member(member(params, "context"), "includeDeclaration")
     if not isinstance(uri, str) or (QUESTIONS[method] and place is None):
         return None
     if method == "textDocument/codeAction":
         part, wanted = range_of(member(params, "range")), wanted_of(params)
         return None if part is None or wanted is None else (uri, part, wanted)
-    if method == "textDocument/references" and not isinstance(declared, bool):
-        return None
-    return uri, place, declared
+    if method == "textDocument/references":
+        declared = member(member(params, "context"), "includeDeclaration")
+        return (uri, place, declared) if isinstance(declared, bool) else None
+    if method == "textDocument/rename":
+        new = member(params, "newName")
+        return (uri, place, new) if isinstance(new, str) else None
+    return uri, place, None
 
 
-def answer_of(method, text, uri, place, declared):
+def answer_of(method, text, uri, place, more):
     """The answer to a question about a text."""
     if method == "textDocument/completion":
         return completion_of(text, place)
     if method == "textDocument/definition":
         return definition_of(text, uri, place)
     if method == "textDocument/references":
-        return references_of(text, uri, place, declared)
+        return references_of(text, uri, place, more)
+    if method == "textDocument/rename":
+        return renamed_of(text, uri, place, more)
+    if method == "textDocument/prepareRename":
+        return prepared_of(text, place)
     if method == "textDocument/hover":
         return hover_of(text, place)
     if method == "textDocument/codeAction":
-        return fixes_of(text, uri, *place) if declared else []
+        return fixes_of(text, uri, *place) if more else []
     return symbols_of(text) if method == "textDocument/documentSymbol" else None
 
 
@@ -227,7 +237,10 @@ class Server:
         asked = question_of(method, params)
         if asked is None or asked[0] not in self.texts:
             return refusal(number, BAD_PARAMETERS)
-        return {"id": number, "result": answer_of(method, self.texts[asked[0]], *asked)}
+        try:
+            return {"id": number, "result": answer_of(method, self.texts[asked[0]], *asked)}
+        except Refused:
+            return refusal(number, FAILED)
 
     def tell(self, method, params):
         """What is published by a notification."""

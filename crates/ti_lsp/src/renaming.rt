@@ -1,0 +1,63 @@
+//! Answers to requests to rename, as values of the protocol.
+ghost use Rattle.std.specs.Prelude.{◌≡◌, IfOk, map};
+ghost use Rattle.serde_json.specs.View.{view};
+ghost use Rattle.ti_features.specs.Renaming as features;
+ghost use Rattle.ti_lsp.specs.Answers.{renamable_data, renamed_said};
+ghost use Rattle.ti_messages.specs.Shapes.{text_edit_data};
+ghost use Rattle.ti_messages.specs.Views.{reply_view};
+
+use serde_json::Value;
+use std::alloc::{AllocError, Global};
+use ti_document::Document;
+use ti_features::{Renaming, renamable_at, renaming_of};
+use ti_messages::answers::{text_edit_value, workspace_edit_value};
+use ti_messages::writing::range_value;
+use ti_messages::{Position, Range, Reply};
+
+// Edits that put a name in place of parts of a document.
+fn edit_values(alloc: Global, name: &str, parts: &[Range]) -> Result<Vec<Value>, AllocError>
+    ensures { IfOk result (λ values. map view values.items ≡ map (text_edit_data name.now) parts.now) }
+{
+    let mut values = Vec::new(alloc);
+    for part in parts {
+        values.push(text_edit_value(alloc, name, *part)?)?;
+    }
+    Ok(values)
+}
+
+/// What comes of a rename at a place: the edits, nothing if the place is on no name that a block
+/// owns, or why the new name is refused.
+///
+/// # Errors
+/// Out of memory.
+pub fn renamed(
+    alloc: Global,
+    document: &Document,
+    uri: &str,
+    place: Position,
+    name: &str,
+) -> Result<Reply, AllocError>
+    ensures { IfOk result (λ reply. reply_view reply ≡ renamed_said uri.now name.now (features.renaming_of document.now place name.now)) }
+{
+    match renaming_of(alloc, document, place, name.as_bytes())? {
+        Renaming::Nothing => Ok(Reply::Answer(Value::Null)),
+        Renaming::Refused(failure) => Ok(Reply::Refusal(failure)),
+        Renaming::Parts(parts) => {
+            let edits = edit_values(alloc, name, &parts)?;
+            Ok(Reply::Answer(workspace_edit_value(alloc, uri, edits)?))
+        }
+    }
+}
+
+/// The name that a rename at a place is of, or null if nothing is renamed there.
+///
+/// # Errors
+/// Out of memory.
+pub fn renamable(alloc: Global, document: &Document, place: Position) -> Result<Value, AllocError>
+    ensures { IfOk result (λ v. view v ≡ renamable_data (features.renamable_at document.now place)) }
+{
+    match renamable_at(alloc, document, place)? {
+        None => Ok(Value::Null),
+        Some(range) => range_value(alloc, range),
+    }
+}
