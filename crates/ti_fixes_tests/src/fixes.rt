@@ -39,11 +39,7 @@ enum Wanted {
 /// A range, and what is offered for it: what is advised, the range that is exchanged, and its text.
 type Row = (
     ((usize, usize), (usize, usize)),
-    &'static [(
-        Wanted,
-        ((usize, usize), (usize, usize)),
-        &'static str,
-    )],
+    &'static [(Wanted, ((usize, usize), (usize, usize)), &'static str)],
 );
 
 #[rattlefmt::skip]

@@ -3,8 +3,8 @@ use serde_json::Value;
 use std::process::Abort;
 use std::test::Fail;
 use ti_messages::answers::{
-    ItemKind, action_value, hover_value, item_value, list_value, location_value, symbol_value, text_edit_value,
-    workspace_edit_value,
+    ItemKind, action_value, hover_value, item_value, list_value, location_value, symbol_value,
+    text_edit_value, workspace_edit_value,
 };
 use ti_messages::writing::{
     Severity, diagnostic_value, initialized_value, position_value, publish_value, range_value,
