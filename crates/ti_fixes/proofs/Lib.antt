@@ -1,4 +1,4 @@
 pub mod Listing
-pub mod Offering
 pub mod Printing
+pub mod Ranging
 pub mod Wholes

@@ -25,5 +25,5 @@ others_next blocks own before now at whole within so e =
     let here = others_in blocks own at (text_at blocks at) in
     let rest = others_from blocks own (at + 1) (drop (at + 1) blocks) in
     ap (λ (t : List (List ℕ)). t ++ rest) e ∙ append_assoc before here rest
-    ∙ ap (λ (n : ℕ). before ++ here ++ others_from blocks own n (drop (at + 1) blocks)) (add-one at)
+    ∙ ap (λ (n : ℕ). before ++ (here ++ others_from blocks own n (drop (at + 1) blocks))) (add-one at)
     ∙ ap (λ (t : List (List ℕ)). before ++ others_from blocks own at t) (sym (blocks_more blocks at within)) ∙ so
