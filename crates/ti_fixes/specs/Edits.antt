@@ -17,6 +17,7 @@ use Rattle.ti_source.specs.declared.code.Code.TheVariants as code
 use Rattle.ti_spans.specs.Parts.{spanned}
 use Rattle.ti_spans.specs.declared.parts.Part.{Part}
 use Rattle.ti_fixes.specs.Candidates.{names_for}
+use Rattle.ti_fixes.specs.Carets.{caret_at_end}
 use Rattle.ti_fixes.specs.Nearest.{nearest}
 use Rattle.ti_fixes.specs.Pieces.{after_name, value_of, written_name}
 use Rattle.ti_fixes.specs.Shown.{shown}
@@ -24,12 +25,13 @@ use Rattle.ti_fixes.specs.declared.edits.Advice.{Advice}
 use Rattle.ti_fixes.specs.declared.edits.Advice.TheVariants as advice
 use Rattle.ti_fixes.specs.declared.edits.Edit.{Edit}
 
--- what is advised, as plain data: another name in place of this one, the sign of a kind, or the
--- string as it is read
+-- what is advised, as plain data: another name in place of this one, the sign of a kind, the string
+-- as it is read, or a backslash before a `^`
 pub data AdviceSeen : Type 0 where
   advises_name : List ℕ → AdviceSeen
   advises_sign : Kind → AdviceSeen
   advises_spelling : AdviceSeen
+  advises_caret : AdviceSeen
 
 -- an edit of a block as plain data: what is advised, the part that is exchanged, and its new text
 pub record EditSeen : Type 0 where
@@ -42,6 +44,7 @@ abbrev pub advice_seen : Advice → AdviceSeen
 advice_seen (advice.Name name) = advises_name (string_bytes name)
 advice_seen (advice.Sign kind) = advises_sign kind
 advice_seen advice.Spelling = advises_spelling
+advice_seen advice.Caret = advises_caret
 
 -- an edit that holds its texts in memory, as plain data
 abbrev pub edit_seen : Edit → EditSeen
@@ -105,6 +108,15 @@ spelling_in value (Some part) = record { advice = advises_spelling; part = part;
 abbrev pub spellings : List PlacedByte → List ℕ → List EditSeen
 spellings item value = spelling_in value (spanned (value_of item))
 
+-- `\^` in place of a `^` in that part
+abbrev pub caret_in : Option Part → List EditSeen
+caret_in None = []
+caret_in (Some part) = record { advice = advises_caret; part = part; text = ascii.backslash ∷ ascii.caret ∷ [] } ∷ []
+
+-- the same of the `^` at the end of an item's value that takes nothing, if there is one
+abbrev pub carets : List PlacedByte → List EditSeen
+carets item = caret_in (caret_at_end (value_of item))
+
 -- ---- an item
 
 -- what is offered for an item that has a string, if it has one, by its fault, if it has one
@@ -112,4 +124,5 @@ abbrev pub edits_for : List PlacedByte → Option Code → Option (List ℕ) →
 edits_for item (Some code.UnknownCapability) value = known_names item
 edits_for item (Some code.WrongKind) value = kind_signs item
 edits_for item (Some code.UnknownEscape) (Some value) = spellings item value
+edits_for item (Some code.BadString) value = carets item
 edits_for item _ _ = []

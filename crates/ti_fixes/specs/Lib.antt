@@ -1,5 +1,6 @@
 -- The definitions that the contracts of this crate cite.
 pub mod Candidates
+pub mod Carets
 pub mod Edits
 pub mod Fixes
 pub mod Nearest

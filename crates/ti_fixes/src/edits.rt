@@ -2,9 +2,10 @@
 ghost use Rattle.std.specs.Prelude.{◌≡◌, ◌<◌, ◌++◌, ◌^◌, All, IfOk, OnOk, map, option_map};
 ghost use Rattle.std.specs.List.{list_all};
 ghost use Rattle.ti_fixes.specs.Edits as spec;
-ghost use Rattle.ti_fixes.specs.Edits.{edit_seen, edits_for, is_digit, kind_signs, known_names, rename, renames, sign_for, signs, spellings};
+ghost use Rattle.ti_fixes.specs.Edits.{carets, edit_seen, edits_for, is_digit, kind_signs, known_names, rename, renames, sign_for, signs, spellings};
 
 use crate::candidates::names_for;
+use crate::carets::caret_at_end;
 use crate::distances::nearest;
 use crate::pieces::{after_name, bytes_of, span, value_of, written_name};
 use crate::texts::shown;
@@ -22,6 +23,8 @@ pub enum Advice {
     Sign(Kind),
     /// The string as it is read.
     Spelling,
+    /// A backslash before the `^` at the end of a string, which takes nothing.
+    Caret,
 }
 
 /// An edit of a block.
@@ -194,6 +197,24 @@ fn push_spelling(
     Ok(())
 }
 
+// Adds `\^` in place of the `^` at the end of an item's value that takes nothing, if there is one.
+fn push_caret(alloc: Global, edits: &mut Vec<Edit>, item: &[(u8, usize)]) -> Result<(), AllocError>
+    requires { All (λ x. x.1 < 2 ^ 63) item.now }
+    ensures { OnOk result (map edit_seen edits.new.items ≡ map edit_seen edits.old.items ++ carets item.now) }
+{
+    let Some(part) = caret_at_end(value_of(item)) else {
+        return Ok(());
+    };
+    let mut text = String::new(alloc);
+    text.push_str("\\^")?;
+    edits.push(Edit {
+        advice: Advice::Caret,
+        part,
+        text,
+    })?;
+    Ok(())
+}
+
 /// Adds what is offered for an item that has a string, if it has one, by its fault, if it has one.
 pub(crate) fn push_edits(
     alloc: Global,
@@ -209,6 +230,7 @@ pub(crate) fn push_edits(
         (Some(Code::UnknownCapability), _) => push_known(alloc, edits, item),
         (Some(Code::WrongKind), _) => push_kind(alloc, edits, item),
         (Some(Code::UnknownEscape), Some(value)) => push_spelling(alloc, edits, item, value),
+        (Some(Code::BadString), _) => push_caret(alloc, edits, item),
         _ => Ok(()),
     }
 }

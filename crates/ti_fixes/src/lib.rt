@@ -4,6 +4,7 @@
 //! - `distances`: the names that are nearest to one that nothing has
 //! - `candidates`: the names that an item may have in place of its own
 //! - `pieces`: the parts of an item as it is written
+//! - `carets`: the `^` at the end of a string that takes nothing
 //! - `texts`: bytes as an editor is sent them
 //! - `edits`: what is offered against the fault of an item, as edits of its block
 //! - `uses`: what is offered against a use of a name that no block has
@@ -11,6 +12,7 @@
 #![tactic(auto)]
 
 mod candidates;
+mod carets;
 mod distances;
 mod edits;
 mod fixes;

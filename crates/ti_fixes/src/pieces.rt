@@ -60,7 +60,8 @@ pub(crate) fn after_name(item: &[(u8, usize)]) -> &[(u8, usize)]
 
 /// What is after the sign that follows the name of an item.
 pub(crate) fn value_of(item: &[(u8, usize)]) -> &[(u8, usize)]
-    ensures { result.now ≡ value_of item.now }
+    ensures value { result.now ≡ value_of item.now }
+    ensures offsets { All (λ x. x.1 < 2 ^ 63) item.now → All (λ x. x.1 < 2 ^ 63) result.now }
 {
     let start = written_name(item).len().saturating_add(1).min(item.len());
     &item[start..]

@@ -26,6 +26,7 @@ base,
 \tbel=\xF0\x9F\x98\x80, li
 #
 \tne#2,
+\tbel=^, cr=a^, ht=%^, el=\\400\\^, ed=\\\\^,
 ";
 
 /// What is advised, as it is wanted.
@@ -34,6 +35,7 @@ enum Wanted {
     Name(&'static str),
     Sign(Kind),
     Spelling,
+    Caret,
 }
 
 /// A range, and what is offered for it: what is advised, the range that is exchanged, and its text.
@@ -43,7 +45,7 @@ type Row = (
 );
 
 #[rattlefmt::skip]
-const ROWS: [Row; 28] = [
+const ROWS: [Row; 34] = [
     // the preface, names, and an item without a fault
     (((0, 0), (0, 3)), &[]),
     (((1, 0), (1, 3)), &[]),
@@ -90,7 +92,18 @@ const ROWS: [Row; 28] = [
     (((6, 26), (6, 33)), &[]),
     // a name that a comment is in, from a place between its halves and from a range past the end
     (((10, 0), (10, 1)), &[(Wanted::Name("line"), ((9, 9), (11, 3)), "lines")]),
-    (((9, 1), (20, 0)), &[(Wanted::Name("line"), ((9, 9), (11, 3)), "lines")]),
+    (((9, 1), (11, 4)), &[(Wanted::Name("line"), ((9, 9), (11, 3)), "lines")]),
+    (((11, 3), (20, 0)), &[
+        (Wanted::Name("line"), ((9, 9), (11, 3)), "lines"), (Wanted::Caret, ((12, 5), (12, 6)), "\\^"),
+        (Wanted::Caret, ((12, 12), (12, 13)), "\\^"), (Wanted::Caret, ((12, 38), (12, 39)), "\\^"),
+    ]),
+    // a `^` that takes nothing, at the end; after a `%` it is itself
+    (((12, 1), (12, 1)), &[(Wanted::Caret, ((12, 5), (12, 6)), "\\^")]),
+    (((12, 8), (12, 9)), &[(Wanted::Caret, ((12, 12), (12, 13)), "\\^")]),
+    (((12, 16), (12, 16)), &[]),
+    // an octal value over 255, with a `^` that a backslash takes; one after a backslash that is taken
+    (((12, 23), (12, 23)), &[]),
+    (((12, 34), (12, 34)), &[(Wanted::Caret, ((12, 38), (12, 39)), "\\^")]),
 ];
 
 // A range of a line and a column each.
@@ -109,7 +122,7 @@ fn is_advised(advice: &Advice, wanted: Wanted) -> bool {
     match (advice, wanted) {
         (Advice::Name(name), Wanted::Name(other)) => name.as_str() == other,
         (Advice::Sign(kind), Wanted::Sign(other)) => *kind == other,
-        (Advice::Spelling, Wanted::Spelling) => true,
+        (Advice::Spelling, Wanted::Spelling) | (Advice::Caret, Wanted::Caret) => true,
         _ => false,
     }
 }

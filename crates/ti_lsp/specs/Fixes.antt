@@ -5,7 +5,7 @@ use Rattle.serde_json.specs.View.{items_of}
 use Rattle.ti_caps.specs.declared.capability.Kind.{Kind}
 use Rattle.ti_caps.specs.declared.capability.Kind.TheVariants.{Flag, Number, Text}
 use Rattle.ti_messages.specs.Shapes.{action_data}
-use Rattle.ti_fixes.specs.Edits.{AdviceSeen, advises_name, advises_sign, advises_spelling}
+use Rattle.ti_fixes.specs.Edits.{AdviceSeen, advises_name, advises_sign, advises_spelling, advises_caret}
 use Rattle.ti_fixes.specs.Fixes.{FixSeen}
 
 -- what is said of the sign of a kind
@@ -19,6 +19,7 @@ abbrev pub advice_told : AdviceSeen → List ℕ → List ℕ
 advice_told (advises_name name) text = codes "Replace `" ++ name ++ codes "` by `" ++ text ++ codes "`"
 advice_told (advises_sign kind) text = sign_told kind
 advice_told advises_spelling text = codes "Spell the string as it is read"
+advice_told advises_caret text = codes "Write `" ++ text ++ codes "` at the end"
 
 -- a fix of the document of that URI
 abbrev pub fix_shown : List ℕ → FixSeen → Data

@@ -42,6 +42,13 @@ fn name_told(alloc: Global, name: &str, text: &str) -> Result<String, AllocError
     format!(in alloc; "Replace `{name}` by `{text}`")
 }
 
+// What is said of another spelling of the last byte of a string.
+fn caret_told(alloc: Global, text: &str) -> Result<String, AllocError>
+    ensures { IfOk result (λ told. string_bytes told ≡ codes "Write `" ++ text.now ++ codes "` at the end") }
+{
+    format!(in alloc; "Write `{text}` at the end")
+}
+
 // What is said of advice, by which a text is written.
 fn advice_told(alloc: Global, advice: &Advice, text: &str) -> Result<String, AllocError>
     ensures { IfOk result (λ told. string_bytes told ≡ advice_told (advice_seen advice.now) text.now) }
@@ -50,6 +57,7 @@ fn advice_told(alloc: Global, advice: &Advice, text: &str) -> Result<String, All
         Advice::Name(name) => name_told(alloc, name.as_str(), text),
         Advice::Sign(kind) => text_of(alloc, sign_told(*kind)),
         Advice::Spelling => text_of(alloc, "Spell the string as it is read"),
+        Advice::Caret => caret_told(alloc, text),
     }
 }
 

@@ -79,6 +79,18 @@ def spelled(folded, where, start, end, value):
     return [] if span is None else [("Spell the string as it is read", span, shown(written(value)))]
 
 
+def escaped(folded, where, start, end):
+    """A backslash before the `^` at the end of an item's value, if it takes nothing and nothing takes it."""
+    name, _ = parts_of(folded, start, end)
+    value, taken, before = folded[name + 1 : end], False, 0
+    lone = False
+    for byte in value:
+        lone = not taken and byte == ord("^") and before != ord("%")
+        taken = not taken and (byte == ord("\\") or lone)
+        before = byte
+    return [("Write `\\^` at the end", (where[end - 1], where[end - 1] + 1), "\\^")] if lone else []
+
+
 def used(folded, where, part, names, owners):
     """The nearest names of other blocks in place of one that no block has."""
     name = None if part is None else folded[slice(*part)]
@@ -101,6 +113,8 @@ def offered(block, at, owners, start, stop):
             found += signed(folded, where, *part)
         elif code == "W3":
             found += spelled(folded, where, *part, values[ordinal])
+        elif code == "E5":
+            found += escaped(folded, where, *part)
         found += used(folded, where, use_in(folded, *part), others, owners)
     return found
 
