@@ -8,5 +8,6 @@ pub mod Naming
 pub mod OnceNamed
 pub mod Outlines
 pub mod Printing
+pub mod SaidAlong
 pub mod Selections
 pub mod Spotting

@@ -1,10 +1,10 @@
--- Which block decides what an entry has of a capability (own; terminfo(5), "Similar Terminals"): the
--- first item of a block that says something of the capability. An item that gives it a value or a
--- cancel decides it in that block; a use hands it on to the block that owns the name.
-use Rattle.std.specs.Prelude.{ℕ, zero, suc, ◌≡◌, ◌↔◌, nat_eq, is_some, List, [], ◌∷◌, ◌++◌, filter, map, Option, None, Some, IsSome, if◌then◌else◌, option_and_then, slice_get}
+-- Which block decides what an entry has of a capability (own; terminfo(5), "Similar Terminals"):
+-- the first item of a block that says something of the capability. An item that gives it a value or
+-- a cancel decides it in that block; a use hands it on to the block that owns the name.
+use Rattle.std.specs.Prelude.{ℕ, zero, suc, ◌≡◌, ◌↔◌, nat_eq, is_some, List, [], ◌∷◌, ◌++◌, filter, map, Option, None, Some, if◌then◌else◌, option_and_then, slice_get}
 use Rattle.std.specs.Option.{option_map_or}
 use Rattle.std.specs.String.{string_bytes}
-use Rattle.ti_caps.specs.Tables.{Capability, IsCapability, capability, count_of, same_capability}
+use Rattle.ti_caps.specs.Tables.{Capability, capability, count_of, same_capability}
 use Rattle.ti_caps.specs.declared.capability.Kind.{Kind}
 use Rattle.ti_caps.specs.declared.capability.Kind.TheVariants.{Flag, Number, Text}
 use Rattle.ti_source.specs.Parsing.{reading_of_text}
@@ -71,8 +71,8 @@ decider_by Decisive at on later = Some at
 decider_by (HandsOn next) at on later = on next
 decider_by Silent at on later = later
 
--- the block that decides a capability, given these items of the block `at`, if at most so many items
--- are on the way
+-- the block that decides a capability, given these items of the block `at`, if at most so many
+-- items are on the way
 unfoldable pub decider_in : List Reading → Capability → (most at : ℕ) → List ReadItem → Option ℕ
 decider_in blocks c zero at items = None
 decider_in blocks c (suc most) at [] = None
@@ -81,7 +81,7 @@ decider_in blocks c (suc most) at (item ∷ items) =
 
 -- how many items may be on the way from a block to the one that decides
 abbrev pub reach : ℕ
-reach = 4096
+reach = 1024
 
 -- the block that decides a capability for the block at that position, if it is within reach
 abbrev pub decider : List Reading → Capability → ℕ → Option ℕ
@@ -181,8 +181,8 @@ DecidersAreFound =
     (blocks : List Reading) (c : Capability) (most at : ℕ) (items : List ReadItem) (by : ℕ)
     → (decider_in blocks c most at items ≡ Some by) ↔ Decides blocks c most at items by
 
--- what a block that resolves says of a capability is what the block says that decides it
+-- what a block says of a capability is what the block says that decides it
 abbrev pub DecidersSayIt : Type 0
 DecidersSayIt =
-    (blocks : List Reading) (c : Capability) (most at by : ℕ) → IsSome (said_by blocks c at) → Decides blocks c most at (items_of blocks at) by
-    → said_by blocks c at ≡ said_by blocks c by
+    (blocks : List Reading) (c : Capability) (most at by : ℕ) (said : Content) → said_by blocks c at ≡ Some said
+    → Decides blocks c most at (items_of blocks at) by → said_by blocks c by ≡ Some said

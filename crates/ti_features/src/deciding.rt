@@ -20,7 +20,7 @@ use ti_layout::Value;
 use ti_source::What;
 
 // How many items may be on the way from a block to the one that decides.
-const REACH: usize = 4_096;
+const REACH: usize = 1_024;
 
 /// What an item says of a capability.
 #[derive(Clone, Copy)]
@@ -251,7 +251,7 @@ fn sources_of(alloc: Global, database: &Database, at: usize) -> Result<Vec<Sourc
 
 /// The blocks that decide what the entry of the owner of a name inherits, in the order of the
 /// source, each with the capabilities in the order of the compiled entry; none if there is no such
-/// entry. A capability is left out if more than 4,096 items are on the way to its block.
+/// entry. A capability is left out if more than 1,024 items are on the way to its block.
 pub(crate) fn sources_named(
     alloc: Global,
     database: &Database,
@@ -275,4 +275,10 @@ pub fn one_block_decides()
 /// A law, with no code: the block that is looked for is the one that decides.
 pub fn deciders_are_found()
     ensures { spec.DecidersAreFound }
+{}
+
+/// A law, with no code: what a block says of a capability once its uses are expanded is what the
+/// block says that decides it.
+pub fn deciders_say_it()
+    ensures { spec.DecidersSayIt }
 {}

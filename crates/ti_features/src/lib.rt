@@ -23,7 +23,7 @@ mod spots;
 mod symbols;
 
 pub use completions::{Completion, Offers, completion_of, names_are_offered_once};
-pub use deciding::{Source, deciders_are_found, one_block_decides};
+pub use deciding::{Source, deciders_are_found, deciders_say_it, one_block_decides};
 pub use holdings::{Entry, Holding};
 pub use hovers::{About, Hover, hover_of};
 pub use meanings::Meaning;

@@ -94,7 +94,8 @@ fn deciding_blocks(rt: HostRuntime) -> Result<(), AllocError> {
     Ok(())
 }
 
-/// A source with an entry between two others that is over the limit, for its string has 4,096 bytes.
+/// A source with an entry that is over the limit, for its string has 4,096 bytes, between two
+/// others.
 fn source_with_large(alloc: Global) -> Result<Vec<u8>, AllocError> {
     let mut text = Vec::new(alloc);
     text.extend_from_slice(b"base,am,cols#80,\nlarge,it#8,cols#7,use=base,cbt=")?;

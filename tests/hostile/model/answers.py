@@ -8,7 +8,7 @@ from .listing import written
 from .source import CANCEL, WHITE, ends_of_items, read
 from .texts import blocks_of, offset_of, refused_line, width
 
-REACH = 4096  # how many items may be on the way to the block that decides a capability
+REACH = 1024  # how many items may be on the way to the block that decides a capability
 STRUCT = 23  # of "SymbolKind"
 FIELD_ITEM, STRUCT_ITEM = 5, 22  # of "CompletionItemKind"
 WORDS = {FLAG: "boolean", NUMBER: "number", TEXT: "string"}
