@@ -4,7 +4,7 @@ use std::process::Abort;
 use ti_base::{Database, EditError};
 use ti_caps::find;
 use ti_layout::{Table, Value};
-use ti_source::What;
+use ti_source::{Item, What};
 
 // What a block says of `cols` once its uses are expanded.
 #[derive(Clone, Copy, Debug, PartialEq, Eq)]
@@ -76,9 +76,9 @@ fn the_leftmost_mention_is_the_value(rt: HostRuntime) -> Result<(), EditError> {
     Ok(())
 }
 
-// Whether the only accepted item cancels a capability.
-fn is_a_cancel(database: &Database) -> bool {
-    match database.items(0).first() {
+// Whether the first of these items is the second of its block, on line 2, and cancels a capability.
+fn is_a_cancel(items: &[Item]) -> bool {
+    match items.first() {
         Some(item) => item.ordinal == 1 && item.line == 2 && matches!(item.what, What::Cancel(_)),
         None => false,
     }
@@ -87,7 +87,7 @@ fn is_a_cancel(database: &Database) -> bool {
 #[test]
 fn an_item_is_told_as_it_is_read(rt: HostRuntime) -> Result<(), EditError> {
     let database = source_of(rt.alloc(), &[b"a,nosuch,\n\tcols@,\n".as_slice()])?;
-    assert_eq!(rt; database.len(), 1);
-    assert!(rt; is_a_cancel(&database));
+    assert!(rt; 0 < database.len());
+    assert!(rt; is_a_cancel(database.items(0)));
     Ok(())
 }
