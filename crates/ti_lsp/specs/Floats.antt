@@ -72,13 +72,13 @@ none_in_renamable : (found : Option Range) → has_float (renamable_data found) 
 none_in_renamable None = refl
 none_in_renamable (Some range) = refl
 
-none_in_fixes : (uri : List ℕ) (fixes : List FixSeen) → items_have_float (items_of (map (fix_shown uri) fixes)) ≡ false
+none_in_fixes : (uri : List ℕ) (all : List FixSeen) → items_have_float (items_of (map (fix_shown uri) all)) ≡ false
 none_in_fixes uri [] = refl
-none_in_fixes uri (fix ∷ fixes) = none_in_fixes uri fixes
+none_in_fixes uri (fix ∷ all) = none_in_fixes uri all
 
-none_in_wanted : (uri : List ℕ) (wanted : Bool) (fixes : List FixSeen) → has_float (fixes_data uri wanted fixes) ≡ false
-none_in_wanted uri true fixes = none_in_fixes uri fixes
-none_in_wanted uri false fixes = refl
+none_in_wanted : (uri : List ℕ) (wanted : Bool) (all : List FixSeen) → has_float (fixes_data uri wanted all) ≡ false
+none_in_wanted uri true all = none_in_fixes uri all
+none_in_wanted uri false all = refl
 
 answers_have_no_floats : (text uri : List ℕ) (query : Query) → SaidHasNoFloat (answer_of text uri query)
 answers_have_no_floats text uri (completion place) = none_in_completion (completion_of text place)

@@ -35,11 +35,19 @@ fn text_of(alloc: Global, words: &str) -> Result<String, AllocError>
     Ok(text)
 }
 
+// By what something is replaced.
+fn other_told(alloc: Global, text: &str) -> Result<String, AllocError>
+    ensures { IfOk result (λ told. string_bytes told ≡ codes "` by `" ++ text.now ++ codes "`") }
+{
+    format!(in alloc; "` by `{text}`")
+}
+
 // What is said of another name in place of one.
 fn name_told(alloc: Global, name: &str, text: &str) -> Result<String, AllocError>
     ensures { IfOk result (λ told. string_bytes told ≡ codes "Replace `" ++ name.now ++ codes "` by `" ++ text.now ++ codes "`") }
 {
-    format!(in alloc; "Replace `{name}` by `{text}`")
+    let other = other_told(alloc, text)?;
+    format!(in alloc; "Replace `{name}{other}")
 }
 
 // What is said of another spelling of the last byte of a string.
