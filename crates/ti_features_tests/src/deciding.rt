@@ -3,7 +3,7 @@ use std::alloc::{AllocError, Global};
 use std::process::Abort;
 use ti_caps::{Cap, name};
 use ti_document::Document;
-use ti_features::{About, Source, hover_of};
+use ti_features::{About, Hover, Source, hover_of};
 use ti_messages::Position;
 
 /// A block by its name, and the names of the capabilities that it decides.
@@ -60,11 +60,23 @@ fn is_wanted(source: &Source, wanted: &Decided) -> bool {
 
 /// Whether the blocks are as they are wanted.
 fn are_wanted(sources: &[Source], wanted: &[Decided]) -> bool {
-    sources.len() == wanted.len()
-        && sources
-            .iter()
-            .zip(wanted)
-            .all(|(source, other)| is_wanted(source, other))
+    if sources.len() != wanted.len() {
+        return false;
+    }
+    for at in 0..sources.len() {
+        if !is_wanted(&sources[at], &wanted[at]) {
+            return false;
+        }
+    }
+    true
+}
+
+/// Whether it is told of a name, and these blocks decide what its owner inherits.
+fn is_told(told: &Hover, wanted: &[Decided]) -> bool {
+    match &told.about {
+        About::Name { sources, .. } => are_wanted(sources, wanted),
+        About::Item { .. } => false,
+    }
 }
 
 /// At the place there is a name, and these blocks decide what its owner inherits.
@@ -76,12 +88,10 @@ fn expect_sources(
     wanted: &[Decided],
 ) -> Result<(), AllocError> {
     let told = hover_of(alloc, document, Position { line, column })?;
-    assert!(rt;
-        told.is_some_and(|told| match &told.about {
-            About::Name { sources, .. } => are_wanted(sources, wanted),
-            About::Item { .. } => false,
-        })
-    );
+    assert!(rt; told.is_some());
+    if let Some(told) = &told {
+        assert!(rt; is_told(told, wanted));
+    }
     Ok(())
 }
 
