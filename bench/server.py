@@ -23,6 +23,8 @@ QUESTIONS = {
     "outline": ("documentSymbol", ""),
     "hover on a capability": ("hover", "\t"),
     "hover on a name": ("hover", "use="),
+    "rename a name": ("rename", "use="),
+    "fixes of an item": ("codeAction", "use="),
 }
 SECONDS = 600
 
@@ -56,7 +58,10 @@ def questions(text, count, method, before):
     lines = text.split("\n")
     line = next(at for at in range(len(lines) // 2, len(lines)) if "use=" in lines[at])
     place = {"line": line, "character": lines[line].index(before) + len(before)}
-    params = {"textDocument": {"uri": "file:///bench.ti"}, "position": place, "context": {"includeDeclaration": True}}
+    params = {
+        "textDocument": {"uri": "file:///bench.ti"}, "position": place, "context": {"includeDeclaration": True},
+        "newName": "new-name", "range": {"start": place, "end": place},
+    }
     return b"".join(framed(f"textDocument/{method}", params, id=number) for number in range(count))
 
 
