@@ -2,9 +2,9 @@
 use Rattle.std.proofs.Common.{◌≡◌, ℕ, Bool, true, false, cond, List, Option, Some, None, option_and_then, slice_get, refl, sym, ◌∙◌, ap, subst}
 use Rattle.std.proofs.lemmas.Option.{same_Some, slice_get-map}
 use Rattle.ti_source.specs.Reading.{Reading, reading_of}
-use Rattle.ti_layout.specs.Values.{contents}
+use Rattle.ti_layout.specs.Values.{contents, Mention}
 use Rattle.ti_meaning.specs.Owner.{readings}
-use Rattle.ti_meaning.specs.Expansion.{Mention, expansion}
+use Rattle.ti_meaning.specs.Expansion.{expansion}
 use Rattle.ti_meaning.specs.Compiled.{EntryState, unresolved, oversized, written, image_of, is_too_large, entry, entry_of, state_with, state_of, compiled}
 use Rattle.ti_meaning.specs.ValueTables.{HasTable}
 use Rattle.ti_slots.specs.declared.entries.BlockEntry.{BlockEntry}

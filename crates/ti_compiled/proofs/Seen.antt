@@ -7,7 +7,7 @@ use Rattle.ti_caps.specs.declared.capability.Kind.{Kind}
 use Rattle.ti_caps.specs.declared.capability.Kind.TheVariants.{Flag, Number, Text}
 use Rattle.ti_caps.proofs.Same.{same_capability-itself}
 use Rattle.ti_layout.specs.Image.{image}
-use Rattle.ti_layout.specs.Values.{Content, Contents, TableEntry, contents}
+use Rattle.ti_layout.specs.Values.{Content, Contents, Mention, contents}
 use Rattle.ti_layout.proofs.Fronts.{contents-append, contents-none, contents-one}
 use Rattle.ti_layout.proofs.SortedEntries.{test_from_other}
 use Rattle.ti_compiled.specs.Image.{bytes_of, held_by}
@@ -33,7 +33,7 @@ apart kind i j other e = other (ap (λ (c : Capability). c.index) e)
 of_other_kinds : (k l : Kind) (i j : ℕ) → k ≢ l → capability k i ≢ capability l j
 of_other_kinds k l i j other e = other (ap (λ (c : Capability). c.kind) e)
 
-three : (xs ys zs : List TableEntry) (c : Capability) (a b d : Option Content) → contents xs c ≡ a → contents ys c ≡ b → contents zs c ≡ d
+three : (xs ys zs : List Mention) (c : Capability) (a b d : Option Content) → contents xs c ≡ a → contents ys c ≡ b → contents zs c ≡ d
     → contents (xs ++ ys ++ zs) c ≡ option_or (option_or a b) d
 three xs ys zs c a b d h k l =
     contents-append (xs ++ ys) zs c ∙ ap (λ o. option_or o (contents zs c)) (contents-append xs ys c)

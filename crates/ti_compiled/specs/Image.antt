@@ -3,12 +3,12 @@
 use Rattle.std.specs.Prelude.{ℕ, List, Option, if◌then◌else◌}
 use Rattle.ti_caps.specs.Tables.{Capability, same_capability}
 use Rattle.ti_layout.specs.Image.{image}
-use Rattle.ti_layout.specs.Values.{Content, Contents, TableEntry, contents}
+use Rattle.ti_layout.specs.Values.{Content, Contents, Mention, contents}
 
 -- the names field, and the map as the entries of a table
 pub record NamedTable : Type 0 where
   pub names : List ℕ
-  pub entries : List TableEntry
+  pub entries : List Mention
 
 -- what the map says of each capability
 abbrev pub held_by : NamedTable → Contents

@@ -9,8 +9,8 @@ use Rattle.ti_caps.specs.declared.capability.Kind.{Kind}
 use Rattle.ti_source.specs.Reading as reading
 use Rattle.ti_source.specs.Reading.{Reading, ReadItem, item_of}
 use Rattle.ti_source.specs.declared.parsing.Item.{Item}
-use Rattle.ti_layout.specs.Values.{Contents}
-use Rattle.ti_meaning.specs.Expansion.{Mention, expansion, leftmost_content}
+use Rattle.ti_layout.specs.Values.{Contents, Mention, contents}
+use Rattle.ti_meaning.specs.Expansion.{expansion}
 use Rattle.ti_meaning.specs.ValueTables.{HasTable}
 use Rattle.ti_features.specs.Deciding.{Decides, decides_it, hands_it_on, is_silent, decider_by, decider_in, inherited_below, inherited_one, items_of, said_by, said_of, say_of}
 use Rattle.ti_features.specs.declared.deciding.Inherited.{Inherited}

@@ -9,13 +9,13 @@ use Rattle.ti_caps.specs.declared.capability.Kind.TheVariants.{Flag, Number, Tex
 use Rattle.ti_source.specs.Parsing.{reading_of_text}
 use Rattle.ti_source.specs.Reading.{Reading}
 use Rattle.ti_source.specs.Sound.{EachIsWellRead}
-use Rattle.ti_layout.specs.Image.{Places, is_there, of_kind}
+use Rattle.ti_layout.specs.Image.{ByIndex, is_there, of_kind}
 use Rattle.ti_layout.specs.Laws.{ImagesAreRead}
 use Rattle.ti_layout.specs.Reading.{Reads}
-use Rattle.ti_layout.specs.Values.{Contents}
+use Rattle.ti_layout.specs.Values.{Contents, Mention}
 use Rattle.ti_meaning.specs.Compiled as meaning
 use Rattle.ti_meaning.specs.Compiled.{compiled, entry, image_of, is_too_large}
-use Rattle.ti_meaning.specs.Expansion.{Mention, expansion, values}
+use Rattle.ti_meaning.specs.Expansion.{expansion, values}
 use Rattle.ti_meaning.specs.Owner.{owner, owner_block, readings}
 use Rattle.ti_meaning.proofs.Owning.{nobody_to_none, owner_to_owned}
 use Rattle.ti_features.specs.Holdings.{count_there, entry_of, entry_with, holding}
@@ -26,7 +26,7 @@ use Rattle.ti_features.proofs.EntriesRead.{entry_reads}
 
 -- ---- counts
 
-count_same : (f g : Places) (n : ℕ) → ((i : ℕ) → i < n → f i ≡ g i) → count_there f n ≡ count_there g n
+count_same : (f g : ByIndex) (n : ℕ) → ((i : ℕ) → i < n → f i ≡ g i) → count_there f n ≡ count_there g n
 unfolding count_there
 count_same f g zero same = refl
 count_same f g (suc n) same = rw (same n (omega arith), count_same f g n (λ i below. same i (omega (arith, below)))) refl
@@ -37,19 +37,19 @@ kind_same c d same kind = count_same (of_kind c kind) (of_kind d kind) (count_of
 pub holding_same : (c d : Contents) (size : ℕ) → ((k : Capability) → IsCapability k → c k ≡ d k) → holding c size ≡ holding d size
 holding_same c d size same = rw (kind_same c d same Flag, kind_same c d same Number, kind_same c d same Text) refl
 
-pub count_none : (places : Places) → count_there places 0 ≡ 0
+pub count_none : (places : ByIndex) → count_there places 0 ≡ 0
 unfolding count_there
 count_none places = refl
 
-count_more : (places : Places) (n : ℕ) (b : Bool) → is_there (places n) ≡ b → count_there places (suc n) ≡ cond b (suc (count_there places n)) (count_there places n)
+count_more : (places : ByIndex) (n : ℕ) (b : Bool) → is_there (places n) ≡ b → count_there places (suc n) ≡ cond b (suc (count_there places n)) (count_there places n)
 unfolding count_there
 count_more places n b e = rw e refl
 
-pub count_one : (places : Places) (n count : ℕ) → is_there (places n) ≡ true → count ≡ count_there places n → count + 1 ≡ count_there places (n + 1)
+pub count_one : (places : ByIndex) (n count : ℕ) → is_there (places n) ≡ true → count ≡ count_there places n → count + 1 ≡ count_there places (n + 1)
 count_one places n count e so =
     ap (λ (k : ℕ). k + 1) so ∙ add-one (count_there places n) ∙ sym (ap (count_there places) (add-one n) ∙ count_more places n true e)
 
-pub count_no : (places : Places) (n count : ℕ) → is_there (places n) ≡ false → count ≡ count_there places n → count ≡ count_there places (n + 1)
+pub count_no : (places : ByIndex) (n count : ℕ) → is_there (places n) ≡ false → count ≡ count_there places n → count ≡ count_there places (n + 1)
 count_no places n count e so = so ∙ sym (ap (count_there places) (add-one n) ∙ count_more places n false e)
 
 -- ---- whether a block has an entry

@@ -13,9 +13,9 @@ use Rattle.ti_source.specs.Sound.{EachIsWellRead, SetsItsKind}
 use Rattle.ti_layout.specs.Image.{image_limit}
 use Rattle.ti_layout.specs.Laws.{ImagesAreRead, without_cancel}
 use Rattle.ti_layout.specs.Reading.{Reads}
-use Rattle.ti_layout.specs.Values.{Agrees, AgreesIfSome, Content, contents, content_true, content_number, content_text, content_cancelled, Contents}
+use Rattle.ti_layout.specs.Values.{Agrees, AgreesIfSome, Content, contents, content_true, content_number, content_text, content_cancelled, Contents, Mention}
 use Rattle.ti_meaning.specs.Compiled.{image_of, is_too_large}
-use Rattle.ti_meaning.specs.Expansion.{Mention, expand, expand_items, expansion, is_broken, leftmost_content, mentions_of, values}
+use Rattle.ti_meaning.specs.Expansion.{expand, expand_items, expansion, is_broken, mentions_of, values}
 use Rattle.ti_meaning.specs.Owner.{is_among, owner_block, readings}
 use Rattle.ti_meaning.proofs.Depth.{joined_parts}
 use Rattle.ti_document.specs.Documents.{IsShortBlock}
@@ -24,7 +24,7 @@ use Rattle.ti_document.specs.Documents.{IsShortBlock}
 
 abbrev pub MentionsFit : List Mention → Type 0
 MentionsFit [] = Unit {0}
-MentionsFit (m ∷ ms) = Agrees m.capability m.says × MentionsFit ms
+MentionsFit (m ∷ ms) = Agrees m.0 m.1 × MentionsFit ms
 
 both_fit : (ms ns : List Mention) → MentionsFit ms → MentionsFit ns → MentionsFit (ms ++ ns)
 both_fit [] ns f g = g
@@ -37,10 +37,10 @@ abbrev pub NamesFit : Names → Type 0
 NamesFit of_name = (name : List ℕ) (ms : List Mention) → of_name name ≡ Some ms → MentionsFit ms
 
 said_fits : (of_name : Names) → NamesFit of_name → (said : Said) (ms : List Mention) → SetsItsKind said → mentions_of of_name said ≡ Some ms → MentionsFit ms
-said_fits of_name h (said_flag c) ms k e = subst MentionsFit (same_Some (record { capability = c; says = content_true } ∷ []) ms e) (k.1, tt)
-said_fits of_name h (said_number c n) ms k e = subst MentionsFit (same_Some (record { capability = c; says = content_number n } ∷ []) ms e) ((k.1, k.2), tt)
-said_fits of_name h (said_text c t) ms k e = subst MentionsFit (same_Some (record { capability = c; says = content_text t } ∷ []) ms e) ((k.1, k.2), tt)
-said_fits of_name h (said_cancel c) ms k e = subst MentionsFit (same_Some (record { capability = c; says = content_cancelled } ∷ []) ms e) (tt, tt)
+said_fits of_name h (said_flag c) ms k e = subst MentionsFit (same_Some ((c, content_true) ∷ []) ms e) (k.1, tt)
+said_fits of_name h (said_number c n) ms k e = subst MentionsFit (same_Some ((c, content_number n) ∷ []) ms e) ((k.1, k.2), tt)
+said_fits of_name h (said_text c t) ms k e = subst MentionsFit (same_Some ((c, content_text t) ∷ []) ms e) ((k.1, k.2), tt)
+said_fits of_name h (said_cancel c) ms k e = subst MentionsFit (same_Some ((c, content_cancelled) ∷ []) ms e) (tt, tt)
 said_fits of_name h (said_import name) ms k e = h name ms e
 
 abbrev pub ItemSets : ReadItem → Type 0
@@ -74,11 +74,11 @@ block_fits env sets (suc depth) b ms k e =
     items_fit of_name (λ name ns is. name_fits env sets (expand env depth) (block_fits env sets depth) name (env name) refl ns is) b.items ms k
     (unbroken (is_broken b) (expand_items of_name b.items) ms e).1
 
-content_fits : (ms : List Mention) → MentionsFit ms → (c : Capability) → AgreesIfSome c (leftmost_content ms c)
+content_fits : (ms : List Mention) → MentionsFit ms → (c : Capability) → AgreesIfSome c (contents ms c)
 unfolding contents
 content_fits [] f c = tt
-content_fits (m ∷ ms) f c = elim (same_capability m.capability c) as (λ b. same_capability m.capability c ≡ b → AgreesIfSome c (cond b (Some m.says) (leftmost_content ms c))) [
-  | true ↦ λ e. subst (λ (k : Capability). Agrees k m.says) (same_capability-true m.capability c e) f.0
+content_fits (m ∷ ms) f c = elim (same_capability m.0 c) as (λ b. same_capability m.0 c ≡ b → AgreesIfSome c (cond b (Some m.1) (contents ms c))) [
+  | true ↦ λ e. subst (λ (k : Capability). Agrees k m.1) (same_capability-true m.0 c e) f.0
   | false ↦ λ e. content_fits ms f.1 c
 ] refl
 
@@ -128,5 +128,5 @@ entry_reads each images texts short text one ms e fits =
     let named = well.named sound in
     let agree = block_fits env (owners_set each texts short) (suc (length (readings texts))) block ms well.sets e in
     let r = images block.field (values ms) (some_bytes block.field named.some) named.short named.no_nul
-    (λ c valid. uncancelled_fits c (leftmost_content ms c) (content_fits ms agree c)) (ltb-false (image_limit (values ms)) (length (image_of block ms)) fits) in
-    record { read = r.0; reads = r.1; same = λ c valid. r.2 c valid ∙ uncancelled_twice (leftmost_content ms c) }
+    (λ c valid. uncancelled_fits c (contents ms c) (content_fits ms agree c)) (ltb-false (image_limit (values ms)) (length (image_of block ms)) fits) in
+    record { read = r.0; reads = r.1; same = λ c valid. r.2 c valid ∙ uncancelled_twice (contents ms c) }

@@ -10,8 +10,8 @@ use Rattle.ti_caps.specs.declared.capability.Kind.TheVariants.{Flag, Number, Tex
 use Rattle.ti_source.specs.Parsing.{reading_of_text}
 use Rattle.ti_source.specs.Reading.{Reading, ReadItem, Said, said_flag, said_number, said_text, said_cancel, said_import}
 use Rattle.ti_layout.specs.Image.{is_there}
-use Rattle.ti_layout.specs.Values.{Content}
-use Rattle.ti_meaning.specs.Expansion.{Mention, expansion, leftmost_content}
+use Rattle.ti_layout.specs.Values.{Content, Mention, contents}
+use Rattle.ti_meaning.specs.Expansion.{expansion}
 use Rattle.ti_meaning.specs.Owner.{owner, readings}
 use Rattle.ti_meaning.specs.Report.{shown_detail}
 use Rattle.ti_features.specs.Holdings.{entry_named}
@@ -24,7 +24,7 @@ use Rattle.ti_features.specs.declared.deciding.Source.{Source}
 
 -- what a block of the list says of a capability once its uses are expanded
 abbrev pub said_of : List Reading → Capability → Reading → Option Content
-said_of blocks c block = option_and_then (λ (mentions : List Mention). leftmost_content mentions c) (expansion blocks block)
+said_of blocks c block = option_and_then (λ (mentions : List Mention). contents mentions c) (expansion blocks block)
 
 -- what the block at that position says of it
 abbrev pub said_by : List Reading → Capability → ℕ → Option Content

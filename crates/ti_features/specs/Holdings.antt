@@ -4,19 +4,19 @@ use Rattle.std.specs.Prelude.{ℕ, zero, suc, List, length, Option, None, Some, 
 use Rattle.ti_caps.specs.Tables.{count_of}
 use Rattle.ti_caps.specs.declared.capability.Kind.TheVariants.{Flag, Number, Text}
 use Rattle.ti_source.specs.Reading.{Reading}
-use Rattle.ti_layout.specs.Image.{Places, is_there, of_kind}
-use Rattle.ti_layout.specs.Values.{Contents}
+use Rattle.ti_layout.specs.Image.{ByIndex, is_there, of_kind}
+use Rattle.ti_layout.specs.Values.{Contents, Mention}
 use Rattle.ti_meaning.specs.Compiled.{image_of, is_too_large}
-use Rattle.ti_meaning.specs.Expansion.{Mention, expansion, values}
+use Rattle.ti_meaning.specs.Expansion.{expansion, values}
 use Rattle.ti_meaning.specs.Owner.{owner_block, readings}
 use Rattle.ti_features.specs.declared.holdings.Entry.{Entry}
 use Rattle.ti_features.specs.declared.holdings.Entry.TheVariants.{Missing, Faulty, Held}
 use Rattle.ti_features.specs.declared.holdings.Holding.{Holding}
 
 -- how many of the places below n have a value
-unfoldable pub count_there : Places → ℕ → ℕ
-count_there places zero = 0
-count_there places (suc n) = if is_there (places n) then suc (count_there places n) else count_there places n
+unfoldable pub count_there : ByIndex → ℕ → ℕ
+count_there values zero = 0
+count_there values (suc n) = if is_there (values n) then suc (count_there values n) else count_there values n
 
 -- what an entry of these contents holds, which takes so many bytes
 abbrev pub holding : Contents → ℕ → Holding

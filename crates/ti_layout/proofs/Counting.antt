@@ -10,7 +10,7 @@ use Rattle.ti_layout.specs.declared.header.Header.{Header}
 use Rattle.ti_layout.specs.declared.values.Value.{Value}
 use Rattle.ti_layout.specs.declared.values.Value.TheVariants.{True, Cancelled}
 use Rattle.ti_layout.specs.declared.values.Value.TheVariants as v
-use Rattle.ti_layout.specs.Values.{Content, content_true, content_number, content_text, content_cancelled, TableEntry, IsSorted, contents, content_of, entries_of}
+use Rattle.ti_layout.specs.Values.{Content, content_true, content_number, content_text, content_cancelled, Mention, IsSorted, contents, content_of, entries_of}
 use Rattle.ti_layout.specs.Image.{is_wide, format_of, of_kind, texts_below}
 use Rattle.ti_layout.specs.inside.Writing.{HasSizes, at_most_max}
 use Rattle.ti_layout.proofs.Below.{some_below-true, some_below-false}
@@ -21,10 +21,10 @@ use Rattle.ti_layout.proofs.WrittenSections.{passed, stepped, all_past}
 -- ---- the format
 
 -- no number over the greatest of the legacy format so far
-pub record AreNarrow (es : List TableEntry) (k : ℕ) : Type 0 where
-  pub each : (j : ℕ) (e : TableEntry) → j < k → j < length es → is_wide (Some (get_or es j e).1) ≡ false
+pub record AreNarrow (es : List Mention) (k : ℕ) : Type 0 where
+  pub each : (j : ℕ) (e : Mention) → j < k → j < length es → is_wide (Some (get_or es j e).1) ≡ false
 
-pub narrow_none : (es : List TableEntry) → AreNarrow es 0
+pub narrow_none : (es : List Mention) → AreNarrow es 0
 narrow_none es = record { each = λ j e lt in_range. absurd (omega (arith, lt)) }
 
 wide_is_number : (c : Content) → is_wide (Some c) ≡ true → is_of Number c ≡ true
@@ -35,7 +35,7 @@ wide_is_number content_cancelled e = absurd cc
 
 module _ (xs : List (Capability × Value)) (sorted : IsSorted (entries_of xs)) where
   module _ (k : ℕ) (x : Capability × Value) (within : k < length xs) (item : x ≡ get_or xs k x) where
-    entry_here : (e : TableEntry) → get_or (entries_of xs) k e ≡ (x.0, content_of x.1)
+    entry_here : (e : Mention) → get_or (entries_of xs) k e ≡ (x.0, content_of x.1)
     entry_here e = get_or_default (entries_of xs) k e (x.0, content_of x.1) (rw length-map within) ∙ item_read xs k x within item
 
     pub narrow_more : is_wide (Some (content_of x.1)) ≡ false → AreNarrow (entries_of xs) k → AreNarrow (entries_of xs) (k + 1)
@@ -44,19 +44,19 @@ module _ (xs : List (Capability × Value)) (sorted : IsSorted (entries_of xs)) w
         | inl under ↦ are.each j e under in_range
         | inr at ↦
             let same : j ≡ k = omega arith in
-            ap (λ (i : ℕ). is_wide (Some (get_or (entries_of xs) i e).1)) same ∙ ap (λ (y : TableEntry). is_wide (Some y.1)) (entry_here e) ∙ narrow
+            ap (λ (i : ℕ). is_wide (Some (get_or (entries_of xs) i e).1)) same ∙ ap (λ (y : Mention). is_wide (Some y.1)) (entry_here e) ∙ narrow
       ];
     }
 
     pub extended_wanted : is_wide (Some (content_of x.1)) ≡ true → format_of (contents (entries_of xs)) ≡ Extended
     extended_wanted wide =
-        let e : TableEntry = (x.0, content_of x.1) in
+        let e : Mention = (x.0, content_of x.1) in
         let long : k < length (entries_of xs) = rw length-map within in
-        let is : is_of Number (get_or (entries_of xs) k e).1 ≡ true = ap (λ (y : TableEntry). is_of Number y.1) (entry_here e) ∙ wide_is_number (content_of x.1) wide in
-        let kind : x.0.kind ≡ Number = sym (ap (λ (y : TableEntry). y.0.kind) (entry_here e)) ∙ kind_at (entries_of xs) sorted k e Number long is in
+        let is : is_of Number (get_or (entries_of xs) k e).1 ≡ true = ap (λ (y : Mention). is_of Number y.1) (entry_here e) ∙ wide_is_number (content_of x.1) wide in
+        let kind : x.0.kind ≡ Number = sym (ap (λ (y : Mention). y.0.kind) (entry_here e)) ∙ kind_at (entries_of xs) sorted k e Number long is in
         let said : contents (entries_of xs) x.0 ≡ Some (content_of x.1) =
-        ap (λ (y : TableEntry). contents (entries_of xs) y.0) (sym (entry_here e)) ∙ contents_read (entries_of xs) sorted k e long ∙ ap (λ (y : TableEntry). Some y.1) (entry_here e) in
-        let valid : IsCapability x.0 = subst (λ (y : TableEntry). IsCapability y.0) (entry_here e) (sorted.agree k e long).0 in
+        ap (λ (y : Mention). contents (entries_of xs) y.0) (sym (entry_here e)) ∙ contents_read (entries_of xs) sorted k e long ∙ ap (λ (y : Mention). Some y.1) (entry_here e) in
+        let valid : IsCapability x.0 = subst (λ (y : Mention). IsCapability y.0) (entry_here e) (sorted.agree k e long).0 in
         let fits : x.0.index < 39 = subst (λ (n : Kind). IsCapability (capability n x.0.index)) kind valid in
         let here : of_kind (contents (entries_of xs)) Number x.0.index ≡ Some (content_of x.1) = ap (λ (n : Kind). contents (entries_of xs) (capability n x.0.index)) (sym kind) ∙ said in
         ap (λ b. cond b Extended Legacy) (some_below-true (λ i. is_wide (of_kind (contents (entries_of xs)) Number i)) 39 x.0.index fits (ap is_wide here ∙ wide))
@@ -65,7 +65,7 @@ module _ (xs : List (Capability × Value)) (sorted : IsSorted (entries_of xs)) w
   narrow_said are i None said = refl
   narrow_said are i (Some c) said =
       let s = stands (entries_of xs) (capability Number i) c said in
-      let e : TableEntry = (capability Number i, c) in
+      let e : Mention = (capability Number i, c) in
       let long : length (entries_of xs) ≡ length xs = length-map xs _ in
       let at_within = s.within in
       ap (λ y. is_wide (Some y)) (sym (s.is_content e)) ∙ are.each s.at e (omega arith) s.within
@@ -77,19 +77,19 @@ module _ (xs : List (Capability × Value)) (sorted : IsSorted (entries_of xs)) w
 
 -- ---- the counts, and the size of the string table
 
-pub record HasCounts (es : List TableEntry) (k flags numbers texts strings : ℕ) : Type 0 where
+pub record HasCounts (es : List Mention) (k flags numbers texts strings : ℕ) : Type 0 where
   pub flags_walked : Walked es Flag k flags
   pub numbers_walked : Walked es Number k numbers
   pub texts_walked : Walked es Text k texts
   pub strings_are : strings ≡ at_most_max (length (texts_below (contents es) texts))
 
 -- the header so far
-pub record HeaderSoFar (es : List TableEntry) (field : List ℕ) (k : ℕ) (h : Header) : Type 0 where
+pub record HeaderSoFar (es : List Mention) (field : List ℕ) (k : ℕ) (h : Header) : Type 0 where
   pub format_is : h.format ≡ format_of (contents es)
   pub names_are : h.names ≡ suc (length field)
   pub counts : HasCounts es k h.flags h.numbers h.texts h.strings
 
-pub counts_begun : (es : List TableEntry) → HasCounts es 0 0 0 0 0
+pub counts_begun : (es : List Mention) → HasCounts es 0 0 0 0 0
 counts_begun es =
     let none : length (texts_below (contents es) 0) ≡ 0 = ap (λ (t : List ℕ). length t) (texts-none (contents es)) in
     record { flags_walked = walked-start es Flag; numbers_walked = walked-start es Number; texts_walked = walked-start es Text; strings_are = omega arith }

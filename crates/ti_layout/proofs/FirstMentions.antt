@@ -10,26 +10,26 @@ use Rattle.ti_caps.specs.declared.capability.Kind.{Kind}
 use Rattle.ti_caps.specs.declared.capability.Kind.TheVariants.{Flag, Number, Text}
 use Rattle.ti_layout.specs.inside.Mentions.{AreMentionPositions, Decides, recent_max}
 use Rattle.ti_layout.specs.declared.values.Value.{Value}
-use Rattle.ti_layout.specs.Values.{Content, TableEntry, Agrees, IsSorted, contents, content_of, entries_of, rank_of}
+use Rattle.ti_layout.specs.Values.{Content, Mention, Agrees, IsSorted, contents, content_of, entries_of, rank_of}
 use Rattle.ti_layout.proofs.SortedEntries.{one_from_rank, same_from_one, test_from_other}
 use Rattle.ti_layout.proofs.Fronts.{AllBefore, absent_behind, contents-append, contents-none, contents-one, sorted-push, rank-push}
 
 -- ---- one more mention
 
 -- a mention says nothing of another capability
-says_nothing : (x : TableEntry) (c : Capability) → x.0 ≢ c → contents (x ∷ []) c ≡ None
+says_nothing : (x : Mention) (c : Capability) → x.0 ≢ c → contents (x ∷ []) c ≡ None
 says_nothing x c other = contents-one x c ∙ ap (λ b. cond b (Some x.1) None) (test_from_other x.0 c other)
 
-says_own : (x : TableEntry) → contents (x ∷ []) x.0 ≡ Some x.1
+says_own : (x : Mention) → contents (x ∷ []) x.0 ≡ Some x.1
 says_own x = contents-one x x.0 ∙ ap (λ b. cond b (Some x.1) None) (same_from_one x.0 x.0 refl)
 
-none_more : (es : List TableEntry) (x : TableEntry) (c : Capability) → contents es c ≡ None → x.0 ≢ c → contents (es ++ x ∷ []) c ≡ None
+none_more : (es : List Mention) (x : Mention) (c : Capability) → contents es c ≡ None → x.0 ≢ c → contents (es ++ x ∷ []) c ≡ None
 none_more es x c none other = contents-append es (x ∷ []) c ∙ ap (λ o. option_or o (contents (x ∷ []) c)) none ∙ says_nothing x c other
 
-some_more : (es : List TableEntry) (x : TableEntry) (c : Capability) (v : Content) → contents es c ≡ Some v → contents (es ++ x ∷ []) c ≡ Some v
+some_more : (es : List Mention) (x : Mention) (c : Capability) (v : Content) → contents es c ≡ Some v → contents (es ++ x ∷ []) c ≡ Some v
 some_more es x c v some = contents-append es (x ∷ []) c ∙ ap (λ o. option_or o (contents (x ∷ []) c)) some
 
-first_more : (es : List TableEntry) (x : TableEntry) → contents es x.0 ≡ None → contents (es ++ x ∷ []) x.0 ≡ Some x.1
+first_more : (es : List Mention) (x : Mention) → contents es x.0 ≡ None → contents (es ++ x ∷ []) x.0 ≡ Some x.1
 first_more es x none = contents-append es (x ∷ []) x.0 ∙ ap (λ o. option_or o (contents (x ∷ []) x.0)) none ∙ says_own x
 
 -- ---- mentions after a table
@@ -43,11 +43,11 @@ no_items [] e = refl
 no_items (x ∷ xs) e = absurd (omega arith)
 
 -- no mention
-pub nothing_behind : (table : List TableEntry) (xs : List (Capability × Value)) (c : Capability) → xs ≡ [] → contents table c ≡ option_or (contents table c) (contents (entries_of xs) c)
+pub nothing_behind : (table : List Mention) (xs : List (Capability × Value)) (c : Capability) → xs ≡ [] → contents table c ≡ option_or (contents table c) (contents (entries_of xs) c)
 nothing_behind table xs c none = sym (ap (λ o. option_or (contents table c) o) (ap (λ ys. contents (entries_of ys) c) none ∙ contents-none c) ∙ or_nothing (contents table c))
 
 -- mentions after an empty table
-pub behind_nothing : (table : List TableEntry) (xs : List (Capability × Value)) (c : Capability) (said : Option Content) → xs ≡ [] → entries_of xs ≡ table → said ≡ option_or (contents table c) said
+pub behind_nothing : (table : List Mention) (xs : List (Capability × Value)) (c : Capability) (said : Option Content) → xs ≡ [] → entries_of xs ≡ table → said ≡ option_or (contents table c) said
 behind_nothing table xs c said none is = sym (ap (λ o. option_or o said) (ap (λ es. contents es c) (sym is ∙ ap entries_of none) ∙ contents-none c))
 
 -- what was put, and one more value
@@ -55,10 +55,10 @@ pub or_assoc : (a b o : Option Content) → option_or (option_or a b) o ≡ opti
 or_assoc None b o = refl
 or_assoc (Some v) b o = refl
 
-pub added_more : (table : List TableEntry) (xs : List (Capability × Value)) (x : Capability × Value) (c : Capability)
+pub added_more : (table : List Mention) (xs : List (Capability × Value)) (x : Capability × Value) (c : Capability)
     → contents (table ++ entries_of (xs ++ x ∷ [])) c ≡ option_or (contents (table ++ entries_of xs) c) (cond (same_capability x.0 c) (Some (content_of x.1)) None)
 added_more table xs x c =
-    let e : TableEntry = (x.0, content_of x.1) in
+    let e : Mention = (x.0, content_of x.1) in
     let end : entries_of (xs ++ x ∷ []) ≡ entries_of xs ++ e ∷ [] = map-append (λ (y : Capability × Value). (y.0, content_of y.1)) xs (x ∷ []) in
     contents-append table (entries_of (xs ++ x ∷ [])) c
     ∙ ap (λ o. option_or (contents table c) o) (ap (λ es. contents es c) end ∙ contents-append (entries_of xs) (e ∷ []) c)
@@ -67,7 +67,7 @@ added_more table xs x c =
     ∙ ap (λ o. option_or (contents (table ++ entries_of xs) c) o) (contents-one e c)
 
 -- all that was put is in the table
-pub added_all : (table : List TableEntry) (xs : List (Capability × Value)) (c : Capability) → xs ≡ [] → contents (table ++ entries_of xs) c ≡ contents table c
+pub added_all : (table : List Mention) (xs : List (Capability × Value)) (c : Capability) → xs ≡ [] → contents (table ++ entries_of xs) c ≡ contents table c
 added_all table xs c none = contents-append table (entries_of xs) c ∙ sym (nothing_behind table xs c none)
 
 -- ---- the positions of first mentions
@@ -104,13 +104,13 @@ front_more xs i x within here c =
 pub entries_count : (xs : List (Capability × Value)) (i : ℕ) → i ≤ length xs → length (entries_of (take i xs)) ≡ i
 entries_count xs i within = rw length-map (length-take-le i xs within)
 
-module _ (es : List TableEntry) (x : TableEntry) (positions : List ℕ) (known : AreMentionPositions es positions) where
+module _ (es : List Mention) (x : Mention) (positions : List ℕ) (known : AreMentionPositions es positions) where
   longer : length (es ++ x ∷ []) ≡ length es + 1
   longer = length-append es (x ∷ [])
 
   -- a first mention remains the first
   stays : (rank p : ℕ) → get_or positions rank 0 ≡ suc p
-      → (p < length (es ++ x ∷ [])) × ((e : TableEntry) → Decides (es ++ x ∷ []) rank (get_or (es ++ x ∷ []) p e))
+      → (p < length (es ++ x ∷ [])) × ((e : Mention) → Decides (es ++ x ∷ []) rank (get_or (es ++ x ∷ []) p e))
   stays rank p at =
       let old = known.first rank p at in
       let long = longer in (
@@ -159,19 +159,19 @@ module _ (es : List TableEntry) (x : TableEntry) (positions : List ℕ) (known :
 -- ---- the first mentions, in the order of the entry
 
 -- these entries are the first mentions of the capabilities below a rank
-pub record Gathers (es out : List TableEntry) (rank : ℕ) : Type 0 where
+pub record Gathers (es out : List Mention) (rank : ℕ) : Type 0 where
   pub sorted : IsSorted out
   pub before : AllBefore out rank
   pub said : (c : Capability) → IsCapability c → rank_of c < rank → contents out c ≡ contents es c
 
-pub gathers_none : (es : List TableEntry) → Gathers es [] 0
+pub gathers_none : (es : List Mention) → Gathers es [] 0
 gathers_none es = record {
   sorted = record { rises = λ i j lt within. absurd (omega arith); agree = λ k d lt. absurd (omega arith) };
   before = λ k within. absurd (omega arith);
   said = λ c valid below. absurd (omega arith);
 }
 
-module _ (es out : List TableEntry) (rank : ℕ) (so_far : Gathers es out rank) (positions : List ℕ) (known : AreMentionPositions es positions) where
+module _ (es out : List Mention) (rank : ℕ) (so_far : Gathers es out rank) (positions : List ℕ) (known : AreMentionPositions es positions) where
   later : AllBefore out (rank + 1)
   later k within = let b = so_far.before k within in omega arith
 
@@ -190,7 +190,7 @@ module _ (es out : List TableEntry) (rank : ℕ) (so_far : Gathers es out rank) 
   }
 
   -- the first mention with the rank
-  pub gathers_more : (x : TableEntry) → Agrees x.0 x.1 → Decides es rank x → Gathers es (out ++ x ∷ []) (rank + 1)
+  pub gathers_more : (x : Mention) → Agrees x.0 x.1 → Decides es rank x → Gathers es (out ++ x ∷ []) (rank + 1)
   gathers_more x agrees decides =
       let valid = decides.0 in
       let here = decides.1 in
@@ -211,11 +211,11 @@ module _ (es out : List TableEntry) (rank : ℕ) (so_far : Gathers es out rank) 
 
 -- ---- one more mention after those before
 
-pub agree_more : (xs : List (Capability × Value)) (x : Capability × Value) → All (λ (e : TableEntry). Agrees e.0 e.1) (entries_of xs) → Agrees x.0 (content_of x.1)
-    → All (λ (e : TableEntry). Agrees e.0 e.1) (entries_of (xs ++ x ∷ []))
+pub agree_more : (xs : List (Capability × Value)) (x : Capability × Value) → All (λ (e : Mention). Agrees e.0 e.1) (entries_of xs) → Agrees x.0 (content_of x.1)
+    → All (λ (e : Mention). Agrees e.0 e.1) (entries_of (xs ++ x ∷ []))
 agree_more xs x all agrees =
-    subst (All (λ (e : TableEntry). Agrees e.0 e.1)) (sym (map-append (λ (e : Capability × Value). (e.0, content_of e.1)) xs (x ∷ [])))
-    (All-push (λ (e : TableEntry). Agrees e.0 e.1) (entries_of xs) (x.0, content_of x.1) all agrees)
+    subst (All (λ (e : Mention). Agrees e.0 e.1)) (sym (map-append (λ (e : Capability × Value). (e.0, content_of e.1)) xs (x ∷ [])))
+    (All-push (λ (e : Mention). Agrees e.0 e.1) (entries_of xs) (x.0, content_of x.1) all agrees)
 
 pub one_longer : (xs : List (Capability × Value)) (x : Capability × Value) → length xs < recent_max → length (xs ++ x ∷ []) ≤ recent_max
 one_longer xs x room = let long = length-append xs (x ∷ []) in omega arith

@@ -9,10 +9,10 @@ use Rattle.ti_caps.specs.Tables.{Capability, IsCapability, same_capability}
 use Rattle.ti_caps.proofs.Same.{same_capability-true}
 use Rattle.ti_layout.specs.declared.values.Value.{Value}
 use Rattle.ti_layout.specs.inside.Values.{IsGapFor}
-use Rattle.ti_layout.specs.Values.{Content, TableEntry, Agrees, IsSorted, contents, content_of, entries_of, rank_at, rank_of}
+use Rattle.ti_layout.specs.Values.{Content, Mention, Agrees, IsSorted, contents, content_of, entries_of, rank_at, rank_of}
 use Rattle.ti_layout.specs.inside.Merging.{IsPastBoth}
 use Rattle.ti_layout.proofs.SortedEntries.{contents_nowhere, one_from_rank}
-use Rattle.ti_layout.proofs.Places.{nowhere, sorted-insert, rank_read}
+use Rattle.ti_layout.proofs.Searched.{nowhere, sorted-insert, rank_read}
 use Rattle.ti_layout.proofs.Walked.{item_read}
 
 -- ---- what entries one after another say
@@ -29,7 +29,7 @@ or_if : (b : Bool) (x : Content) (o p : Option Content) → option_or (cond b (S
 or_if true x o p = refl
 or_if false x o p = refl
 
-pub contents-append : (xs ys : List TableEntry) (c : Capability) → contents (xs ++ ys) c ≡ option_or (contents xs c) (contents ys c)
+pub contents-append : (xs ys : List Mention) (c : Capability) → contents (xs ++ ys) c ≡ option_or (contents xs c) (contents ys c)
 unfolding contents
 contents-append [] ys c = refl
 contents-append (x ∷ xs) ys c = rw (contents-append xs ys c) (sym (or_if (same_capability x.0 c) x.1 (contents xs c) (contents ys c)))
@@ -38,23 +38,23 @@ pub contents-none : (c : Capability) → contents [] c ≡ None
 unfolding contents
 contents-none c = refl
 
-pub contents-one : (x : TableEntry) (c : Capability) → contents (x ∷ []) c ≡ cond (same_capability x.0 c) (Some x.1) None
+pub contents-one : (x : Mention) (c : Capability) → contents (x ∷ []) c ≡ cond (same_capability x.0 c) (Some x.1) None
 unfolding contents
 contents-one x c = refl
 
-contents-front : (xs : List TableEntry) (i : ℕ) (x : TableEntry) (c : Capability) → i < length xs → get_or xs i x ≡ x → contents (take (i + 1) xs) c ≡ option_or (contents (take i xs) c) (contents (x ∷ []) c)
+contents-front : (xs : List Mention) (i : ℕ) (x : Mention) (c : Capability) → i < length xs → get_or xs i x ≡ x → contents (take (i + 1) xs) c ≡ option_or (contents (take i xs) c) (contents (x ∷ []) c)
 contents-front xs i x c within here =
     ap (λ t. contents t c) (take_more xs i x within ∙ ap (λ y. take i xs ++ y ∷ []) here) ∙ contents-append (take i xs) (x ∷ []) c
 
 -- an entry says something only of its own capability
-one-said : (x : TableEntry) (c : Capability) (v : Content) → contents (x ∷ []) c ≡ Some v → x.0 ≡ c
+one-said : (x : Mention) (c : Capability) (v : Content) → contents (x ∷ []) c ≡ Some v → x.0 ≡ c
 one-said x c v e = elim (cases_Bool (same_capability x.0 c)) [
   | inl same ↦ same_capability-true x.0 c same
   | inr other ↦ absurd (none-some v (sym (contents-one x c ∙ ap (λ b. cond b (Some x.1) None) other) ∙ e))
 ]
 
 -- entries of one capability say something of the same capabilities
-both-none : (x y : TableEntry) (c : Capability) → x.0 ≡ y.0 → contents (x ∷ []) c ≡ None → contents (y ∷ []) c ≡ None
+both-none : (x y : Mention) (c : Capability) → x.0 ≡ y.0 → contents (x ∷ []) c ≡ None → contents (y ∷ []) c ≡ None
 both-none x y c same none = elim (cases_Bool (same_capability x.0 c)) [
   | inl t ↦ absurd (none-some x.1 (sym none ∙ contents-one x c ∙ ap (λ b. cond b (Some x.1) None) t))
   | inr f ↦ contents-one y c ∙ ap (λ b. cond b (Some y.1) None) (ap (λ d. same_capability d c) (sym same) ∙ f)
@@ -62,46 +62,46 @@ both-none x y c same none = elim (cases_Bool (same_capability x.0 c)) [
 
 -- ---- one more entry after the others
 
-insert-end : (xs : List TableEntry) (x : TableEntry) → insert xs (length xs) x ≡ xs ++ x ∷ []
+insert-end : (xs : List Mention) (x : Mention) → insert xs (length xs) x ≡ xs ++ x ∷ []
 insert-end xs x = ap (λ t. t ++ x ∷ drop (length xs) xs) (take_all (length xs) xs (omega arith)) ∙ ap (λ t. xs ++ x ∷ t) (drop_all (length xs) xs (omega arith))
 
-abbrev pub AllBefore : List TableEntry → ℕ → Type 0
+abbrev pub AllBefore : List Mention → ℕ → Type 0
 AllBefore es rank = (k : ℕ) → k < length es → rank_at es k < rank
 
-gap_behind : (es : List TableEntry) (c : Capability) → AllBefore es (rank_of c) → IsGapFor es c (length es)
+gap_behind : (es : List Mention) (c : Capability) → AllBefore es (rank_of c) → IsGapFor es c (length es)
 gap_behind es c before = record { in_range = omega arith; before = λ j lt. before j lt; after = λ j le lt. absurd (omega arith) }
 
-pub sorted-push : (es : List TableEntry) (x : TableEntry) → IsSorted es → AllBefore es (rank_of x.0) → IsCapability x.0 → Agrees x.0 x.1 → IsSorted (es ++ x ∷ [])
+pub sorted-push : (es : List Mention) (x : Mention) → IsSorted es → AllBefore es (rank_of x.0) → IsCapability x.0 → Agrees x.0 x.1 → IsSorted (es ++ x ∷ [])
 sorted-push es x sorted before valid agrees = subst IsSorted (insert-end es x) (sorted-insert es x.0 x.1 (length es) sorted (gap_behind es x.0 before) valid agrees)
 
-pub absent_behind : (es : List TableEntry) (c : Capability) → IsSorted es → AllBefore es (rank_of c) → contents es c ≡ None
+pub absent_behind : (es : List Mention) (c : Capability) → IsSorted es → AllBefore es (rank_of c) → contents es c ≡ None
 absent_behind es c sorted before = contents_nowhere es c (nowhere es sorted c (length es) (gap_behind es c before))
 
-pub rank-push : (es : List TableEntry) (x : TableEntry) (k rank : ℕ) → k < length (es ++ x ∷ []) → AllBefore es rank → rank_of x.0 < rank → rank_at (es ++ x ∷ []) k < rank
+pub rank-push : (es : List Mention) (x : Mention) (k rank : ℕ) → k < length (es ++ x ∷ []) → AllBefore es rank → rank_of x.0 < rank → rank_at (es ++ x ∷ []) k < rank
 rank-push es x k rank within before last =
     let long = length-append es (x ∷ []) in
     let read = rank_read (es ++ x ∷ []) k x within in
     elim (cases_lt k (length es)) [
       | inl under ↦
-          let front : rank_of (get_or (es ++ x ∷ []) k x).0 ≡ rank_of (get_or es k x).0 = ap (λ (e : TableEntry). rank_of e.0) (get_or_append_left es (x ∷ []) x k under) in
+          let front : rank_of (get_or (es ++ x ∷ []) k x).0 ≡ rank_of (get_or es k x).0 = ap (λ (e : Mention). rank_of e.0) (get_or_append_left es (x ∷ []) x k under) in
           let old = rank_read es k x under in
           let b = before k under in
           omega arith
       | inr at ↦
           let same : k ≡ length es = omega arith in
-          let end : rank_of (get_or (es ++ x ∷ []) k x).0 ≡ rank_of x.0 = ap (λ (e : TableEntry). rank_of e.0) (ap (λ j. get_or (es ++ x ∷ []) j x) same ∙ get_or_at es x [] x (length es) refl) in
+          let end : rank_of (get_or (es ++ x ∷ []) k x).0 ≡ rank_of x.0 = ap (λ (e : Mention). rank_of e.0) (ap (λ j. get_or (es ++ x ∷ []) j x) same ∙ get_or_at es x [] x (length es) refl) in
           omega arith
     ]
 
 -- ---- the walk
 
-pub record Merges (fs ss os : List TableEntry) (i j : ℕ) : Type 0 where
+pub record Merges (fs ss os : List Mention) (i j : ℕ) : Type 0 where
   pub sorted : IsSorted os
   pub said : (c : Capability) → contents os c ≡ option_or (contents (take i fs) c) (contents (take j ss) c)
   pub before_first : i < length fs → AllBefore os (rank_at fs i)
   pub before_second : j < length ss → AllBefore os (rank_at ss j)
 
-pub merges_none : (fs ss : List TableEntry) → Merges fs ss [] 0 0
+pub merges_none : (fs ss : List Mention) → Merges fs ss [] 0 0
 merges_none fs ss = record {
   sorted = record { rises = λ i j lt within. absurd (omega arith); agree = λ k d lt. absurd (omega arith) };
   said = λ c. contents-none c ∙ sym (ap (λ o. option_or o (contents [] c)) (contents-none c) ∙ contents-none c);
@@ -109,7 +109,7 @@ merges_none fs ss = record {
   before_second = λ lt k within. absurd (omega arith);
 }
 
-pub merges_all : (fs ss os : List TableEntry) (i j : ℕ) → Merges fs ss os i j → IsPastBoth fs i ss j → (c : Capability) → contents os c ≡ option_or (contents fs c) (contents ss c)
+pub merges_all : (fs ss os : List Mention) (i j : ℕ) → Merges fs ss os i j → IsPastBoth fs i ss j → (c : Capability) → contents os c ≡ option_or (contents fs c) (contents ss c)
 merges_all fs ss os i j m past c =
     m.said c ∙ ap (λ t. option_or (contents t c) (contents (take j ss) c)) (take_all i fs past.0) ∙ ap (λ t. option_or (contents fs c) (contents t c)) (take_all j ss past.1)
 
@@ -126,20 +126,20 @@ of_both None None (Some v) y o e alone none = ap (λ t. option_or t (Some v)) (a
 of_both None (Some w) (Some v) y o e alone none = absurd (none-some w (sym (alone v refl) ∙ e))
 of_both (Some w) b (Some v) y o e alone none = absurd (none-some w (sym (alone v refl) ∙ e))
 
-module _ (fs ss os : List TableEntry) (i j : ℕ) (kept_f : IsSorted fs) (kept_s : IsSorted ss) (m : Merges fs ss os i j) (x : TableEntry) where
+module _ (fs ss os : List Mention) (i j : ℕ) (kept_f : IsSorted fs) (kept_s : IsSorted ss) (m : Merges fs ss os i j) (x : Mention) where
   -- nothing was said of a capability whose rank is still to come
   alone : AllBefore os (rank_of x.0) → (c : Capability) (v : Content) → contents (x ∷ []) c ≡ Some v → contents os c ≡ None
   alone before c v e = subst (λ d. contents os d ≡ None) (one-said x c v e) (absent_behind os x.0 m.sorted before)
 
-  rises : (es : List TableEntry) (k : ℕ) → IsSorted es → k + 1 < length es → rank_at es k < rank_at es (k + 1)
+  rises : (es : List Mention) (k : ℕ) → IsSorted es → k + 1 < length es → rank_at es k < rank_at es (k + 1)
   rises es k sorted within = sorted.rises k (k + 1) (omega arith) within
 
   module _ (within : i < length fs) (here : get_or fs i x ≡ x) where
     rank_here : rank_at fs i ≡ rank_of x.0
-    rank_here = rank_read fs i x within ∙ ap (λ (e : TableEntry). rank_of e.0) here
+    rank_here = rank_read fs i x within ∙ ap (λ (e : Mention). rank_of e.0) here
 
     good : IsCapability x.0 × Agrees x.0 x.1
-    good = subst (λ (e : TableEntry). IsCapability e.0 × Agrees e.0 e.1) here (kept_f.agree i x within)
+    good = subst (λ (e : Mention). IsCapability e.0 × Agrees e.0 e.1) here (kept_f.agree i x within)
 
     before : AllBefore os (rank_of x.0)
     before = subst (AllBefore os) rank_here (m.before_first within)
@@ -160,11 +160,11 @@ module _ (fs ss os : List TableEntry) (i j : ℕ) (kept_f : IsSorted fs) (kept_s
 
     pub takes_both : j < length ss → rank_at fs i ≡ rank_at ss j → Merges fs ss (os ++ x ∷ []) (i + 1) (j + 1)
     takes_both within_s same =
-        let y : TableEntry = get_or ss j x in
+        let y : Mention = get_or ss j x in
         let here_s : get_or ss j y ≡ y = get_or_default ss j y x within_s in
         let r = rank_here in
-        let rank_s : rank_at ss j ≡ rank_of y.0 = rank_read ss j y within_s ∙ ap (λ (e : TableEntry). rank_of e.0) here_s in
-        let valid_s : IsCapability y.0 = subst (λ (e : TableEntry). IsCapability e.0) here_s (kept_s.agree j y within_s).0 in
+        let rank_s : rank_at ss j ≡ rank_of y.0 = rank_read ss j y within_s ∙ ap (λ (e : Mention). rank_of e.0) here_s in
+        let valid_s : IsCapability y.0 = subst (λ (e : Mention). IsCapability e.0) here_s (kept_s.agree j y within_s).0 in
         let one : x.0 ≡ y.0 = one_from_rank x.0 y.0 good.0 valid_s (omega arith) in
         record {
           sorted = sorted-push os x m.sorted before good.0 good.1;
@@ -182,8 +182,8 @@ module _ (fs ss os : List TableEntry) (i j : ℕ) (kept_f : IsSorted fs) (kept_s
 
   pub takes_second : (within : j < length ss) → get_or ss j x ≡ x → (i < length fs → rank_at ss j < rank_at fs i) → Merges fs ss (os ++ x ∷ []) i (j + 1)
   takes_second within here turn =
-      let rank_s : rank_at ss j ≡ rank_of x.0 = rank_read ss j x within ∙ ap (λ (e : TableEntry). rank_of e.0) here in
-      let fits = subst (λ (e : TableEntry). IsCapability e.0 × Agrees e.0 e.1) here (kept_s.agree j x within) in
+      let rank_s : rank_at ss j ≡ rank_of x.0 = rank_read ss j x within ∙ ap (λ (e : Mention). rank_of e.0) here in
+      let fits = subst (λ (e : Mention). IsCapability e.0 × Agrees e.0 e.1) here (kept_s.agree j x within) in
       let before_x : AllBefore os (rank_of x.0) = subst (AllBefore os) rank_s (m.before_second within) in
       record {
         sorted = sorted-push os x m.sorted before_x fits.0 fits.1;
@@ -199,4 +199,4 @@ module _ (fs ss os : List TableEntry) (i j : ℕ) (kept_f : IsSorted fs) (kept_s
 
 pub rank_found : (xs : List (Capability × Value)) (k : ℕ) (x : Capability × Value) → k < length xs → x ≡ get_or xs k x → rank_at (entries_of xs) k ≡ rank_of x.0
 rank_found xs k x within e =
-    rank_read (entries_of xs) k (x.0, content_of x.1) (rw length-map within) ∙ ap (λ (y : TableEntry). rank_of y.0) (item_read xs k x within e)
+    rank_read (entries_of xs) k (x.0, content_of x.1) (rw length-map within) ∙ ap (λ (y : Mention). rank_of y.0) (item_read xs k x within e)

@@ -5,7 +5,7 @@ pub mod Refusing
 pub mod Parts
 pub mod OneReading
 pub mod SortedEntries
-pub mod Places
+pub mod Searched
 pub mod Below
 pub mod Spelled
 pub mod Texts

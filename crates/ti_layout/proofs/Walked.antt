@@ -12,11 +12,11 @@ use Rattle.ti_layout.specs.declared.layout.Format.{Format}
 use Rattle.ti_layout.specs.declared.layout.Format.TheVariants.{Legacy}
 use Rattle.ti_layout.specs.declared.values.Value.{Value}
 use Rattle.ti_layout.specs.inside.Values.{IsAt}
-use Rattle.ti_layout.specs.Values.{Content, content_true, content_number, content_text, content_cancelled, TableEntry, Agrees, IsSorted, contents, content_of, entries_of}
+use Rattle.ti_layout.specs.Values.{Content, content_true, content_number, content_text, content_cancelled, Mention, Agrees, IsSorted, contents, content_of, entries_of}
 use Rattle.ti_layout.specs.Layout.{absent_mark, number_bytes, number_section, width}
 use Rattle.ti_layout.specs.Image.{is_there, of_kind, written_count, flag_value, number_value, offset_value, text_piece, flags_below, numbers_below, offsets_below, texts_below, below}
 use Rattle.ti_layout.proofs.SortedEntries.{contents_here}
-use Rattle.ti_layout.proofs.Places.{elsewhere, rank_read}
+use Rattle.ti_layout.proofs.Searched.{elsewhere, rank_read}
 use Rattle.ti_layout.proofs.Below.{below-more, below-filled, last_passing-is, last_passing-over}
 use Rattle.ti_layout.proofs.Spelled.{spelled-append, spelled-one, spelled-absent}
 use Rattle.ti_layout.proofs.Texts.{texts-more, texts-skipped, length-texts-le}
@@ -72,13 +72,13 @@ there_of content_cancelled Number e = absurd cc
 there_of content_cancelled Text e = absurd cc
 
 -- what the entries say of a capability is in one of them
-pub record Stands (es : List TableEntry) (c : Capability) (v : Content) : Type 0 where
+pub record Stands (es : List Mention) (c : Capability) (v : Content) : Type 0 where
   pub at : ℕ
   pub within : at < length es
-  pub is_cap : (e : TableEntry) → (get_or es at e).0 ≡ c
-  pub is_content : (e : TableEntry) → (get_or es at e).1 ≡ v
+  pub is_cap : (e : Mention) → (get_or es at e).0 ≡ c
+  pub is_content : (e : Mention) → (get_or es at e).1 ≡ v
 
-pub stands : (es : List TableEntry) (c : Capability) (v : Content) → contents es c ≡ Some v → Stands es c v
+pub stands : (es : List Mention) (c : Capability) (v : Content) → contents es c ≡ Some v → Stands es c v
 unfolding contents
 stands [] c v e = absurd (none-some v e)
 stands (x ∷ es) c v e =
@@ -90,13 +90,13 @@ stands (x ∷ es) c v e =
     ] refl e
 
 -- the walk has passed k entries, and as many places of a kind as its last value there asks for
-pub record Walked (es : List TableEntry) (kind : Kind) (k places : ℕ) : Type 0 where
-  pub covered : (j : ℕ) (e : TableEntry) → j < k → j < length es → is_of kind (get_or es j e).1 ≡ true → (get_or es j e).0.index < places
-  pub ahead : (j : ℕ) (e : TableEntry) → k ≤ j → j < length es → is_of kind (get_or es j e).1 ≡ true → places ≤ (get_or es j e).0.index
+pub record Walked (es : List Mention) (kind : Kind) (k places : ℕ) : Type 0 where
+  pub covered : (j : ℕ) (e : Mention) → j < k → j < length es → is_of kind (get_or es j e).1 ≡ true → (get_or es j e).0.index < places
+  pub ahead : (j : ℕ) (e : Mention) → k ≤ j → j < length es → is_of kind (get_or es j e).1 ≡ true → places ≤ (get_or es j e).0.index
   pub last : (i : ℕ) → suc i ≡ places → is_there (of_kind (contents es) kind i) ≡ true
   pub within : places ≤ count_of kind
 
-pub walked-start : (es : List TableEntry) (kind : Kind) → Walked es kind 0 0
+pub walked-start : (es : List Mention) (kind : Kind) → Walked es kind 0 0
 walked-start es kind = record {
   covered = λ j e lt in_range is. omega (arith, lt);
   ahead = λ j e le in_range is. omega arith;
@@ -104,17 +104,17 @@ walked-start es kind = record {
   within = omega arith;
 }
 
-module _ (es : List TableEntry) (sorted : IsSorted es) where
-  pub contents_read : (j : ℕ) (e : TableEntry) → j < length es → contents es (get_or es j e).0 ≡ Some (get_or es j e).1
+module _ (es : List Mention) (sorted : IsSorted es) where
+  pub contents_read : (j : ℕ) (e : Mention) → j < length es → contents es (get_or es j e).0 ≡ Some (get_or es j e).1
   contents_read j e lt =
-      let at : IsAt es (get_or es j e).0 j = record { in_range = lt; is_here = λ d. ap (λ (x : TableEntry). x.0) (get_or_default es j d e lt) } in
+      let at : IsAt es (get_or es j e).0 j = record { in_range = lt; is_here = λ d. ap (λ (x : Mention). x.0) (get_or_default es j d e lt) } in
       contents_here es (get_or es j e).0 j e lt refl (elsewhere es sorted (get_or es j e).0 j at)
 
-  pub kind_at : (j : ℕ) (e : TableEntry) (kind : Kind) → j < length es → is_of kind (get_or es j e).1 ≡ true → (get_or es j e).0.kind ≡ kind
+  pub kind_at : (j : ℕ) (e : Mention) (kind : Kind) → j < length es → is_of kind (get_or es j e).1 ≡ true → (get_or es j e).0.kind ≡ kind
   kind_at j e kind lt is = kind_told (get_or es j e).0 (get_or es j e).1 kind (sorted.agree j e lt).1 is
 
   -- of two values of a kind, the later has the greater index
-  index_rises : (i j : ℕ) (d e : TableEntry) (kind : Kind) → i < j → j < length es → is_of kind (get_or es i d).1 ≡ true → is_of kind (get_or es j e).1 ≡ true
+  index_rises : (i j : ℕ) (d e : Mention) (kind : Kind) → i < j → j < length es → is_of kind (get_or es i d).1 ≡ true → is_of kind (get_or es j e).1 ≡ true
       → (get_or es i d).0.index < (get_or es j e).0.index
   index_rises i j d e kind lt in_range a b =
       let rank_i = rank_read es i d (omega arith) in
@@ -125,12 +125,12 @@ module _ (es : List TableEntry) (sorted : IsSorted es) where
       omega arith
 
   -- a place that the walk has passed without a value, or that is before the values to come
-  module _ (kind : Kind) (k places i : ℕ) (walked : Walked es kind k places) (low : places ≤ i) (before : (j : ℕ) (e : TableEntry) → k ≤ j → j < length es → is_of kind (get_or es j e).1 ≡ true → i < (get_or es j e).0.index) where
+  module _ (kind : Kind) (k places i : ℕ) (walked : Walked es kind k places) (low : places ≤ i) (before : (j : ℕ) (e : Mention) → k ≤ j → j < length es → is_of kind (get_or es j e).1 ≡ true → i < (get_or es j e).0.index) where
     never_there : (o : Option Content) → contents es (capability kind i) ≡ o → is_there o ≡ true → ⊥
     never_there None said there = cc
     never_there (Some v) said there =
         let s = stands es (capability kind i) v said in
-        let e : TableEntry = (capability kind i, v) in
+        let e : Mention = (capability kind i, v) in
         let cap : (get_or es s.at e).0 ≡ capability kind i = s.is_cap e in
         let agrees : Agrees (get_or es s.at e).0 v = subst (Agrees (get_or es s.at e).0) (s.is_content e) (sorted.agree s.at e s.within).1 in
         let is : is_of kind (get_or es s.at e).1 ≡ true = ap (is_of kind) (s.is_content e) ∙ of_there (get_or es s.at e).0 v kind agrees (ap (λ (c : Capability). c.kind) cap) there in
@@ -162,8 +162,8 @@ module _ (es : List TableEntry) (sorted : IsSorted es) where
       omega arith
 
   -- one more entry: a value of the kind, or not
-  module _ (kind : Kind) (k places : ℕ) (walked : Walked es kind k places) (in_range : k < length es) (e : TableEntry) (here : get_or es k e ≡ e) where
-    read_here : (d : TableEntry) → get_or es k d ≡ e
+  module _ (kind : Kind) (k places : ℕ) (walked : Walked es kind k places) (in_range : k < length es) (e : Mention) (here : get_or es k e ≡ e) where
+    read_here : (d : Mention) → get_or es k d ≡ e
     read_here d = get_or_default es k d e in_range ∙ here
 
     pub walked-past : is_of kind e.1 ≡ false → Walked es kind (k + 1) places
@@ -172,7 +172,7 @@ module _ (es : List TableEntry) (sorted : IsSorted es) where
         | inl under ↦ walked.covered j d under within is
         | inr at ↦
             let same : j ≡ k = omega arith in
-            let is_here : is_of kind e.1 ≡ true = sym (ap (λ (x : TableEntry). is_of kind x.1) (ap (λ (i : ℕ). get_or es i d) same ∙ read_here d)) ∙ is in
+            let is_here : is_of kind e.1 ≡ true = sym (ap (λ (x : Mention). is_of kind x.1) (ap (λ (i : ℕ). get_or es i d) same ∙ read_here d)) ∙ is in
             absurd (let never : true ≡ false = sym is_here ∙ other in cc)
       ];
       ahead = λ j d le within is. walked.ahead j d (omega arith) within is;
@@ -182,26 +182,26 @@ module _ (es : List TableEntry) (sorted : IsSorted es) where
 
     module _ (is : is_of kind e.1 ≡ true) where
       is_at : is_of kind (get_or es k e).1 ≡ true
-      is_at = ap (λ (x : TableEntry). is_of kind x.1) here ∙ is
+      is_at = ap (λ (x : Mention). is_of kind x.1) here ∙ is
 
       kind_here : e.0.kind ≡ kind
-      kind_here = sym (ap (λ (x : TableEntry). x.0.kind) here) ∙ kind_at k e kind in_range is_at
+      kind_here = sym (ap (λ (x : Mention). x.0.kind) here) ∙ kind_at k e kind in_range is_at
 
       index_here : (get_or es k e).0.index ≡ e.0.index
-      index_here = ap (λ (x : TableEntry). x.0.index) here
+      index_here = ap (λ (x : Mention). x.0.index) here
 
       pub places_behind : places ≤ e.0.index
       places_behind = let a = walked.ahead k e (omega arith) in_range is_at in let i = index_here in omega arith
 
       pub index_fits : e.0.index < count_of kind
       index_fits =
-          let valid : IsCapability e.0 = subst (λ (x : TableEntry). IsCapability x.0) here (sorted.agree k e in_range).0 in
+          let valid : IsCapability e.0 = subst (λ (x : Mention). IsCapability x.0) here (sorted.agree k e in_range).0 in
           subst (λ (x : Kind). e.0.index < count_of x) kind_here valid
 
       pub said_here : of_kind (contents es) kind e.0.index ≡ Some e.1
       said_here =
-          ap (λ (x : Kind). contents es (capability x e.0.index)) (sym kind_here) ∙ ap (contents es) (ap (λ (x : TableEntry). x.0) (sym here)) ∙ contents_read k e in_range
-          ∙ ap (λ (x : TableEntry). Some x.1) here
+          ap (λ (x : Kind). contents es (capability x e.0.index)) (sym kind_here) ∙ ap (contents es) (ap (λ (x : Mention). x.0) (sym here)) ∙ contents_read k e in_range
+          ∙ ap (λ (x : Mention). Some x.1) here
 
       pub walked-there : Walked es kind (k + 1) (e.0.index + 1)
       walked-there =
@@ -213,7 +213,7 @@ module _ (es : List TableEntry) (sorted : IsSorted es) where
               | inl under ↦ let c = walked.covered j d under within is_j in omega arith
               | inr at ↦
                   let same : j ≡ k = omega arith in
-                  let place : (get_or es j d).0.index ≡ e.0.index = ap (λ (x : TableEntry). x.0.index) (ap (λ (n : ℕ). get_or es n d) same ∙ read_here d) in
+                  let place : (get_or es j d).0.index ≡ e.0.index = ap (λ (x : Mention). x.0.index) (ap (λ (n : ℕ). get_or es n d) same ∙ read_here d) in
                   omega arith
             ];
             ahead = λ j d le within is_j. let r = index_rises k j e d kind (omega arith) within is_at is_j in omega arith;
@@ -228,7 +228,7 @@ module _ (es : List TableEntry) (sorted : IsSorted es) where
             | inl over ↦ let r = index_rises k j e d kind over within is_at is_j in omega arith
             | inr at_k ↦
                 let same : j ≡ k = omega arith in
-                let place : (get_or es j d).0.index ≡ e.0.index = ap (λ (x : TableEntry). x.0.index) (ap (λ (n : ℕ). get_or es n d) same ∙ read_here d) in
+                let place : (get_or es j d).0.index ≡ e.0.index = ap (λ (x : Mention). x.0.index) (ap (λ (n : ℕ). get_or es n d) same ∙ read_here d) in
                 omega arith
           ])
 
@@ -268,7 +268,7 @@ next_spelled w f places index n e =
     ∙ ap (λ xs. xs ++ number_section w (n ∷ [])) (spelled-append w (below f places) (replicate (index - places) (absent_mark w)) ∙ ap (λ xs. number_section w (below f places) ++ xs) (spelled-absent w (index - places)))
     ∙ ap (λ xs. (number_section w (below f places) ++ replicate (width w * (index - places)) 255) ++ xs) (spelled-one w n)
 
-module _ (es : List TableEntry) (sorted : IsSorted es) (k places : ℕ) (in_range : k < length es) (e : TableEntry) (here : get_or es k e ≡ e) where
+module _ (es : List Mention) (sorted : IsSorted es) (k places : ℕ) (in_range : k < length es) (e : Mention) (here : get_or es k e ≡ e) where
   pub next_flag : Walked es Flag k places → e.1 ≡ content_true → flags_below (contents es) (e.0.index + 1) ≡ (flags_below (contents es) places ++ replicate (e.0.index - places) 0) ++ 1 ∷ []
   next_flag walked v =
       let is : is_of Flag e.1 ≡ true = ap (is_of Flag) v in
@@ -326,7 +326,7 @@ module _ (es : List TableEntry) (sorted : IsSorted es) (k places : ℕ) (in_rang
 
 pub item_read : (xs : List (Capability × Value)) (k : ℕ) (x : Capability × Value) → k < length xs → x ≡ get_or xs k x → get_or (entries_of xs) k (x.0, content_of x.1) ≡ (x.0, content_of x.1)
 item_read xs k x lt e =
-    let f : Capability × Value → TableEntry = λ y. (y.0, content_of y.1) in
+    let f : Capability × Value → Mention = λ y. (y.0, content_of y.1) in
     get_or-map f xs k x (f x) lt ∙ ap f (sym e)
 
 -- two more parts after what was there

@@ -12,7 +12,7 @@ use Rattle.ti_layout.specs.declared.layout.Format.TheVariants.{Legacy}
 use Rattle.ti_layout.specs.declared.values.Value.{Value}
 use Rattle.ti_layout.specs.declared.values.Value.TheVariants.{True, Cancelled}
 use Rattle.ti_layout.specs.declared.values.Value.TheVariants as v
-use Rattle.ti_layout.specs.Values.{content_text, TableEntry, IsSorted, contents, content_of, entries_of}
+use Rattle.ti_layout.specs.Values.{content_text, Mention, IsSorted, contents, content_of, entries_of}
 use Rattle.ti_layout.specs.Layout.{number_bytes, number_section, width}
 use Rattle.ti_layout.specs.Image.{written_count, flags_below, numbers_below, offsets_below, texts_below}
 use Rattle.ti_layout.proofs.Below.{below-none}
@@ -22,20 +22,20 @@ use Rattle.ti_layout.proofs.Walked.{Walked, is_of, walked-start, walked-there, w
 
 -- ---- what is written so far
 
-pub record HasFlags (es : List TableEntry) (start image : List ℕ) (k places : ℕ) : Type 0 where
+pub record HasFlags (es : List Mention) (start image : List ℕ) (k places : ℕ) : Type 0 where
   pub walked : Walked es Flag k places
   pub so_far : image ≡ start ++ flags_below (contents es) places
 
-pub record HasNumbers (w : Format) (es : List TableEntry) (start image : List ℕ) (k places : ℕ) : Type 0 where
+pub record HasNumbers (w : Format) (es : List Mention) (start image : List ℕ) (k places : ℕ) : Type 0 where
   pub walked : Walked es Number k places
   pub so_far : image ≡ start ++ number_section w (numbers_below w (contents es) places)
 
-pub record HasOffsets (es : List TableEntry) (start image : List ℕ) (k places offset : ℕ) : Type 0 where
+pub record HasOffsets (es : List Mention) (start image : List ℕ) (k places offset : ℕ) : Type 0 where
   pub walked : Walked es Text k places
   pub length_before : offset ≡ length (texts_below (contents es) places)
   pub so_far : image ≡ start ++ number_section Legacy (offsets_below (contents es) places)
 
-pub record HasTexts (es : List TableEntry) (start image : List ℕ) (k : ℕ) : Type 0 where
+pub record HasTexts (es : List Mention) (start image : List ℕ) (k : ℕ) : Type 0 where
   pub places : ℕ
   pub walked : Walked es Text k places
   pub so_far : image ≡ start ++ texts_below (contents es) places
@@ -45,25 +45,25 @@ pub record HasTexts (es : List TableEntry) (start image : List ℕ) (k : ℕ) : 
 begun : (start none : List ℕ) → none ≡ [] → start ≡ start ++ none
 begun start none e = sym (ap (λ t. start ++ t) e ∙ append-nil start)
 
-pub flags_begun : (es : List TableEntry) (start : List ℕ) → HasFlags es start start 0 0
+pub flags_begun : (es : List Mention) (start : List ℕ) → HasFlags es start start 0 0
 flags_begun es start = record { walked = walked-start es Flag; so_far = begun start _ (below-none _) }
 
-pub numbers_begun : (w : Format) (es : List TableEntry) (start : List ℕ) → HasNumbers w es start start 0 0
+pub numbers_begun : (w : Format) (es : List Mention) (start : List ℕ) → HasNumbers w es start start 0 0
 numbers_begun w es start = record { walked = walked-start es Number; so_far = begun start _ (ap (number_section w) (below-none _) ∙ spelled-none w) }
 
-pub offsets_begun : (es : List TableEntry) (start : List ℕ) → HasOffsets es start start 0 0 0
+pub offsets_begun : (es : List Mention) (start : List ℕ) → HasOffsets es start start 0 0 0
 offsets_begun es start = record {
   walked = walked-start es Text;
   length_before = sym (ap (λ (t : List ℕ). length t) (texts-none (contents es)));
   so_far = begun start _ (ap (number_section Legacy) (below-none _) ∙ spelled-none Legacy);
 }
 
-pub texts_begun : (es : List TableEntry) (start : List ℕ) → HasTexts es start start 0
+pub texts_begun : (es : List Mention) (start : List ℕ) → HasTexts es start start 0
 texts_begun es start = record { places = 0; walked = walked-start es Text; so_far = begun start _ (texts-none (contents es)) }
 
 -- ---- at the end, all that is written
 
-module _ (es : List TableEntry) (sorted : IsSorted es) (start image : List ℕ) (k : ℕ) (all : length es ≤ k) where
+module _ (es : List Mention) (sorted : IsSorted es) (start image : List ℕ) (k : ℕ) (all : length es ≤ k) where
   pub flags_done : (places : ℕ) → HasFlags es start image k places → image ≡ start ++ flags_below (contents es) (written_count (contents es) Flag)
   flags_done places has = has.so_far ∙ ap (λ n. start ++ flags_below (contents es) n) (sym (walked-end es sorted Flag k places all has.walked))
 
@@ -110,7 +110,7 @@ text_grown start done t v0 v1 v2 a b c =
 -- ---- one more entry
 
 module _ (xs : List (Capability × Value)) (sorted : IsSorted (entries_of xs)) (k places : ℕ) (x : Capability × Value) (within : k < length xs) (item : x ≡ get_or xs k x) where
-  here : TableEntry
+  here : Mention
   here = (x.0, content_of x.1)
 
   read : get_or (entries_of xs) k (x.0, content_of x.1) ≡ (x.0, content_of x.1)

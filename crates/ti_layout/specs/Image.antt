@@ -31,11 +31,11 @@ below value zero = []
 below value (suc n) = below value n ++ value n ∷ []
 
 -- what a kind has, by index
-abbrev pub Places : Type 0
-Places = ℕ → Option Content
+abbrev pub ByIndex : Type 0
+ByIndex = ℕ → Option Content
 
 -- what the capabilities of a kind have, by their index
-abbrev pub of_kind : Contents → Kind → Places
+abbrev pub of_kind : Contents → Kind → ByIndex
 of_kind contents kind index = contents (capability kind index)
 
 -- ---- what is there, and how it is written

@@ -49,30 +49,30 @@ abbrev pub AgreesIfSome : Capability → Option Content → Type 0
 AgreesIfSome c None = Unit {0}
 AgreesIfSome c (Some content) = Agrees c content
 
--- ---- own: a table as a list of capabilities with what they have
+-- ---- own: what is said of capabilities, one after another
 
--- a capability, and what it has
-abbrev pub TableEntry : Type 0
-TableEntry = Capability × Content
+-- a capability, and the value or the cancel that it is given
+abbrev pub Mention : Type 0
+Mention = Capability × Content
 
--- the entries of a slice of capabilities and values
-abbrev pub entries_of : List (Capability × Value) → List TableEntry
+-- the mentions that a slice of capabilities and values makes
+abbrev pub entries_of : List (Capability × Value) → List Mention
 entries_of held = map (λ e. (e.0, content_of e.1)) held
 
--- what the entries say of a capability
-unfoldable pub contents : List TableEntry → Contents
+-- what the mentions say of a capability: what the first of it gives it, a cancel too, if there is one
+unfoldable pub contents : List Mention → Contents
 contents [] c = None
 contents (e ∷ es) c = if same_capability e.0 c then Some e.1 else contents es c
 
--- the place of a capability among all, in the order of the compiled entry
+-- which of all capabilities it is, in the order of the compiled entry
 abbrev pub rank_of : Capability → ℕ
 rank_of c = rank_in c.kind + c.index
 
--- the place of the entry at i
-abbrev pub rank_at : List TableEntry → ℕ → ℕ
+-- the rank of the capability at i
+abbrev pub rank_at : List Mention → ℕ → ℕ
 rank_at es i = slice_index (map (λ e. rank_of e.0) es) i
 
 -- each capability comes after those before it, and may have what it has
-pub record IsSorted (es : List TableEntry) : Type 0 where
+pub record IsSorted (es : List Mention) : Type 0 where
   pub rises : (i j : ℕ) → i < j → j < length es → rank_at es i < rank_at es j
   pub agree : All (λ e. IsCapability e.0 × Agrees e.0 e.1) es

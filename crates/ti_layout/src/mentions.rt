@@ -112,9 +112,9 @@ pub struct Mentions {
 impl Model for Mentions {
     ghost use Rattle.std.specs.Prelude.{◌≤◌, ◌++◌, length, All, List};
     ghost use Rattle.ti_layout.specs.inside.Mentions.{recent_max};
-    ghost use Rattle.ti_layout.specs.Values.{Agrees, TableEntry, entries_of};
+    ghost use Rattle.ti_layout.specs.Values.{Agrees, Mention, entries_of};
 
-    ghost Value = { List TableEntry };
+    ghost Value = { List Mention };
 
     ghost view = { λ m. m.table ++ entries_of m.recent.items };
 

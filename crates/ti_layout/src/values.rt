@@ -45,9 +45,9 @@ pub struct Table {
 
 impl Model for Table {
     ghost use Rattle.std.specs.Prelude.{List};
-    ghost use Rattle.ti_layout.specs.Values.{TableEntry, IsSorted, entries_of};
+    ghost use Rattle.ti_layout.specs.Values.{Mention, IsSorted, entries_of};
 
-    ghost Value = { List TableEntry };
+    ghost Value = { List Mention };
 
     ghost view = { λ t. entries_of t.entries.items };
 
@@ -142,13 +142,13 @@ impl Table {
     /// The capabilities that have a value, with it, in the order of the compiled entry.
     pub fn entries(&self) -> &[(Cap, Value)]
         ensures entries { entries_of result.now ≡ self.now }
-        ensures kept { IsSorted (entries_of result.now) }
+        ensures sorted { IsSorted (entries_of result.now) }
     {
         &self.entries
     }
 }
 
-/// The place of a capability among all, in the order of the compiled entry.
+/// Which of all capabilities it is, in the order of the compiled entry.
 pub(crate) fn rank(cap: Cap) -> usize
     ensures value { result ≡ rank_of cap }
     ensures valid { IsCapability cap }
@@ -160,8 +160,8 @@ pub(crate) fn rank(cap: Cap) -> usize
     }
 }
 
-// Where a capability is, or where it would be.
-fn place(entries: &[(Cap, Value)], cap: Cap) -> Result<usize, usize>
+// At which index the entry of a capability is, or would be.
+fn search(entries: &[(Cap, Value)], cap: Cap) -> Result<usize, usize>
     requires { IsSorted (entries_of entries.now) }
     ensures valid { IsCapability cap }
     ensures found { IfOk result (IsAt (entries_of entries.now) cap) }
@@ -177,22 +177,22 @@ fn find(entries: &[(Cap, Value)], cap: Cap) -> Option<&Value>
     ensures found { option_map (λ v. content_of v.now) result ≡ contents (entries_of entries.now) cap }
     ensures agrees { IfSome result (λ v. Agrees cap (content_of v.now)) }
 {
-    match place(entries, cap) {
+    match search(entries, cap) {
         Ok(at) => Some(&entries[at].1),
         Err(_) => None,
     }
 }
 
-// Gives a capability a value, in its place.
+// Gives a capability a value, where its entry is or would be.
 fn put(entries: &mut Vec<(Cap, Value)>, cap: Cap, value: Value) -> Result<(), AllocError>
-    requires kept { IsSorted (entries_of entries.old.items) }
+    requires sorted { IsSorted (entries_of entries.old.items) }
     requires agrees { Agrees cap (content_of value) }
-    ensures kept { IsSorted (entries_of entries.new.items) }
+    ensures sorted { IsSorted (entries_of entries.new.items) }
     ensures ok { OnOk result (SetsOnly (entries_of entries.old.items) (entries_of entries.new.items) cap (Some (content_of value))) }
     ensures err { OnErr result (entries.new.items ≡ entries.old.items) }
     ensures in_place { IsSome (contents (entries_of entries.old.items) cap) → IsOk result }
 {
-    match place(entries, cap) {
+    match search(entries, cap) {
         Ok(at) => {
             entries[at] = (cap, value);
             Ok(())
@@ -204,17 +204,17 @@ fn put(entries: &mut Vec<(Cap, Value)>, cap: Cap, value: Value) -> Result<(), Al
     }
 }
 
-// Gives a capability a value in its place, unless it has one.
+// Gives a capability a value, unless it has one.
 fn put_if_absent(entries: &mut Vec<(Cap, Value)>, cap: Cap, value: Value) -> Result<(), AllocError>
-    requires kept { IsSorted (entries_of entries.old.items) }
+    requires sorted { IsSorted (entries_of entries.old.items) }
     requires agrees { Agrees cap (content_of value) }
-    ensures kept { IsSorted (entries_of entries.new.items) }
+    ensures sorted { IsSorted (entries_of entries.new.items) }
     ensures ok { OnOk result ((c : Capability) → contents (entries_of entries.new.items) c
         ≡ option_or (contents (entries_of entries.old.items) c) (if same_capability cap c then Some (content_of value) else None)) }
     ensures err { OnErr result (entries.new.items ≡ entries.old.items) }
     ensures in_place { IsSome (contents (entries_of entries.old.items) cap) → IsOk result }
 {
-    match place(entries, cap) {
+    match search(entries, cap) {
         Ok(_) => Ok(()),
         Err(at) => {
             entries.insert(at, (cap, value))?;
@@ -226,10 +226,10 @@ fn put_if_absent(entries: &mut Vec<(Cap, Value)>, cap: Cap, value: Value) -> Res
 // Takes the value of a capability away.
 fn take_out(entries: &mut Vec<(Cap, Value)>, cap: Cap)
     requires { IsSorted (entries_of entries.old.items) }
-    ensures kept { IsSorted (entries_of entries.new.items) }
+    ensures sorted { IsSorted (entries_of entries.new.items) }
     ensures gone { SetsOnly (entries_of entries.old.items) (entries_of entries.new.items) cap None }
 {
-    if let Ok(at) = place(entries, cap) {
+    if let Ok(at) = search(entries, cap) {
         let _ = entries.remove(at);
     }
 }

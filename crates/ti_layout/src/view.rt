@@ -83,7 +83,7 @@ impl<'a> View<'a> {
         ensures { result.now ≡ before_first (λ b. b == ascii.bar) (names_of self.now) }
     {
         match memchr(b'|', self.names) {
-            Some(place) => &self.names[..place],
+            Some(end) => &self.names[..end],
             None => self.names,
         }
     }

@@ -4,7 +4,8 @@ use Rattle.std.proofs.lemmas.Bool.{cases_Bool}
 use Rattle.std.proofs.lemmas.Option.{none-some}
 use Rattle.ti_source.specs.Reading.{Reading, ReadItem}
 use Rattle.ti_meaning.specs.Owner.{owner_block}
-use Rattle.ti_meaning.specs.Expansion.{Mention, is_broken, mentions_of, expand_items, expand, expansion}
+use Rattle.ti_layout.specs.Values.{Mention}
+use Rattle.ti_meaning.specs.Expansion.{is_broken, mentions_of, expand_items, expand, expansion}
 use Rattle.ti_meaning.specs.Reaching.{Uses, IsUseWay, leads_to}
 use Rattle.ti_meaning.specs.ValueTables.{names_at}
 use Rattle.ti_meaning.proofs.Owning.{owner_to_owned}

@@ -6,7 +6,8 @@ use Rattle.std.proofs.lemmas.Bool.{or_parts}
 use Rattle.std.proofs.lemmas.Option.{same_Some, none-some}
 use Rattle.ti_source.specs.Reading.{Reading, ReadItem}
 use Rattle.ti_meaning.specs.Owner.{is_among, owner, owner_block}
-use Rattle.ti_meaning.specs.Expansion.{Mention, expand, expansion}
+use Rattle.ti_layout.specs.Values.{Mention}
+use Rattle.ti_meaning.specs.Expansion.{expand, expansion}
 use Rattle.ti_meaning.specs.Reaching.{Uses, IsUseWay, LeadsTo}
 use Rattle.ti_meaning.specs.Exchange.{PlacedBlock, Exchange, IsExchange, with_block, HasPlace, shifted_position}
 use Rattle.ti_meaning.specs.Dependents.{lookup_names_of, touched_names}

@@ -3,11 +3,11 @@ use Rattle.std.proofs.Common.{◌≡◌, ℕ, ◌<◌, ◌≤◌, Bool, true, fa
 use Rattle.std.proofs.lemmas.Bool.{lt-ltb, le-ltb}
 use Rattle.std.proofs.lemmas.Option.{same_Some, none-some}
 use Rattle.ti_source.specs.Reading.{Reading}
-use Rattle.ti_layout.specs.Values.{Content, content_true, content_number, content_text, content_cancelled, Contents}
+use Rattle.ti_layout.specs.Values.{Content, content_true, content_number, content_text, content_cancelled, Contents, Mention, contents}
 use Rattle.ti_layout.specs.Image.{image, image_limit}
 use Rattle.ti_layout.specs.Laws.{without_cancel, ShowSame}
 use Rattle.ti_layout.proofs.OfValues.{images_are_of_values, limits_are_of_values}
-use Rattle.ti_meaning.specs.Expansion.{Mention, leftmost_content, values, is_broken, expansion}
+use Rattle.ti_meaning.specs.Expansion.{values, is_broken, expansion}
 use Rattle.ti_meaning.specs.Compiled.{image_of, is_too_large, entry_of, EntryState, oversized, written, state_of}
 use Rattle.ti_meaning.specs.ValueTables.{IsTableOfMentions}
 
@@ -19,7 +19,7 @@ uncancelled-twice (Some (content_text t)) = refl
 uncancelled-twice (Some content_cancelled) = refl
 
 show_same : (t : Contents) (ms : List Mention) → IsTableOfMentions t ms → ShowSame t (values ms)
-show_same t ms h c valid = ap without_cancel (h c valid) ∙ sym (uncancelled-twice (leftmost_content ms c))
+show_same t ms h c valid = ap without_cancel (h c valid) ∙ sym (uncancelled-twice (contents ms c))
 
 -- a table that says what the mentions say has their image, and its limit
 pub image_says : (names : List ℕ) (t : Contents) (ms : List Mention) → IsTableOfMentions t ms → image names t ≡ image names (values ms)

@@ -3,7 +3,8 @@
 use Rattle.std.proofs.Common.{◌≡◌, ℕ, zero, suc, inl, inr, Bool, true, false, cond, List, [], ◌∷◌, Option, Some, None, option_and_then, refl, sym, ◌∙◌, ap}
 use Rattle.std.proofs.lemmas.Bool.{cases_Bool}
 use Rattle.ti_source.specs.Reading.{Reading, ReadItem, Said, said_flag, said_number, said_text, said_cancel, said_import}
-use Rattle.ti_meaning.specs.Expansion.{Mention, is_broken, mentions_of, expand_items, expand}
+use Rattle.ti_layout.specs.Values.{Mention}
+use Rattle.ti_meaning.specs.Expansion.{is_broken, mentions_of, expand_items, expand}
 use Rattle.ti_meaning.specs.Reaching.{used_name, Uses, IsUseWay}
 use Rattle.ti_meaning.specs.ValueTables.{names_at}
 

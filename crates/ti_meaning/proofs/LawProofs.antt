@@ -4,7 +4,8 @@ use Rattle.std.proofs.lemmas.Bool.{cases_Bool, false≢true}
 use Rattle.std.proofs.lemmas.Option.{same_Some, none-some}
 use Rattle.ti_source.specs.Reading.{Reading}
 use Rattle.ti_meaning.specs.Owner.{is_among, owner, owner_block}
-use Rattle.ti_meaning.specs.Expansion.{Mention, expand, expansion}
+use Rattle.ti_layout.specs.Values.{Mention}
+use Rattle.ti_meaning.specs.Expansion.{expand, expansion}
 use Rattle.ti_meaning.specs.Reaching.{LeadsTo, leads_to}
 use Rattle.ti_meaning.specs.Laws.{IsFirstWith, OwnersAreFirst, ExpansionsStay, ExpansionsAreFound, WaysAreFound, IsUseFault, nobody_owns, leads_back, owner_unresolved, owner_resolved, UseFaultsAreFound, UsesAreFound, OwnersAreTold, Resolves}
 use Rattle.ti_meaning.proofs.Owning.{nobody, somebody, owning}

@@ -5,10 +5,10 @@ use Rattle.std.specs.Option.{option_or}
 use Rattle.std.proofs.lemmas.Option.{same_Some, none-some}
 use Rattle.ti_caps.specs.Tables.{Capability, IsCapability, same_capability}
 use Rattle.ti_source.specs.Reading.{Reading, ReadItem, Said, said_flag, said_number, said_text, said_cancel, said_import}
-use Rattle.ti_layout.specs.Values.{Contents, Content, contents}
+use Rattle.ti_layout.specs.Values.{Contents, Content, contents, Mention}
 use Rattle.ti_meaning.specs.Owner.{owner_block}
 use Rattle.ti_text.specs.Lists.{both_lists}
-use Rattle.ti_meaning.specs.Expansion.{Mention, leftmost_content, is_broken, mentions_of, expand_items}
+use Rattle.ti_meaning.specs.Expansion.{is_broken, mentions_of, expand_items}
 use Rattle.ti_meaning.specs.Reaching.{used_name, Uses}
 use Rattle.ti_meaning.specs.ValueTables.{names_at, IsTableOf, IsTableOfItems, AddsSaid}
 use Rattle.ti_meaning.proofs.Depth.{expand_items-more, names_at-le, mentions_of-more}
@@ -28,15 +28,15 @@ if_or true x o p v = refl
 if_or false x o p v = refl
 
 -- mentions one after another say what the first say, and else what the others say
-pub said-append : (ms ns : List Mention) (c : Capability) → leftmost_content (ms ++ ns) c ≡ option_or (leftmost_content ms c) (leftmost_content ns c)
+pub said-append : (ms ns : List Mention) (c : Capability) → contents (ms ++ ns) c ≡ option_or (contents ms c) (contents ns c)
 unfolding contents
 said-append [] ns c = refl
 said-append (m ∷ ms) ns c =
-    rw (said-append ms ns c) (sym (if_or (same_capability m.capability c) None (leftmost_content ms c) (leftmost_content ns c) m.says))
+    rw (said-append ms ns c) (sym (if_or (same_capability m.0 c) None (contents ms c) (contents ns c) m.1))
 
 -- one mention was added
 pub added_one : (bs : List Reading) (item : Said) (m : Mention) (old new : Contents) → mentions_of (names_at (owner_block bs) 0) item ≡ Some (m ∷ [])
-    → ((c : Capability) → IsCapability c → new c ≡ option_or (old c) (cond (same_capability m.capability c) (Some m.says) None)) → AddsSaid bs item old new
+    → ((c : Capability) → IsCapability c → new c ≡ option_or (old c) (cond (same_capability m.0 c) (Some m.1) None)) → AddsSaid bs item old new
 unfolding contents
 added_one bs item m old new e added = record { depth = 0; mentions = m ∷ []; expands = e; adds = added }
 
@@ -75,8 +75,8 @@ table_of_one_more bs is i f g t h =
       expands = expand_items-append (names_at env deep) is (i ∷ []) ∙ (rw (front, back) refl);
       is_table = λ c valid.
           h.adds c valid
-          ∙ (ap (λ o. option_or o (leftmost_content h.mentions c)) (t.is_table c valid)
-          ∙ (ap (λ o. option_or (leftmost_content t.mentions c) o) (sym (said-append h.mentions [] c ∙ option_or-none (leftmost_content h.mentions c)))
+          ∙ (ap (λ o. option_or o (contents h.mentions c)) (t.is_table c valid)
+          ∙ (ap (λ o. option_or (contents t.mentions c) o) (sym (said-append h.mentions [] c ∙ option_or-none (contents h.mentions c)))
           ∙ sym (said-append t.mentions (h.mentions ++ []) c)));
     }
 
@@ -91,7 +91,7 @@ uses_at [] i item name s u = absurd (none-some item s)
 uses_at (x ∷ xs) zero item name s u = inl (rw (same_Some x item s) u)
 uses_at (x ∷ xs) (suc i) item name s u = inr (uses_at xs i item name s u)
 
-pub mentions_of-used : (f : List ℕ → Option (List Mention)) (leftmost_content : Said) (name : List ℕ) → used_name leftmost_content ≡ Some name → mentions_of f leftmost_content ≡ f name
+pub mentions_of-used : (f : List ℕ → Option (List Mention)) (said : Said) (name : List ℕ) → used_name said ≡ Some name → mentions_of f said ≡ f name
 mentions_of-used f (said_flag c) name e = absurd (none-some name e)
 mentions_of-used f (said_number c n) name e = absurd (none-some name e)
 mentions_of-used f (said_text c t) name e = absurd (none-some name e)

@@ -6,7 +6,8 @@ use Rattle.ti_source.specs.declared.code.Code.{Code}
 use Rattle.ti_source.specs.declared.code.Code.TheVariants.{MissingUse, Circular, Unresolved}
 use Rattle.ti_source.specs.Reading.{Reading}
 use Rattle.ti_meaning.specs.Owner.{owner, owner_block}
-use Rattle.ti_meaning.specs.Expansion.{Mention, expansion, resolves}
+use Rattle.ti_layout.specs.Values.{Mention}
+use Rattle.ti_meaning.specs.Expansion.{expansion, resolves}
 use Rattle.ti_meaning.specs.Reaching.{leads_to}
 use Rattle.ti_meaning.specs.Compiled.{EntryState, unresolved, oversized, written, image_of, is_too_large, state_with}
 use Rattle.ti_meaning.specs.Faults.{fault_between, use_fault}

@@ -6,7 +6,8 @@ use Rattle.ti_source.specs.declared.code.Code.TheVariants.{Unresolved}
 use Rattle.ti_source.specs.Reading.{Reading, ReadItem, Said, said_flag, said_number, said_text, said_cancel, said_import}
 use Rattle.ti_meaning.specs.Owner.{owner, owner_block}
 use Rattle.ti_text.specs.Lists.{both_lists}
-use Rattle.ti_meaning.specs.Expansion.{Mention, is_broken, mentions_of, expand_items, expand, expansion, resolves}
+use Rattle.ti_layout.specs.Values.{Mention}
+use Rattle.ti_meaning.specs.Expansion.{is_broken, mentions_of, expand_items, expand, expansion, resolves}
 use Rattle.ti_meaning.specs.Reaching.{used_name, Uses, IsUseWay, LeadsTo, leads_to}
 use Rattle.ti_meaning.specs.Faults.{fault_between, use_fault}
 use Rattle.ti_meaning.specs.ValueTables.{names_at}

@@ -5,7 +5,8 @@ use Rattle.std.specs.Prelude.{ℕ, List, length, Option, Some, None, option_and_
 use Rattle.ti_source.specs.Reading.{Reading}
 use Rattle.ti_layout.specs.Image.{image, image_limit}
 use Rattle.ti_meaning.specs.Owner.{readings}
-use Rattle.ti_meaning.specs.Expansion.{Mention, values, expansion}
+use Rattle.ti_layout.specs.Values.{Mention}
+use Rattle.ti_meaning.specs.Expansion.{values, expansion}
 
 -- the image of a block that says this
 abbrev pub image_of : Reading → List Mention → List ℕ

@@ -1,30 +1,20 @@
 -- What a block says once its uses are expanded (terminfo(5), "Similar Terminals"): a use is
 -- replaced by all that the owner of the name says, in order, expanded in the same way, and the
 -- leftmost mention of a capability decides.
-use Rattle.std.specs.Prelude.{ℕ, zero, suc, List, [], ◌∷◌, map, length, Option, Some, None, is_some, option_and_then, Bool, if◌then◌else◌}
+use Rattle.std.specs.Prelude.{ℕ, zero, suc, List, [], ◌∷◌, length, Option, Some, None, is_some, option_and_then, Bool, if◌then◌else◌}
 use Rattle.std.specs.List.{list_any}
 use Rattle.ti_text.specs.Lists.{both_lists}
 use Rattle.ti_caps.specs.Tables.{Capability}
 use Rattle.ti_source.specs.Code.{is_error}
 use Rattle.ti_source.specs.Reading.{Reading, ReadItem, ReadFault, Said, said_flag, said_number, said_text, said_cancel, said_import}
-use Rattle.ti_layout.specs.Values.{Content, content_true, content_number, content_text, content_cancelled, Contents, contents}
+use Rattle.ti_layout.specs.Values.{content_true, content_number, content_text, content_cancelled, Contents, Mention, contents}
 use Rattle.ti_layout.specs.Laws.{without_cancel}
 use Rattle.ti_meaning.specs.Owner.{owner_block}
-
--- a capability, and the value or the cancel that an item gives it
-pub record Mention : Type 0 where
-  pub capability : Capability
-  pub says : Content
-
--- what the leftmost mention of the capability says, a cancel too, if there is one: what the
--- mentions say as the entries of a table
-abbrev pub leftmost_content : List Mention → Contents
-leftmost_content mentions = contents (map (λ (mention : Mention). (mention.capability, mention.says)) mentions)
 
 -- the value of each capability: what its leftmost mention gives it, and absent if that is a cancel
 -- or there is none
 abbrev pub values : List Mention → Contents
-values mentions capability = without_cancel (leftmost_content mentions capability)
+values mentions capability = without_cancel (contents mentions capability)
 
 -- whether reading gave the block a fault that leaves it without an entry: one of its header, its
 -- numbers or its strings
@@ -33,10 +23,10 @@ is_broken block = list_any (λ (fault : ReadFault). is_error fault.code) block.f
 
 -- the mentions that one item gives; `of_name` has those of a used name
 abbrev pub mentions_of : (List ℕ → Option (List Mention)) → Said → Option (List Mention)
-mentions_of of_name (said_flag c) = Some (record { capability = c; says = content_true } ∷ [])
-mentions_of of_name (said_number c n) = Some (record { capability = c; says = content_number n } ∷ [])
-mentions_of of_name (said_text c t) = Some (record { capability = c; says = content_text t } ∷ [])
-mentions_of of_name (said_cancel c) = Some (record { capability = c; says = content_cancelled } ∷ [])
+mentions_of of_name (said_flag c) = Some ((c, content_true) ∷ [])
+mentions_of of_name (said_number c n) = Some ((c, content_number n) ∷ [])
+mentions_of of_name (said_text c t) = Some ((c, content_text t) ∷ [])
+mentions_of of_name (said_cancel c) = Some ((c, content_cancelled) ∷ [])
 mentions_of of_name (said_import name) = of_name name
 
 -- the mentions of all items, in order; none if an item has none

@@ -5,7 +5,8 @@ use Rattle.ti_source.specs.declared.code.Code.{Code}
 use Rattle.ti_source.specs.declared.code.Code.TheVariants.{MissingUse, Circular, Unresolved}
 use Rattle.ti_source.specs.Reading.{Reading, ReadItem, ReadFault}
 use Rattle.ti_meaning.specs.Owner.{is_among, is_owner, owner, owner_block}
-use Rattle.ti_meaning.specs.Expansion.{Mention, expand, expansion, resolves}
+use Rattle.ti_layout.specs.Values.{Mention}
+use Rattle.ti_meaning.specs.Expansion.{expand, expansion, resolves}
 use Rattle.ti_meaning.specs.Reaching.{any_use, used_name, Uses, LeadsTo, leads_to}
 use Rattle.ti_meaning.specs.Faults.{SourceFault, local_fault, use_fault, fault_of_item, faults_before, faults_from, item_faults}
 

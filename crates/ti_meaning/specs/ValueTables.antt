@@ -4,13 +4,13 @@ use Rattle.std.specs.Prelude.{ℕ, ◌≡◌, List, Option, Some, None, option_a
 use Rattle.std.specs.Option.{option_or}
 use Rattle.ti_caps.specs.Tables.{Capability, IsCapability}
 use Rattle.ti_source.specs.Reading.{Reading, ReadItem, Said}
-use Rattle.ti_layout.specs.Values.{Contents}
+use Rattle.ti_layout.specs.Values.{Contents, Mention, contents}
 use Rattle.ti_meaning.specs.Owner.{owner_block}
-use Rattle.ti_meaning.specs.Expansion.{Mention, leftmost_content, mentions_of, expand_items, expand, expansion}
+use Rattle.ti_meaning.specs.Expansion.{mentions_of, expand_items, expand, expansion}
 
 -- a table has what the mentions say of each capability
 abbrev pub IsTableOfMentions : Contents → List Mention → Type 0
-IsTableOfMentions table mentions = (c : Capability) → IsCapability c → table c ≡ leftmost_content mentions c
+IsTableOfMentions table mentions = (c : Capability) → IsCapability c → table c ≡ contents mentions c
 
 -- a block has a table exactly if it resolves
 abbrev pub HasTable : {T : Type 0} → (T → Contents) → List Reading → Reading → Option T → Type 0
@@ -25,7 +25,7 @@ names_at env depth name = option_and_then (expand env depth) (env name)
 
 -- a table that takes from the mentions what it did not have
 abbrev pub AddsBehind : Contents → List Mention → Contents → Type 0
-AddsBehind old mentions new = (c : Capability) → IsCapability c → new c ≡ option_or (old c) (leftmost_content mentions c)
+AddsBehind old mentions new = (c : Capability) → IsCapability c → new c ≡ option_or (old c) (contents mentions c)
 
 -- the table of a block of the list: some depth expands the block, and the table says what the
 -- mentions say

@@ -1,7 +1,8 @@
 -- The faults of a block, part by part, and what its faults make of it.
 use Rattle.std.proofs.Common.{◌≡◌, ℕ, inr, true, false, List, [], ◌++◌, append_assoc, filter, length, Option, Some, None, is_some, slice_get, refl, sym, ap}
 use Rattle.ti_source.specs.Reading.{Reading}
-use Rattle.ti_meaning.specs.Expansion.{Mention, expansion, resolves}
+use Rattle.ti_layout.specs.Values.{Mention}
+use Rattle.ti_meaning.specs.Expansion.{expansion, resolves}
 use Rattle.ti_meaning.specs.Compiled.{EntryState, unresolved, state_of, state_with}
 use Rattle.ti_meaning.specs.Dependents.{work_of}
 use Rattle.ti_meaning.specs.Faults.{SourceFault, is_kept, local_faults, item_faults, entry_faults}

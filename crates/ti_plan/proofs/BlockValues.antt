@@ -7,8 +7,8 @@ use Rattle.ti_caps.specs.Tables.{Capability, IsCapability}
 use Rattle.ti_source.specs.declared.code.Code.{Code}
 use Rattle.ti_source.specs.Reading.{Reading, said_import}
 use Rattle.ti_layout.specs.declared.values.Table.{Table}
-use Rattle.ti_layout.specs.Values.{Contents, contents}
-use Rattle.ti_meaning.specs.Expansion.{Mention, values}
+use Rattle.ti_layout.specs.Values.{Contents, contents, Mention}
+use Rattle.ti_meaning.specs.Expansion.{values}
 use Rattle.ti_meaning.specs.Reaching.{used_name}
 use Rattle.ti_meaning.specs.Faults.{use_fault}
 use Rattle.ti_meaning.specs.Compiled.{EntryState, oversized, written, image_of, state_with, state_of}

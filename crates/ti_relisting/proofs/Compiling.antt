@@ -11,11 +11,11 @@ use Rattle.ti_caps.specs.Tables.{Capability, IsCapability}
 use Rattle.ti_source.specs.Code.{is_error}
 use Rattle.ti_source.specs.Reading.{Said, ReadItem, ReadFault, Reading}
 use Rattle.ti_source.specs.Parsing.{reading_of_text}
-use Rattle.ti_layout.specs.Values.{Content, content_true, content_number, content_text, content_cancelled, Contents, contents}
+use Rattle.ti_layout.specs.Values.{Content, content_true, content_number, content_text, content_cancelled, Contents, contents, Mention}
 use Rattle.ti_layout.specs.Image.{image, image_limit, ImageFits}
 use Rattle.ti_layout.specs.Laws.{without_cancel, ImagesAreOfValues, LimitsAreOfValues}
 use Rattle.ti_meaning.specs.Owner.{owner_block, readings}
-use Rattle.ti_meaning.specs.Expansion.{Mention, leftmost_content, values, is_broken, expand, expansion}
+use Rattle.ti_meaning.specs.Expansion.{values, is_broken, expand, expansion}
 use Rattle.ti_meaning.specs.Compiled.{image_of, is_too_large, entry_of, entry}
 use Rattle.ti_list.specs.declared.layout.Layout.{Layout}
 use Rattle.ti_list.specs.Items.{no_more, CanBeListed, IsListable, IsReadAs}
@@ -53,10 +53,10 @@ own-at env depth block table cs more none says =
 -- what the mentions of a block say has the values of the table, and the image is within the limit
 pub entry-is : ImagesAreOfValues → LimitsAreOfValues → (blocks : List Reading) (block : Reading) (field : List ℕ) (table : Contents) (ms : List Mention)
     → expansion blocks block ≡ Some ms → block.field ≡ field
-    → ((c : Capability) → IsCapability c → without_cancel (leftmost_content ms c) ≡ without_cancel (table c)) → ImageFits field table
+    → ((c : Capability) → IsCapability c → without_cancel (contents ms c) ≡ without_cancel (table c)) → ImageFits field table
     → entry blocks block ≡ Some (image field table)
 entry-is images limits blocks block field table ms expands is_field tells within =
-    let same : (c : Capability) → IsCapability c → without_cancel (values ms c) ≡ without_cancel (table c) = λ c is. uncancelled-twice (leftmost_content ms c) ∙ tells c is in
+    let same : (c : Capability) → IsCapability c → without_cancel (values ms c) ≡ without_cancel (table c) = λ c is. uncancelled-twice (contents ms c) ∙ tells c is in
     let is_image : image_of block ms ≡ image field table = ap (λ f. image f (values ms)) is_field ∙ images field (values ms) table same in
     let sizes : length (image_of block ms) ≡ length (image field table) = ap length is_image in
     let limit : image_limit (values ms) ≡ image_limit table = limits (values ms) table same in
@@ -86,7 +86,7 @@ listing-expands ordered read env depth field names table layout good has =
     ∙ ap (λ ms. Some ms) (append-nil (mentions_for table (all_in layout.order)))
 
 pub all-contents : EachKindIsInOrder → (table : Contents) (layout : Layout) (ms : List Mention) (c : Capability) → IsCapability c
-    → leftmost_content (mentions_for table (all_in layout.order) ++ ms) c ≡ option_or (table c) (leftmost_content ms c)
+    → contents (mentions_for table (all_in layout.order) ++ ms) c ≡ option_or (table c) (contents ms c)
 all-contents ordered table layout ms c is = all-say table (all_in layout.order) ms c ((all_in-all ordered layout.order).complete c is)
 
 pub listings_compile : EachKindIsInOrder → PartsAreRead → ImagesAreOfValues → LimitsAreOfValues → ListingsCompile
@@ -96,8 +96,8 @@ listings_compile ordered read images limits field names table layout good has wi
     let blocks = readings texts in
     let is = listing-read ordered read field names table layout good has in
     let ms = mentions_for table (all_in layout.order) in
-    let tells : (c : Capability) → IsCapability c → without_cancel (leftmost_content ms c) ≡ without_cancel (table c) =
-    λ c cap. ap without_cancel (ap (λ l. leftmost_content l c) (sym (append-nil ms)) ∙ all-contents ordered table layout [] c cap ∙ option_or-nothing (table c)) in
+    let tells : (c : Capability) → IsCapability c → without_cancel (contents ms c) ≡ without_cancel (table c) =
+    λ c cap. ap without_cancel (ap (λ l. contents l c) (sym (append-nil ms)) ∙ all-contents ordered table layout [] c cap ∙ option_or-nothing (table c)) in
     let read_there : slice_get blocks at ≡ Some (reading_of_text text) = slice_get-map reading_of_text texts at ∙ ap (option_map reading_of_text) stands in
     ap (option_and_then (entry blocks)) read_there
     ∙ entry-is images limits blocks (reading_of_text text) field table ms

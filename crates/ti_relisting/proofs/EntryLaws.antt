@@ -12,12 +12,12 @@ use Rattle.ti_source.specs.Parsing.{reading_of_text, HasReading}
 use Rattle.ti_source.specs.Sound.{EachIsWellRead}
 use Rattle.ti_spelling.specs.Spelling.{AreBytes}
 use Rattle.ti_spelling.specs.Spelling.{ValuesAreSound}
-use Rattle.ti_layout.specs.Values.{Contents}
+use Rattle.ti_layout.specs.Values.{Contents, Mention, contents}
 use Rattle.ti_layout.specs.Image.{image, image_limit, ImageFits}
 use Rattle.ti_layout.specs.Reading.{Reads, EntriesHaveOneReading}
 use Rattle.ti_layout.specs.Laws.{without_cancel, ImagesAreRead, ImagesAreOfValues, LimitsAreOfValues}
 use Rattle.ti_meaning.specs.Owner.{owner_block, readings}
-use Rattle.ti_meaning.specs.Expansion.{Mention, leftmost_content, values, is_broken, expansion}
+use Rattle.ti_meaning.specs.Expansion.{values, is_broken, expansion}
 use Rattle.ti_meaning.specs.Compiled.{image_of, is_too_large, entry_of, entry, compiled}
 use Rattle.ti_list.specs.Items.{no_more, CanBeListed, IsListable}
 use Rattle.ti_list.specs.declared.layout.Layout.{Layout}
@@ -151,7 +151,7 @@ pub is-shown : AreKnown → (bytes : List ℕ) (shown : Entry) → IsEntry bytes
 is-shown known bytes shown entry =
     let has = has-image known entry.texts entry.at bytes (texts-both entry.texts entry.blocks entry.of_bytes) entry.is in
     let ms = has.mentions in
-    let holds : (c : Capability) → CanHave c (values ms c) = λ c. uncancelled-has c (leftmost_content ms c) (said-has ms c has.fit) in
+    let holds : (c : Capability) → CanHave c (values ms c) = λ c. uncancelled-has c (contents ms c) (said-has ms c has.fit) in
     let read = known.read has.field (values ms) (some-long has.field has.some) has.listable.short has.no_nul (λ c is. agrees-has c (values ms c) (holds c)) has.within in
     let reads : Reads bytes has.field read.0 = subst (λ b. Reads b has.field read.0) has.is read.1 in
     let same = known.one.0 bytes shown.names has.field shown.contents read.0 entry.reads reads in

@@ -7,18 +7,18 @@ use Rattle.std.proofs.lemmas.List.Elements.{All-nil, All-cons, All-head, All-tai
 use Rattle.ti_caps.specs.Tables.{Capability, IsCapability, same_capability}
 use Rattle.ti_source.specs.Reading.{Said, said_flag, said_number, said_text, said_cancel, said_import, ReadItem, Reading}
 use Rattle.ti_source.specs.Sound.{SetsItsKind}
-use Rattle.ti_layout.specs.Values.{Content, content_true, content_number, content_text, content_cancelled, AgreesIfSome, contents}
+use Rattle.ti_layout.specs.Values.{Content, content_true, content_number, content_text, content_cancelled, AgreesIfSome, contents, Mention}
 use Rattle.ti_layout.specs.Laws.{without_cancel}
 use Rattle.ti_meaning.specs.Owner.{is_among, owner_block}
 use Rattle.ti_text.specs.Lists.{both_lists}
-use Rattle.ti_meaning.specs.Expansion.{Mention, leftmost_content, is_broken, mentions_of, expand_items, expand}
+use Rattle.ti_meaning.specs.Expansion.{is_broken, mentions_of, expand_items, expand}
 use Rattle.ti_relisting.specs.Relisting.{CanHave}
 use Rattle.ti_relisting.proofs.TextBytes.{SaysBytes, ItemSaysBytes}
 use Rattle.ti_caps.proofs.Same.{same_capability-true}
 
 -- a mention is of a capability, which can have what it says
 abbrev pub MentionFits : Mention → Type 0
-MentionFits m = IsCapability m.capability × CanHave m.capability (Some m.says)
+MentionFits m = IsCapability m.0 × CanHave m.0 (Some m.1)
 
 -- an item says something that its capability can have, unless it is a use
 abbrev pub SaidFits : Said → Type 0
@@ -66,10 +66,10 @@ one-fits m ms fits e = subst (λ l. All MentionFits l) (same_Some (m ∷ []) ms 
 item-mentions-fit : (of_name : List ℕ → Option (List Mention)) → ((name : List ℕ) (ms : List Mention) → of_name name ≡ Some ms → All MentionFits ms)
     → (item : Said) (ms : List Mention)
     → SaidFits item → mentions_of of_name item ≡ Some ms → All MentionFits ms
-item-mentions-fit of_name h (said_flag c) ms fits e = one-fits (record { capability = c; says = content_true }) ms fits e
-item-mentions-fit of_name h (said_number c n) ms fits e = one-fits (record { capability = c; says = content_number n }) ms fits e
-item-mentions-fit of_name h (said_text c t) ms fits e = one-fits (record { capability = c; says = content_text t }) ms fits e
-item-mentions-fit of_name h (said_cancel c) ms fits e = one-fits (record { capability = c; says = content_cancelled }) ms (fits, tt) e
+item-mentions-fit of_name h (said_flag c) ms fits e = one-fits ((c, content_true)) ms fits e
+item-mentions-fit of_name h (said_number c n) ms fits e = one-fits ((c, content_number n)) ms fits e
+item-mentions-fit of_name h (said_text c t) ms fits e = one-fits ((c, content_text t)) ms fits e
+item-mentions-fit of_name h (said_cancel c) ms fits e = one-fits ((c, content_cancelled)) ms (fits, tt) e
 item-mentions-fit of_name h (said_import name) ms fits e = h name ms e
 
 items-mentions-fit : (of_name : List ℕ → Option (List Mention)) → ((name : List ℕ) (ms : List Mention) → of_name name ≡ Some ms → All MentionFits ms)
@@ -122,12 +122,12 @@ owned-has P (b ∷ bs) name block all e =
 
 -- ---- what the mentions say
 
-pub said-has : (ms : List Mention) (c : Capability) → All MentionFits ms → CanHave c (leftmost_content ms c)
+pub said-has : (ms : List Mention) (c : Capability) → All MentionFits ms → CanHave c (contents ms c)
 unfolding contents
 said-has [] c fits = tt
 said-has (m ∷ ms) c fits =
-    elim (cases_Bool (same_capability m.capability c)) [
-      | inl t ↦ rw t (subst (λ d. CanHave d (Some m.says)) (same_capability-true m.capability c t) (All-head MentionFits m ms fits).1)
+    elim (cases_Bool (same_capability m.0 c)) [
+      | inl t ↦ rw t (subst (λ d. CanHave d (Some m.1)) (same_capability-true m.0 c t) (All-head MentionFits m ms fits).1)
       | inr f ↦ rw f (said-has ms c (All-tail MentionFits m ms fits))
     ]
 

@@ -10,9 +10,9 @@ use Rattle.ti_caps.specs.Tables.{Capability, IsCapability, same_capability}
 use Rattle.ti_caps.proofs.Same.{same_capability-true}
 use Rattle.ti_caps.specs.declared.capability.Kind.TheVariants.{Flag, Number, Text}
 use Rattle.ti_source.specs.Reading.{Said, said_flag, said_number, said_text, said_cancel, said_import, ReadItem}
-use Rattle.ti_layout.specs.Values.{Content, content_true, content_number, content_text, content_cancelled, Contents, contents}
+use Rattle.ti_layout.specs.Values.{Content, content_true, content_number, content_text, content_cancelled, Contents, contents, Mention}
 use Rattle.ti_text.specs.Lists.{both_lists}
-use Rattle.ti_meaning.specs.Expansion.{Mention, leftmost_content, mentions_of, expand_items}
+use Rattle.ti_meaning.specs.Expansion.{mentions_of, expand_items}
 use Rattle.ti_list.specs.declared.layout.Layout.{Layout}
 use Rattle.ti_list.specs.Items.{item_text, IsTail, no_more, same_line, new_line, IsListing, CanBeListed}
 use Rattle.ti_list.specs.Listing.{item_for, items_for, kind_items, in_order, size_of, further_items, lines_of, source_lines, listing}
@@ -137,7 +137,7 @@ all-can ordered table layout more has can =
 -- the mention of what a capability has, if it has something
 abbrev pub mention_for : Capability → Option Content → List Mention
 mention_for c None = []
-mention_for c (Some content) = record { capability = c; says = content } ∷ []
+mention_for c (Some content) = (c, content) ∷ []
 
 -- the mentions of some capabilities, in order
 abbrev pub mentions_for : Contents → List Capability → List Mention
@@ -176,13 +176,13 @@ item-expands : (of_name : List ℕ → Option (List Mention)) (c : Capability) (
     → expand_says of_name items ≡ before ms later → expand_says of_name (item_for c o ++ items) ≡ before (mention_for c o ++ ms) later
 item-expands of_name c None ms items later e = e
 item-expands of_name c (Some content_true) ms items later e =
-    mention-first (record { capability = c; says = content_true }) ms later (expand_says of_name items) e
+    mention-first ((c, content_true)) ms later (expand_says of_name items) e
 item-expands of_name c (Some (content_number n)) ms items later e =
-    mention-first (record { capability = c; says = content_number n }) ms later (expand_says of_name items) e
+    mention-first ((c, content_number n)) ms later (expand_says of_name items) e
 item-expands of_name c (Some (content_text t)) ms items later e =
-    mention-first (record { capability = c; says = content_text t }) ms later (expand_says of_name items) e
+    mention-first ((c, content_text t)) ms later (expand_says of_name items) e
 item-expands of_name c (Some content_cancelled) ms items later e =
-    mention-first (record { capability = c; says = content_cancelled }) ms later (expand_says of_name items) e
+    mention-first ((c, content_cancelled)) ms later (expand_says of_name items) e
 
 -- own items give own mentions, whatever follows them
 pub own-expands : (of_name : List ℕ → Option (List Mention)) (table : Contents) (cs : List Capability) (more : List Said)
@@ -197,33 +197,33 @@ abbrev told : Contents → List Capability → Contents
 told table cs c = cond (is_among cs c) (table c) None
 
 mention-same : (d c : Capability) (o : Option Content) (b : Bool) (ms : List Mention) (later : Option Content) → same_capability d c ≡ true
-    → leftmost_content ms c ≡ option_or (cond b o None) later → leftmost_content (mention_for d o ++ ms) c ≡ option_or o later
+    → contents ms c ≡ option_or (cond b o None) later → contents (mention_for d o ++ ms) c ≡ option_or o later
 unfolding contents
 mention-same d c None true ms later s e = e
 mention-same d c None false ms later s e = e
 mention-same d c (Some content) b ms later s e = rw s refl
 
 mention-other : (d c : Capability) (o : Option Content) (ms : List Mention) → same_capability d c ≡ false
-    → leftmost_content (mention_for d o ++ ms) c ≡ leftmost_content ms c
+    → contents (mention_for d o ++ ms) c ≡ contents ms c
 unfolding contents
 mention-other d c None ms f = refl
 mention-other d c (Some content) ms f = rw f refl
 
 items-say : (table : Contents) (cs : List Capability) (ms : List Mention) (c : Capability)
-    → leftmost_content (mentions_for table cs ++ ms) c ≡ option_or (told table cs c) (leftmost_content ms c)
+    → contents (mentions_for table cs ++ ms) c ≡ option_or (told table cs c) (contents ms c)
 unfolding contents
 items-say table [] ms c = refl
 items-say table (d ∷ cs) ms c =
     let later = items-say table cs ms c in
-    ap (λ l. leftmost_content l c) (append_assoc (mention_for d (table d)) (mentions_for table cs) ms)
+    ap (λ l. contents l c) (append_assoc (mention_for d (table d)) (mentions_for table cs) ms)
     ∙ elim (cases_Bool (same_capability d c)) [
       | inl t ↦
-          let P : Capability → Type 0 = λ x. leftmost_content (mention_for d (table x) ++ (mentions_for table cs ++ ms)) c ≡ option_or (table c) (leftmost_content ms c) in
-          rw t (subst P (sym (same_capability-true d c t)) (mention-same d c (table c) (is_among cs c) (mentions_for table cs ++ ms) (leftmost_content ms c) t later))
+          let P : Capability → Type 0 = λ x. contents (mention_for d (table x) ++ (mentions_for table cs ++ ms)) c ≡ option_or (table c) (contents ms c) in
+          rw t (subst P (sym (same_capability-true d c t)) (mention-same d c (table c) (is_among cs c) (mentions_for table cs ++ ms) (contents ms c) t later))
       | inr f ↦ rw f (mention-other d c (table d) (mentions_for table cs ++ ms) f ∙ later)
     ]
 
 -- if each capability is among them, their mentions say what the table has, and then what follows
 pub all-say : (table : Contents) (cs : List Capability) (ms : List Mention) (c : Capability) → is_among cs c ≡ true
-    → leftmost_content (mentions_for table cs ++ ms) c ≡ option_or (table c) (leftmost_content ms c)
-all-say table cs ms c t = items-say table cs ms c ∙ ap (λ b. option_or (cond b (table c) None) (leftmost_content ms c)) t
+    → contents (mentions_for table cs ++ ms) c ≡ option_or (table c) (contents ms c)
+all-say table cs ms c t = items-say table cs ms c ∙ ap (λ b. option_or (cond b (table c) None) (contents ms c)) t

@@ -11,10 +11,10 @@ use Rattle.ti_caps.specs.NameOrder.{EachKindIsInOrder}
 use Rattle.ti_caps.specs.Tables.{Capability, IsCapability}
 use Rattle.ti_source.specs.Reading.{said_import, Reading}
 use Rattle.ti_source.specs.Parsing.{reading_of_text}
-use Rattle.ti_layout.specs.Values.{Content, content_true, content_number, content_text, content_cancelled, Contents, contents}
+use Rattle.ti_layout.specs.Values.{Content, content_true, content_number, content_text, content_cancelled, Contents, contents, Mention}
 use Rattle.ti_layout.specs.Laws.{without_cancel, ImagesAreOfValues, LimitsAreOfValues}
 use Rattle.ti_meaning.specs.Owner.{is_among, owner, owner_block, readings}
-use Rattle.ti_meaning.specs.Expansion.{Mention, leftmost_content, expand, expansion}
+use Rattle.ti_meaning.specs.Expansion.{expand, expansion}
 use Rattle.ti_list.specs.Items.{CanBeListed, IsReadAs}
 use Rattle.ti_list.specs.Listing.{listing}
 use Rattle.ti_layout.specs.View.{Entry}
@@ -92,7 +92,7 @@ uses-expand of_name (one ∷ listed) h =
     rw (first, later) refl
 
 used-contents : EachKindIsInOrder → (listed : List Listed) (c : Capability) → IsCapability c
-    → leftmost_content (used_mentions listed) c ≡ first_of (entries_of listed) c
+    → contents (used_mentions listed) c ≡ first_of (entries_of listed) c
 unfolding contents
 used-contents ordered [] c is = refl
 used-contents ordered (one ∷ listed) c is =
@@ -150,7 +150,7 @@ relatives_compile ordered read images limits e layout listed shown used owns wit
     let expanded : expansion blocks block ≡ Some ms =
     own-at (owner_block blocks) (length blocks) block table (all_in layout.order) (uses_of others) is.none_wrong is.says
     ∙ ap (before (mentions_for table (all_in layout.order))) (uses-expand (used_at (owner_block blocks) (length blocks)) listed expands) in
-    let tells : (c : Capability) → IsCapability c → without_cancel (leftmost_content ms c) ≡ without_cancel (e.contents c) =
+    let tells : (c : Capability) → IsCapability c → without_cancel (contents ms c) ≡ without_cancel (e.contents c) =
     λ c cap. ap without_cancel (all-contents ordered table layout (used_mentions listed) c cap ∙ ap (option_or (table c)) (used-contents ordered listed c cap))
     ∙ restores (e.contents c) (first_of others c) in
     entry-is images limits blocks block e.names e.contents ms expanded is.same_field tells within

@@ -49,7 +49,9 @@ found_later true true a b x y differ e = absurd (differ refl refl)
 found_later true false a b x y differ e = refl
 found_later false r a b x y differ e = e
 
-put_in : (uri : List ℕ) (new d : Open) (ds : List Open) (p : Bool) → bytes_eq d.uri new.uri ≡ p → open_at uri (with_document new ds) ≡ cond (bytes_eq new.uri uri) (Some new) (open_at uri ds) → open_at uri (cond p (new ∷ ds) (d ∷ with_document new ds)) ≡ cond (bytes_eq new.uri uri) (Some new) (cond (bytes_eq d.uri uri) (Some d) (open_at uri ds))
+put_in : (uri : List ℕ) (new d : Open) (ds : List Open) (p : Bool) → bytes_eq d.uri new.uri ≡ p
+    → open_at uri (with_document new ds) ≡ cond (bytes_eq new.uri uri) (Some new) (open_at uri ds)
+    → open_at uri (cond p (new ∷ ds) (d ∷ with_document new ds)) ≡ cond (bytes_eq new.uri uri) (Some new) (cond (bytes_eq d.uri uri) (Some d) (open_at uri ds))
 put_in uri new d ds true e h = found_first (bytes_eq d.uri uri) (bytes_eq new.uri uri) (Some new) (Some d) (open_at uri ds) (tests_agree d.uri new.uri uri e)
 put_in uri new d ds false e h = found_later (bytes_eq d.uri uri) (bytes_eq new.uri uri) (Some new) (Some d) (open_at uri ds) (open_at uri (with_document new ds)) (one_at_most d.uri new.uri uri e) h
 
@@ -69,7 +71,9 @@ found_has uri [] d e = cc
 found_has uri (x ∷ ds) d e = found_in uri x ds d (bytes_eq x.uri uri) refl (found_has uri ds d) e
 
 -- an answer that shows a document of another URI changes nothing
-other_shown : (uri other : List ℕ) (before : Option Open) (change : Open → Open) (keeps : (d : Open) → (change d).uri ≡ d.uri) (found : Option Open) → ((d : Open) → found ≡ Some d → bytes_eq d.uri other ≡ true) → bytes_eq other uri ≡ false → shown_after uri before (option_map (λ d. shown (change d)) found) ≡ before
+other_shown : (uri other : List ℕ) (before : Option Open) (change : Open → Open) (keeps : (d : Open) → (change d).uri ≡ d.uri) (found : Option Open)
+    → ((d : Open) → found ≡ Some d → bytes_eq d.uri other ≡ true) → bytes_eq other uri ≡ false
+    → shown_after uri before (option_map (λ d. shown (change d)) found) ≡ before
 other_shown uri other before change keeps None has differ = refl
 other_shown uri other before change keeps (Some d) has differ =
     let same : bytes_eq (change d).uri uri ≡ false = ap (λ (u : List ℕ). bytes_eq u uri) (keeps d ∙ same_uri d.uri other (has d refl)) ∙ differ in
@@ -92,13 +96,17 @@ is_false false h = refl
 not_same : (a b : List ℕ) → (bytes_eq a b ≡ true → ⊥) → bytes_eq a b ≡ false
 not_same a b h = is_false (bytes_eq a b) h
 
-changed_later : (uri other : List ℕ) (change : Open → Open) (keeps : (d : Open) → (change d).uri ≡ d.uri) (d : Open) (ds : List Open) (q : Bool) → bytes_eq d.uri uri ≡ q → bytes_eq d.uri other ≡ false → shown_after uri (open_at uri ds) (option_map (λ x. shown (change x)) (open_at other ds)) ≡ open_at uri (with_change other change ds) → shown_after uri (cond q (Some d) (open_at uri ds)) (option_map (λ x. shown (change x)) (open_at other ds)) ≡ cond q (Some d) (open_at uri (with_change other change ds))
+changed_later : (uri other : List ℕ) (change : Open → Open) (keeps : (d : Open) → (change d).uri ≡ d.uri) (d : Open) (ds : List Open) (q : Bool) → bytes_eq d.uri uri ≡ q
+    → bytes_eq d.uri other ≡ false → shown_after uri (open_at uri ds) (option_map (λ x. shown (change x)) (open_at other ds)) ≡ open_at uri (with_change other change ds)
+    → shown_after uri (cond q (Some d) (open_at uri ds)) (option_map (λ x. shown (change x)) (open_at other ds)) ≡ cond q (Some d) (open_at uri (with_change other change ds))
 changed_later uri other change keeps d ds true e differ h =
     let apart : bytes_eq other uri ≡ false = not_same other uri (λ same. clash (bytes_eq d.uri other) (is_same d.uri other (same_uri d.uri uri e ∙ sym (same_uri other uri same))) differ) in
     other_shown uri other (Some d) change keeps (open_at other ds) (found_has other ds) apart
 changed_later uri other change keeps d ds false e differ h = h
 
-change_in : (uri other : List ℕ) (change : Open → Open) (keeps : (d : Open) → (change d).uri ≡ d.uri) (d : Open) (ds : List Open) (p : Bool) → bytes_eq d.uri other ≡ p → shown_after uri (open_at uri ds) (option_map (λ x. shown (change x)) (open_at other ds)) ≡ open_at uri (with_change other change ds) → shown_after uri (cond (bytes_eq d.uri uri) (Some d) (open_at uri ds)) (option_map (λ x. shown (change x)) (cond p (Some d) (open_at other ds))) ≡ open_at uri (cond p (change d ∷ ds) (d ∷ with_change other change ds))
+change_in : (uri other : List ℕ) (change : Open → Open) (keeps : (d : Open) → (change d).uri ≡ d.uri) (d : Open) (ds : List Open) (p : Bool) → bytes_eq d.uri other ≡ p
+    → shown_after uri (open_at uri ds) (option_map (λ x. shown (change x)) (open_at other ds)) ≡ open_at uri (with_change other change ds)
+    → shown_after uri (cond (bytes_eq d.uri uri) (Some d) (open_at uri ds)) (option_map (λ x. shown (change x)) (cond p (Some d) (open_at other ds))) ≡ open_at uri (cond p (change d ∷ ds) (d ∷ with_change other change ds))
 change_in uri other change keeps d ds true e h = changed_first uri change keeps d (open_at uri ds)
 change_in uri other change keeps d ds false e h = changed_later uri other change keeps d ds (bytes_eq d.uri uri) refl e h
 

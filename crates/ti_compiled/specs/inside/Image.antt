@@ -8,7 +8,7 @@ use Rattle.ti_layout.specs.declared.layout.Format.TheVariants.{Legacy}
 use Rattle.ti_layout.specs.Image.{image, image_limit}
 use Rattle.ti_layout.specs.Laws.{without_cancel}
 use Rattle.ti_layout.specs.Reading.{contents_of, format_in, numbers_in, names_section, flags_section, numbers_section, offsets_section, strings_section}
-use Rattle.ti_layout.specs.Values.{Content, Contents, TableEntry, AgreesIfSome, HasNoNul}
+use Rattle.ti_layout.specs.Values.{Content, Contents, Mention, AgreesIfSome, HasNoNul}
 use Rattle.ti_compiled.specs.Image.{NamedTable}
 
 -- the names field of an entry: its section without the NUL
@@ -38,17 +38,17 @@ pub record IsImage (bytes : List ℕ) : Type 0 where
   pub whole : bytes ≡ image (names_in bytes) (contents_in bytes)
 
 -- the entry of a capability, if it has something
-abbrev pub entry_if : Capability → Option Content → List TableEntry
+abbrev pub entry_if : Capability → Option Content → List Mention
 entry_if c None = []
 entry_if c (Some content) = (c, content) ∷ []
 
 -- the entries of the first capabilities of a kind, in order
-unfoldable pub entries_below : Contents → Kind → ℕ → List TableEntry
+unfoldable pub entries_below : Contents → Kind → ℕ → List Mention
 entries_below contents kind zero = []
 entries_below contents kind (suc n) = entries_below contents kind n ++ entry_if (capability kind n) (contents (capability kind n))
 
 -- the entries of all capabilities, in the order of the compiled entry
-abbrev pub entries_with : Contents → List TableEntry
+abbrev pub entries_with : Contents → List Mention
 entries_with contents =
     entries_below contents Flag (count_of Flag) ++ entries_below contents Number (count_of Number) ++ entries_below contents Text (count_of Text)
 

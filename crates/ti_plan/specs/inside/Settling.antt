@@ -1,11 +1,11 @@
 -- What is known while the blocks that depend on an edit are settled (own).
 use Rattle.std.specs.Prelude.{ℕ, ◌≡◌, ◌⊎◌, ◌↔◌, List, length, slice_index, Option, Some, None, is_some, Bool, slice_get, All, Contains, false}
 use Rattle.ti_source.specs.Reading.{Reading, ReadItem, Said}
-use Rattle.ti_layout.specs.Values.{contents, Contents}
+use Rattle.ti_layout.specs.Values.{contents, Contents, Mention}
 use Rattle.ti_source.specs.Sound.{IsRising}
 use Rattle.ti_meaning.specs.Dependents.{work}
 use Rattle.ti_meaning.specs.Owner.{owner_block}
-use Rattle.ti_meaning.specs.Expansion.{Mention, expansion}
+use Rattle.ti_meaning.specs.Expansion.{expansion}
 use Rattle.ti_meaning.specs.Reaching.{used_name, Uses, leads_to}
 use Rattle.ti_meaning.specs.Faults.{use_fault}
 use Rattle.ti_meaning.specs.Usable.{IsUsable}

@@ -1,6 +1,6 @@
 use Rattle.std.proofs.Common.{set, ◌++◌, ◌∷◌, [], take, refl, sym, subst, arith}
 use Rattle.ti_layout.specs.inside.Mentions.{AreMentionPositions}
-use Rattle.ti_layout.specs.Values.{TableEntry, content_of, entries_of, rank_of}
+use Rattle.ti_layout.specs.Values.{Mention, content_of, entries_of, rank_of}
 use Rattle.ti_layout.proofs.FirstMentions.{positions_of_none, positions_unchanged, positions_more, entries_front, entries_count, rank_within}
 use Rattle.ti_layout.proofs.mentions.first_positions.Goals as goal
 use Rattle.ti_layout.proofs.mentions.first_positions.Goals.{then-positions-rank-eq0, else-positions-rank-eq0}
@@ -13,7 +13,7 @@ loop-index-preserved c =
     let ms = c.args.mentions.now in
     let i = c.loop-index.index in
     let x = c.index-mentions-index.result in
-    let e : TableEntry = (x.0, content_of x.1) in
+    let e : Mention = (x.0, content_of x.1) in
     let known = c.loop-index.invariant in
     let front = entries_front ms i x c.loop-index-test.true (sym c.index-mentions-index.is) in
     let es = entries_of (take i ms) in

@@ -1,7 +1,7 @@
--- what is at the place is what the entries say, and a gap says nothing
+-- what is at the index is what the entries say, and a gap says nothing
 use Rattle.std.proofs.Common.{sym}
 use Rattle.ti_layout.proofs.SortedEntries.{contents_nowhere}
-use Rattle.ti_layout.proofs.Places.{nowhere, content_here, agrees_here}
+use Rattle.ti_layout.proofs.Searched.{nowhere, content_here, agrees_here}
 use Rattle.ti_layout.proofs.values.find.Goals as goal
 
 pub returns-in-Ok-clause-found : goal.returns-in-Ok-clause-found

@@ -1,12 +1,12 @@
--- what is at the place is taken away, and a gap has nothing
+-- what is at the index is taken away, and a gap has nothing
 use Rattle.std.proofs.Common.{subst}
 use Rattle.ti_layout.specs.inside.Values.{IsAt, IsGapFor}
 use Rattle.ti_layout.specs.Values.{entries_of}
-use Rattle.ti_layout.proofs.Places.{sorted-taken, sets-taken, sets-nothing}
+use Rattle.ti_layout.proofs.Searched.{sorted-taken, sets-taken, sets-nothing}
 use Rattle.ti_layout.proofs.values.take_out.Goals as goal
 
-pub returns-in-Ok-clause-kept : goal.returns-in-Ok-clause-kept
-returns-in-Ok-clause-kept c =
+pub returns-in-Ok-clause-sorted : goal.returns-in-Ok-clause-sorted
+returns-in-Ok-clause-sorted c =
     let at = subst (λ xs. IsAt (entries_of xs) c.args.cap c.in-Ok.at) c.deref.ensures.value c.in-Ok.ensures.found in
     rw c.remove.ensures.items (sorted-taken _ c.requires _ _ at)
 

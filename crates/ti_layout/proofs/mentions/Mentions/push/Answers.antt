@@ -1,7 +1,7 @@
 use Rattle.std.proofs.Common.{◌≡◌, ◌<◌, ◌≤◌, ◌++◌, List, length, Some, None, cond, sym, ap, ◌∙◌, arith, All}
 use Rattle.std.specs.Option.{option_or}
 use Rattle.ti_caps.specs.Tables.{Capability, same_capability}
-use Rattle.ti_layout.specs.Values.{Agrees, TableEntry, contents, content_of, entries_of}
+use Rattle.ti_layout.specs.Values.{Agrees, Mention, contents, content_of, entries_of}
 use Rattle.ti_layout.specs.declared.values.Value.{Value}
 use Rattle.ti_layout.specs.inside.Mentions.{recent_max}
 use Rattle.ti_layout.proofs.SortedEntries.{err_is}
@@ -34,7 +34,7 @@ returns-in_err-settle c = let refused = err_is c.from_residual.result c.from_res
 pub invariant_of-self-in_err-push : goal.invariant_of-self-in_err-push
 invariant_of-self-in_err-push c =
     let now = c.if-len-ge-RECENT_MAX.self-inside.recent.items in
-    let kept : (length now ≤ recent_max) × All (λ (e : TableEntry). Agrees e.0 e.1) (entries_of now) = elim c.if-len-ge-RECENT_MAX.branch [
+    let kept : (length now ≤ recent_max) × All (λ (e : Mention). Agrees e.0 e.1) (entries_of now) = elim c.if-len-ge-RECENT_MAX.branch [
       | then-len-ge-RECENT_MAX+in_ok-settle w ↦ rw w.self-inside-is (w.settle.ensures.few, w.settle.ensures.agree)
       | else-len-ge-RECENT_MAX w ↦ rw w.self-inside-is c.self.invariant
     ] in
@@ -46,7 +46,7 @@ returns-in_err-push c = let refused = err_is c.from_residual-in_err-push.result 
 pub invariant_of-self-2 : goal.invariant_of-self-2
 invariant_of-self-2 c =
     let now = c.if-len-ge-RECENT_MAX.self-inside.recent.items in
-    let kept : (length now < recent_max) × All (λ (e : TableEntry). Agrees e.0 e.1) (entries_of now) = elim c.if-len-ge-RECENT_MAX.branch [
+    let kept : (length now < recent_max) × All (λ (e : Mention). Agrees e.0 e.1) (entries_of now) = elim c.if-len-ge-RECENT_MAX.branch [
       | then-len-ge-RECENT_MAX+in_ok-settle w ↦
           let none = ap (λ (xs : List (Capability × Value)). length xs) w.in_ok-settle.ensures.none in
           rw w.self-inside-is (omega arith, w.settle.ensures.agree)

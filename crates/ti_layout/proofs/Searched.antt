@@ -16,11 +16,11 @@ use Rattle.ti_caps.specs.Tables.{Capability, IsCapability}
 use Rattle.ti_layout.specs.declared.values.Value.{Value}
 use Rattle.ti_layout.specs.declared.values.Value.TheVariants.{True}
 use Rattle.ti_layout.specs.inside.Values.{IsAt, IsGapFor, SetsOnly}
-use Rattle.ti_layout.specs.Values.{Content, content_true, TableEntry, Agrees, IsSorted, contents, content_of, entries_of, rank_at, rank_of}
+use Rattle.ti_layout.specs.Values.{Content, content_true, Mention, Agrees, IsSorted, contents, content_of, entries_of, rank_at, rank_of}
 use Rattle.ti_layout.proofs.SortedEntries.{Elsewhere, Nowhere, Says, one_from_rank, contents_here, contents_nowhere, says-set, says-insert, says-remove, same_from_one, test_from_other}
 
--- the rank that a place has is that of the capability there
-pub rank_read : (es : List TableEntry) (i : ℕ) (e : TableEntry) → i < length es → rank_at es i ≡ rank_of (get_or es i e).0
+-- the rank at an index is that of the capability there
+pub rank_read : (es : List Mention) (i : ℕ) (e : Mention) → i < length es → rank_at es i ≡ rank_of (get_or es i e).0
 rank_read es i e within = get_or-map (λ x. rank_of x.0) es i e 0 within
 
 -- ---- where a search ends
@@ -28,7 +28,7 @@ rank_read es i e within = get_or-map (λ x. rank_of x.0) es i e 0 within
 module _ (xs : List (Capability × Value)) (sorted : IsSorted (entries_of xs)) (c : Capability) (valid : IsCapability c) where
   plain : (i : ℕ) (d : Capability × Value) → i < length xs → rank_at (entries_of xs) i ≡ rank_of (get_or xs i d).0
   plain i d within =
-      let f : Capability × Value → TableEntry = λ e. (e.0, content_of e.1) in
+      let f : Capability × Value → Mention = λ e. (e.0, content_of e.1) in
       rank_read (entries_of xs) i (f d) (rw length-map within) ∙ ap (λ e. rank_of e.0) (get_or-map f xs i d (f d) within)
 
   comparisons_rise : IsNonDecreasingBy (λ e. ordering_index (nat_cmp (rank_of e.0) (rank_of c))) xs
@@ -41,25 +41,25 @@ module _ (xs : List (Capability × Value)) (sorted : IsSorted (entries_of xs)) (
         grind (arith, nat_tests)
     | inr not_below ↦
         let one : i ≡ j = omega arith in
-        let place : ℕ → ℕ = λ k. ordering_index (nat_cmp (rank_of (get_or xs k d).0) (rank_of c)) in
-        subst (λ k. place i ≤ place k) one (omega arith)
+        let order_at : ℕ → ℕ = λ k. ordering_index (nat_cmp (rank_of (get_or xs k d).0) (rank_of c)) in
+        subst (λ k. order_at i ≤ order_at k) one (omega arith)
   ]
 
-  pub found_place : (i : ℕ) → i < length xs → ((d : Capability × Value) → nat_cmp (rank_of (get_or xs i d).0) (rank_of c) ≡ Equal) → IsAt (entries_of xs) c i
-  found_place i within equal =
+  pub found_at : (i : ℕ) → i < length xs → ((d : Capability × Value) → nat_cmp (rank_of (get_or xs i d).0) (rank_of c) ≡ Equal) → IsAt (entries_of xs) c i
+  found_at i within equal =
       let here : i < length (entries_of xs) = rw length-map within in
       record {
         in_range = here;
         is_here = λ e.
             let d : Capability × Value = (c, True) in
-            let f : Capability × Value → TableEntry = λ x. (x.0, content_of x.1) in
+            let f : Capability × Value → Mention = λ x. (x.0, content_of x.1) in
             let read : get_or (entries_of xs) i e ≡ f (get_or xs i d) = get_or-map f xs i d e within in
             let one_rank : rank_of (get_or xs i d).0 ≡ rank_of c = ranked _ _ Equal (sym (equal d)) in
             one_from_rank _ c (sorted.agree i e here).0 valid (ap (λ x. rank_of x.0) read ∙ one_rank);
       }
 
-  pub gap_place : (i : ℕ) → i ≤ length xs → IsBinarySearchResult (λ e. nat_cmp (rank_of e.0) (rank_of c)) xs (Err i) → IsGapFor (entries_of xs) c i
-  gap_place i within parted =
+  pub gap_at : (i : ℕ) → i ≤ length xs → IsBinarySearchResult (λ e. nat_cmp (rank_of e.0) (rank_of c)) xs (Err i) → IsGapFor (entries_of xs) c i
+  gap_at i within parted =
       let parts = parted comparisons_rise in
       let d : Capability × Value = (c, True) in
       record {
@@ -69,14 +69,14 @@ module _ (xs : List (Capability × Value)) (sorted : IsSorted (entries_of xs)) (
       }
 
   pub searched : (r : Result ℕ ℕ) (wanted : ℕ) → wanted ≡ rank_of c → IsSearchInRange r (length xs) → IsBinarySearchResult (λ e. nat_cmp (rank_of e.0) wanted) xs r → record { found : IfOk r (IsAt (entries_of xs) c); absent : IfErr r (IsGapFor (entries_of xs) c) }
-  searched (Ok i) wanted is within equal = record { found = found_place i within (λ d. subst (λ n. nat_cmp (rank_of (get_or xs i d).0) n ≡ Equal) is (equal d)); absent = tt }
-  searched (Err i) wanted is within parted = record { found = tt; absent = gap_place i within (subst (λ n. IsBinarySearchResult (λ e. nat_cmp (rank_of e.0) n) xs (Err i)) is parted) }
+  searched (Ok i) wanted is within equal = record { found = found_at i within (λ d. subst (λ n. nat_cmp (rank_of (get_or xs i d).0) n ≡ Equal) is (equal d)); absent = tt }
+  searched (Err i) wanted is within parted = record { found = tt; absent = gap_at i within (subst (λ n. IsBinarySearchResult (λ e. nat_cmp (rank_of e.0) n) xs (Err i)) is parted) }
 
--- ---- what is at the place
+-- ---- what is at the index
 
-module _ (es : List TableEntry) (sorted : IsSorted es) (c : Capability) where
+module _ (es : List Mention) (sorted : IsSorted es) (c : Capability) where
   rank_here : (i : ℕ) → IsAt es c i → rank_at es i ≡ rank_of c
-  rank_here i at = let e : TableEntry = (c, content_true) in rank_read es i e at.in_range ∙ ap rank_of (at.is_here e)
+  rank_here i at = let e : Mention = (c, content_true) in rank_read es i e at.in_range ∙ ap rank_of (at.is_here e)
 
   pub elsewhere : (i : ℕ) → IsAt es c i → Elsewhere es c i
   elsewhere i at j e apart within same =
@@ -96,7 +96,7 @@ module _ (es : List TableEntry) (sorted : IsSorted es) (c : Capability) where
       ]
 
 -- what is said of one capability and of the others
-pub sets_only : (old new : List TableEntry) (c : Capability) (o : Option Content) → Says old new c o → SetsOnly old new c o
+pub sets_only : (old new : List Mention) (c : Capability) (o : Option Content) → Says old new c o → SetsOnly old new c o
 sets_only old new c o says = record {
   this_one = says c ∙ ap (λ b. if b then o else contents old c) (same_from_one c c refl);
   others = λ d other. says d ∙ ap (λ b. if b then o else contents old d) (test_from_other c d (λ e. other (sym e)));
@@ -115,7 +115,7 @@ map-remove f [] (suc i) = refl
 map-remove f (y ∷ ys) zero = refl
 map-remove f (y ∷ ys) (suc i) = ap (λ t. f y ∷ t) (map-remove f ys i)
 
--- numbers that rise still rise after an edit in its place
+-- numbers that rise still rise after an edit that keeps the order
 abbrev Rise : List ℕ → Type 0
 Rise l = (i j : ℕ) → i < j → j < length l → get_or l i 0 < get_or l j 0
 
@@ -136,23 +136,23 @@ rise-remove l at rises within i j lt in_range =
     let above : (k : ℕ) → at ≤ k → get_or new k 0 ≡ get_or l (k + 1) 0 = λ k high. get_or-remove_above l at 0 k high within in
     grind (arith, below i, above i, below j, above j, rises i j, rises i (j + 1), rises (i + 1) (j + 1))
 
-abbrev IsGood : TableEntry → Type 0
+abbrev IsGood : Mention → Type 0
 IsGood e = IsCapability e.0 × Agrees e.0 e.1
 
-pub sorted-set : (es : List TableEntry) (c : Capability) (v : Content) (i : ℕ) → IsSorted es → IsAt es c i → IsCapability c → Agrees c v → IsSorted (set es i (c, v))
+pub sorted-set : (es : List Mention) (c : Capability) (v : Content) (i : ℕ) → IsSorted es → IsAt es c i → IsCapability c → Agrees c v → IsSorted (set es i (c, v))
 sorted-set es c v i sorted at valid agrees =
-    let f : TableEntry → ℕ = λ e. rank_of e.0 in
-    let e : TableEntry = (c, v) in
+    let f : Mention → ℕ = λ e. rank_of e.0 in
+    let e : Mention = (c, v) in
     let same : map f (set es i e) ≡ map f es = map-set_same f es i e e (ap rank_of (sym (at.is_here e))) in
     record {
       rises = λ j k lt within. rw same (sorted.rises j k lt (rw length-set at within));
       agree = All-set IsGood es i e (valid, agrees) sorted.agree;
     }
 
-pub sorted-insert : (es : List TableEntry) (c : Capability) (v : Content) (i : ℕ) → IsSorted es → IsGapFor es c i → IsCapability c → Agrees c v → IsSorted (insert es i (c, v))
+pub sorted-insert : (es : List Mention) (c : Capability) (v : Content) (i : ℕ) → IsSorted es → IsGapFor es c i → IsCapability c → Agrees c v → IsSorted (insert es i (c, v))
 sorted-insert es c v i sorted gap valid agrees =
-    let f : TableEntry → ℕ = λ e. rank_of e.0 in
-    let e : TableEntry = (c, v) in
+    let f : Mention → ℕ = λ e. rank_of e.0 in
+    let e : Mention = (c, v) in
     let same : map f (insert es i e) ≡ insert (map f es) i (f e) = map-insert f es i e in
     let long : length (map f es) ≡ length es = length-map es f in
     let risen = rise-insert (map f es) i (f e) (λ j k lt within. sorted.rises j k lt (omega arith)) (rw long gap.in_range) gap.before (λ j high within. gap.after j high (omega arith)) in
@@ -161,9 +161,9 @@ sorted-insert es c v i sorted gap valid agrees =
       agree = All-append IsGood (take i es) (e ∷ drop i es) (All-take IsGood i es sorted.agree) (All-cons IsGood e (drop i es) (valid, agrees) (All-drop IsGood i es sorted.agree));
     }
 
-pub sorted-remove : (es : List TableEntry) (i : ℕ) → IsSorted es → i < length es → IsSorted (remove es i)
+pub sorted-remove : (es : List Mention) (i : ℕ) → IsSorted es → i < length es → IsSorted (remove es i)
 sorted-remove es i sorted within =
-    let f : TableEntry → ℕ = λ e. rank_of e.0 in
+    let f : Mention → ℕ = λ e. rank_of e.0 in
     let same : map f (remove es i) ≡ remove (map f es) i = map-remove f es i in
     let long : length (map f es) ≡ length es = length-map es f in
     let risen = rise-remove (map f es) i (λ j k lt l. sorted.rises j k lt (omega arith)) (rw long within) in
@@ -174,7 +174,7 @@ sorted-remove es i sorted within =
 
 -- ---- where a search ends, of what the entries were made of
 
-abbrev entry_of : Capability × Value → TableEntry
+abbrev entry_of : Capability × Value → Mention
 entry_of e = (e.0, content_of e.1)
 
 module _ (xs : List (Capability × Value)) (sorted : IsSorted (entries_of xs)) (c : Capability) where
@@ -202,7 +202,7 @@ module _ (xs : List (Capability × Value)) (sorted : IsSorted (entries_of xs)) (
 
     pub sets-written : IsAt (entries_of xs) c i → SetsOnly (entries_of xs) (entries_of (set xs i (c, v))) c (Some (content_of v))
     sets-written at =
-        let e : TableEntry = (c, content_of v) in
+        let e : Mention = (c, content_of v) in
         subst (λ es. SetsOnly (entries_of xs) es c (Some (content_of v))) (sym written)
         (sets_only _ _ c _ (says-set (entries_of xs) c (content_of v) i e at.in_range (at.is_here e) (elsewhere (entries_of xs) sorted c i at)))
 
@@ -223,7 +223,7 @@ module _ (xs : List (Capability × Value)) (sorted : IsSorted (entries_of xs)) (
 
     pub sets-taken : SetsOnly (entries_of xs) (entries_of (remove xs i)) c None
     sets-taken =
-        let e : TableEntry = (c, content_true) in
+        let e : Mention = (c, content_true) in
         subst (λ es. SetsOnly (entries_of xs) es c None) (sym taken)
         (sets_only _ _ c _ (says-remove (entries_of xs) c i e at.in_range (at.is_here e) (elsewhere (entries_of xs) sorted c i at)))
 

@@ -1,9 +1,9 @@
--- the search compares the place of each entry among all capabilities
+-- the search compares the rank of each entry's capability
 use Rattle.std.proofs.Common.{rules}
 use Rattle.std.proofs.lemmas.List.Sorted.{answers_always}
 use Rattle.ti_layout.specs.Values.{rank_of}
-use Rattle.ti_layout.proofs.Places.{searched}
-use Rattle.ti_layout.proofs.values.place.Goals as goal
+use Rattle.ti_layout.proofs.Searched.{searched}
+use Rattle.ti_layout.proofs.values.search.Goals as goal
 
 pub returns-clause-found : goal.returns-clause-found
 returns-clause-found c =
