@@ -89,6 +89,7 @@ impl<'a> View<'a> {
     }
 
     /// What the entry has of a capability; `None` if it is absent or cancelled.
+    // (inlined, since most callers know the kind, so that the other two cases fold away)
     #[inline(always)]
     pub fn get(&self, cap: Cap) -> Option<Content<'a>>
         ensures { option_map plain_content result ≡ view_contents self.now cap }

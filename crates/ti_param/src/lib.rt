@@ -17,6 +17,9 @@
 //! and `specs/Meaning.antt` what a tree does. `one_code` and `one_reading` are laws of these.
 #![tactic(auto)]
 
+// What reads, judges or runs one code is marked `inline(always)`. By callgrind a format takes 2.9
+// times the instructions if each code is read and run by calls.
+
 mod acceptor;
 mod arithmetic;
 mod codes;
