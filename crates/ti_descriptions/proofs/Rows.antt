@@ -43,28 +43,41 @@ fifth = map (λ r. told r.0.now r.1.now r.2.now) PART_5
 abbrev sixth : List Described
 sixth = map (λ r. told r.0.now r.1.now r.2.now) PART_6
 
+-- the parts before a part
+abbrev first_two : List Described
+first_two = first ++ second
+
+abbrev first_three : List Described
+first_three = first ++ second ++ third
+
+abbrev first_four : List Described
+first_four = first ++ second ++ third ++ fourth
+
+abbrev first_five : List Described
+first_five = first ++ second ++ third ++ fourth ++ fifth
+
 -- the row at a place of a part, past the parts before it
 
 pub in_part_1 : (index place : ℕ) (x : Described) → index ≡ place → slice_get first place ≡ Some x → slice_get (rows Text) index ≡ Some x
 unfolding rows
-in_part_1 index place x at h = earlier (first ++ second ++ third ++ fourth ++ fifth) sixth index x (earlier (first ++ second ++ third ++ fourth) fifth index x (earlier (first ++ second ++ third) fourth index x (earlier (first ++ second) third index x (earlier first second index x (ap (λ (n : ℕ). slice_get first n) at ∙ h)))))
+in_part_1 index place x at h = earlier first_five sixth index x (earlier first_four fifth index x (earlier first_three fourth index x (earlier first_two third index x (earlier first second index x (ap (λ (n : ℕ). slice_get first n) at ∙ h)))))
 
 pub in_part_2 : (index place : ℕ) (x : Described) → index ≡ 69 + place → slice_get second place ≡ Some x → slice_get (rows Text) index ≡ Some x
 unfolding rows
-in_part_2 index place x at h = earlier (first ++ second ++ third ++ fourth ++ fifth) sixth index x (earlier (first ++ second ++ third ++ fourth) fifth index x (earlier (first ++ second ++ third) fourth index x (earlier (first ++ second) third index x (later first second place index at ∙ h))))
+in_part_2 index place x at h = earlier first_five sixth index x (earlier first_four fifth index x (earlier first_three fourth index x (earlier first_two third index x (later first second place index at ∙ h))))
 
 pub in_part_3 : (index place : ℕ) (x : Described) → index ≡ 138 + place → slice_get third place ≡ Some x → slice_get (rows Text) index ≡ Some x
 unfolding rows
-in_part_3 index place x at h = earlier (first ++ second ++ third ++ fourth ++ fifth) sixth index x (earlier (first ++ second ++ third ++ fourth) fifth index x (earlier (first ++ second ++ third) fourth index x (later (first ++ second) third place index at ∙ h)))
+in_part_3 index place x at h = earlier first_five sixth index x (earlier first_four fifth index x (earlier first_three fourth index x (later first_two third place index at ∙ h)))
 
 pub in_part_4 : (index place : ℕ) (x : Described) → index ≡ 207 + place → slice_get fourth place ≡ Some x → slice_get (rows Text) index ≡ Some x
 unfolding rows
-in_part_4 index place x at h = earlier (first ++ second ++ third ++ fourth ++ fifth) sixth index x (earlier (first ++ second ++ third ++ fourth) fifth index x (later (first ++ second ++ third) fourth place index at ∙ h))
+in_part_4 index place x at h = earlier first_five sixth index x (earlier first_four fifth index x (later first_three fourth place index at ∙ h))
 
 pub in_part_5 : (index place : ℕ) (x : Described) → index ≡ 276 + place → slice_get fifth place ≡ Some x → slice_get (rows Text) index ≡ Some x
 unfolding rows
-in_part_5 index place x at h = earlier (first ++ second ++ third ++ fourth ++ fifth) sixth index x (later (first ++ second ++ third ++ fourth) fifth place index at ∙ h)
+in_part_5 index place x at h = earlier first_five sixth index x (later first_four fifth place index at ∙ h)
 
 pub in_part_6 : (index place : ℕ) (x : Described) → index ≡ 345 + place → slice_get sixth place ≡ Some x → slice_get (rows Text) index ≡ Some x
 unfolding rows
-in_part_6 index place x at h = later (first ++ second ++ third ++ fourth ++ fifth) sixth place index at ∙ h
+in_part_6 index place x at h = later first_five sixth place index at ∙ h

@@ -4,9 +4,10 @@ ghost use Rattle.serde_json.specs.Data.{item, no_items};
 ghost use Rattle.serde_json.specs.View.{items_view, view};
 ghost use Rattle.ti_messages.specs.Shapes.{action_data, hover_data, item_data, item_number, list_data, location_data, plain_data, symbol_data, text_edit_data, workspace_edit_data};
 
+use crate::objects::{with_number, with_text, with_value};
 use crate::places::Range;
 use crate::writing::range_value;
-use serde_json::{Value, json};
+use serde_json::{Map, Value, json};
 use std::alloc::{AllocError, Global};
 
 /// What an item of a completion stands for ("CompletionItemKind").
@@ -54,9 +55,13 @@ pub fn symbol_value(
 ) -> Result<Value, AllocError>
     ensures { IfOk result (λ v. view v ≡ symbol_data name.now range selection) }
 {
+    let members = with_number(alloc, Map::new(alloc), "kind", 23)?;
+    let members = with_text(alloc, members, "name", name)?;
     let range = range_value(alloc, range)?;
+    let members = with_value(alloc, members, "range", range)?;
     let selection = range_value(alloc, selection)?;
-    json!(in alloc; {"kind": 23_u32, "name": name, "range": range, "selectionRange": selection})
+    let members = with_value(alloc, members, "selectionRange", selection)?;
+    Ok(Value::Object(members))
 }
 
 // A text without markup ("MarkupContent").
@@ -128,7 +133,10 @@ pub fn action_value(
     ensures { IfOk result (λ v. view v ≡ action_data uri.now title.now range text.now) }
 {
     let edit = one_edit_value(alloc, uri, range, text)?;
-    json!(in alloc; {"edit": edit, "kind": "quickfix", "title": title})
+    let members = with_value(alloc, Map::new(alloc), "edit", edit)?;
+    let members = with_text(alloc, members, "kind", "quickfix")?;
+    let members = with_text(alloc, members, "title", title)?;
+    Ok(Value::Object(members))
 }
 
 /// An item of a completion ("CompletionItem"): its label is the text that it puts in place of the
@@ -146,14 +154,17 @@ pub fn item_value(
 ) -> Result<Value, AllocError>
     ensures { IfOk result (λ v. view v ≡ item_data kind label.now detail.now (option_map (λ text. text.now) documentation.entry) range) }
 {
+    let members = with_text(alloc, Map::new(alloc), "detail", detail)?;
+    let members = with_text(alloc, members, "filterText", label)?;
+    let members = with_number(alloc, members, "kind", kind.number())?;
+    let members = with_text(alloc, members, "label", label)?;
     let edit = text_edit_value(alloc, label, range)?;
-    let kind = kind.number();
+    let members = with_value(alloc, members, "textEdit", edit)?;
     match documentation {
-        None => {
-            json!(in alloc; {"detail": detail, "filterText": label, "kind": kind, "label": label, "textEdit": edit})
-        }
+        None => Ok(Value::Object(members)),
         Some(text) => {
-            json!(in alloc; {"detail": detail, "documentation": text, "filterText": label, "kind": kind, "label": label, "textEdit": edit})
+            let members = with_text(alloc, members, "documentation", text)?;
+            Ok(Value::Object(members))
         }
     }
 }

@@ -3,7 +3,7 @@
 //! - `places`: positions and ranges in a text
 //! - `failures`: why a request is refused
 //! - `writing`: the values that a server sends; `answers` has those that answer questions about a
-//!   document
+//!   document, and `objects` makes the larger ones
 //! - `messages`: what a client asks for or tells; `reading` reads it from values, with `members`
 //!   and `asking`
 //! - `frames`: a value's text after a header, read and written
@@ -15,6 +15,7 @@ pub mod failures;
 pub mod frames;
 mod members;
 pub mod messages;
+mod objects;
 pub mod places;
 pub mod reading;
 pub mod writing;

@@ -3,12 +3,14 @@ ghost use Rattle.std.specs.Prelude.{◌≡◌, IfOk, option_map, unwrap_or};
 ghost use Rattle.serde_json.specs.Data.{null};
 ghost use Rattle.serde_json.specs.View.{items_view, view};
 ghost use Rattle.ti_messages.specs.Views.{reply_view};
-ghost use Rattle.ti_messages.specs.Shapes.{action_options_data, capabilities_data, completion_options_data, diagnostic_data, failure_data, initialized_data, notification_data, position_data, publish_data, published_data, range_data, refusal_data, rename_options_data, reply_data, response_data, server_data, severity_number, sync_data};
+ghost use Rattle.ti_messages.specs.Shapes.{action_options_data, capabilities_data, completion_options_data, initialized_data, rename_options_data, server_data, sync_data};
+ghost use Rattle.ti_messages.specs.Shapes.{diagnostic_data, failure_data, notification_data, position_data, publish_data, published_data, range_data, refusal_data, reply_data, response_data, severity_number};
 
 use crate::failures::Failure;
 use crate::messages::Reply;
+use crate::objects::{with_number, with_text, with_value};
 use crate::places::{Position, Range};
-use serde_json::{Value, json};
+use serde_json::{Map, Value, json};
 use std::alloc::{AllocError, Global};
 
 /// How grave a diagnostic is.
@@ -68,8 +70,12 @@ pub fn diagnostic_value(
     ensures { IfOk result (λ v. view v ≡ diagnostic_data range severity code.now message.now) }
 {
     let range = range_value(alloc, range)?;
-    let severity = severity.number();
-    json!(in alloc; {"code": code, "message": message, "range": range, "severity": severity, "source": "ti"})
+    let members = with_value(alloc, Map::new(alloc), "range", range)?;
+    let members = with_text(alloc, members, "code", code)?;
+    let members = with_text(alloc, members, "message", message)?;
+    let members = with_number(alloc, members, "severity", severity.number())?;
+    let members = with_text(alloc, members, "source", "ti")?;
+    Ok(Value::Object(members))
 }
 
 // A notification ("Notification Message").
@@ -155,8 +161,10 @@ pub fn refusal_value(
     ensures { IfOk result (λ v. view v ≡ refusal_data (option_map (λ d. view d.now) id.entry) failure) }
 {
     let error = failure_value(alloc, failure)?;
-    let id = id_or_null(alloc, id)?;
-    json!(in alloc; {"error": error, "id": id, "jsonrpc": "2.0"})
+    let members = with_value(alloc, Map::new(alloc), "error", error)?;
+    let members = with_value(alloc, members, "id", id_or_null(alloc, id)?)?;
+    let members = with_text(alloc, members, "jsonrpc", "2.0")?;
+    Ok(Value::Object(members))
 }
 
 /// The answer to a question about a document, or its refusal ("Response Message"), with the id of
@@ -206,10 +214,19 @@ fn capabilities_value(alloc: Global) -> Result<Value, AllocError>
     ensures { IfOk result (λ v. view v ≡ capabilities_data) }
 {
     let actions = action_options_value(alloc)?;
+    let members = with_value(alloc, Map::new(alloc), "codeActionProvider", actions)?;
     let completions = completion_options_value(alloc)?;
+    let members = with_value(alloc, members, "completionProvider", completions)?;
+    let members = with_value(alloc, members, "definitionProvider", Value::Bool(true))?;
+    let members = with_value(alloc, members, "documentSymbolProvider", Value::Bool(true))?;
+    let members = with_value(alloc, members, "hoverProvider", Value::Bool(true))?;
+    let members = with_text(alloc, members, "positionEncoding", "utf-16")?;
+    let members = with_value(alloc, members, "referencesProvider", Value::Bool(true))?;
     let renames = rename_options_value(alloc)?;
+    let members = with_value(alloc, members, "renameProvider", renames)?;
     let sync = sync_value(alloc)?;
-    json!(in alloc; {"codeActionProvider": actions, "completionProvider": completions, "definitionProvider": true, "documentSymbolProvider": true, "hoverProvider": true, "positionEncoding": "utf-16", "referencesProvider": true, "renameProvider": renames, "textDocumentSync": sync})
+    let members = with_value(alloc, members, "textDocumentSync", sync)?;
+    Ok(Value::Object(members))
 }
 
 // What the server is.

@@ -50,12 +50,14 @@ pub serves_more : (places : Places) (says : Sayings) (given mid left before betw
 serves_more places says given mid left before between after start next end status turn going rest =
     let first = replied places start turn.value in
     let now : Serves places says mid left between after first.0 end status = subst (λ (s : State). Serves places says mid left between after s end status) turn.end_is rest in
+    let others = replies_to places first.0 now.values in
+    let both = Appends-trans before between after (frame_text (option_map (answer_data says) first.1)) (answers_text says others) turn.written now.written in
     record {
       values = turn.value ∷ now.values;
       bytes = turn.bytes ++ now.bytes;
       frames = (turn.bytes, now.bytes, refl, turn.frame, now.frames);
       read = Consumes-trans given mid left turn.bytes now.bytes turn.read now.read;
-      written = subst (λ (text : List ℕ). Appends before after text) (sym (answers_text-more says first.1 (replies_to places first.0 now.values))) (Appends-trans before between after (frame_text (option_map (answer_data says) first.1)) (answers_text says (replies_to places first.0 now.values)) turn.written now.written);
+      written = subst (λ (text : List ℕ). Appends before after text) (sym (answers_text-more says first.1 others)) both;
       end_is = now.end_is;
       ended = (going, now.ended);
     }

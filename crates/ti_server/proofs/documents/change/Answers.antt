@@ -18,6 +18,11 @@ pub returns-in_ok-shown-in-Some : goal.returns-in_ok-shown-in-Some
 returns-in_ok-shown-in-Some g c =
     let place = rw c.deref.ensures.value at c.in-Some.ensures.place in
     let f = open_view g.D.Source.text_of in
-    let is : f c.index_mut.result.now ≡ get_or (documents_view g.D.Source.text_of c.args.documents.now.items) c.in-Some.at (f c.index_mut.result.now) = ap f c.index_mut.ensures.value ∙ sym (get_or-map f c.args.documents.now.items c.in-Some.at c.index_mut.result.now) in
-    let h = change_found (with_edits g.D.Source.place_in c.args.version (map edit_view c.args.changes.now)) (documents_view g.D.Source.text_of c.args.documents.now.items) c.args.uri.now c.in-Some.at place (f c.index_mut.result.now) is in
-    (map-set f c.args.documents.now.items c.in-Some.at c.change_one.new.document ∙ (ap (λ (d : Open). set (documents_view g.D.Source.text_of c.args.documents.now.items) c.in-Some.at d) c.in_ok-shown-in-Some.ensures.document ∙ sym h.0), rw h.1 (ap (λ (d : Data). Some d) c.in_ok-shown-in-Some.ensures.shown))
+    let at = c.in-Some.at in
+    let documents = c.args.documents.now.items in
+    let seen = documents_view g.D.Source.text_of documents in
+    let old = f c.index_mut.result.now in
+    let is : old ≡ get_or seen at old = ap f c.index_mut.ensures.value ∙ sym (get_or-map f documents at c.index_mut.result.now) in
+    let h = change_found (with_edits g.D.Source.place_in c.args.version (map edit_view c.args.changes.now)) seen c.args.uri.now at place old is in
+    let changed = ap (λ (d : Open). set seen at d) c.in_ok-shown-in-Some.ensures.document in
+    (map-set f documents at c.change_one.new.document ∙ (changed ∙ sym h.0), rw h.1 (ap (λ (d : Data). Some d) c.in_ok-shown-in-Some.ensures.shown))
