@@ -89,15 +89,28 @@ impl<'a> View<'a> {
     }
 
     /// What the entry has of a capability; `None` if it is absent or cancelled.
-    // (inlined, since most callers know the kind, so that the other two cases fold away)
+    // (inlined, since most callers know the kind, so that the other two cases fold away; written
+    // out, since by callgrind a listing takes half the instructions that it would by `?`)
     #[inline(always)]
     pub fn get(&self, cap: Cap) -> Option<Content<'a>>
         ensures { option_map plain_content result ≡ view_contents self.now cap }
     {
         match cap.kind() {
-            Kind::Flag => self.flag(cap).then_some(Content::True),
-            Kind::Number => Some(Content::Number(self.number(cap)?)),
-            Kind::Text => Some(Content::Text(self.text(cap)?)),
+            Kind::Flag => {
+                if self.flag(cap) {
+                    Some(Content::True)
+                } else {
+                    None
+                }
+            }
+            Kind::Number => match self.number(cap) {
+                Some(number) => Some(Content::Number(number)),
+                None => None,
+            },
+            Kind::Text => match self.text(cap) {
+                Some(text) => Some(Content::Text(text)),
+                None => None,
+            },
         }
     }
 
