@@ -19,16 +19,16 @@ use Rattle.ti_slots.proofs.Owners.{block_of_slot}
 use Rattle.ti_base.proofs.SlotLists.{blocks_read}
 
 -- the bytes that a state has
-abbrev pub shown_entry : EntryState → Option (List ℕ)
-shown_entry unresolved = None
-shown_entry oversized = None
-shown_entry (written bytes) = Some bytes
+abbrev pub entry_seen : EntryState → Option (List ℕ)
+entry_seen unresolved = None
+entry_seen oversized = None
+entry_seen (written bytes) = Some bytes
 
-shown_if : (large : Bool) (i : List ℕ) → shown_entry (cond large oversized (written i)) ≡ cond large None (Some i)
+shown_if : (large : Bool) (i : List ℕ) → entry_seen (cond large oversized (written i)) ≡ cond large None (Some i)
 shown_if true i = refl
 shown_if false i = refl
 
-shown_with : (b : Reading) (o : Option (List Mention)) → shown_entry (state_with b o) ≡ option_and_then (entry_of b) o
+shown_with : (b : Reading) (o : Option (List Mention)) → entry_seen (state_with b o) ≡ option_and_then (entry_of b) o
 shown_with b None = refl
 shown_with b (Some ms) = shown_if (is_too_large b ms) (image_of b ms)
 
@@ -47,16 +47,16 @@ table_of_slot slots at slot block h e there =
     subst P same (subst Q (blocks_read slots h.read) (h.settled at slot e).table)
 
 -- the entry that a slot holds is the compiled one
-pub entry_of_slot : (slots : Slots) (at : ℕ) (slot : Slot) → AreKept slots → slice_get (slots_of slots) at ≡ Some slot → shown_entry (state_seen slot.settled.state) ≡ compiled (slot_texts slots) at
+pub entry_of_slot : (slots : Slots) (at : ℕ) (slot : Slot) → AreKept slots → slice_get (slots_of slots) at ≡ Some slot → entry_seen (state_seen slot.settled.state) ≡ compiled (slot_texts slots) at
 entry_of_slot slots at slot h e =
     let block = reading_of slot.block in
     let read : slice_get (readings (slot_texts slots)) at ≡ Some block = block_read slots at slot h e in
     let state : state_seen slot.settled.state ≡ state_of (readings (slot_texts slots)) block = (h.settled at slot e).state ∙ ap (λ bs. state_of bs block) (blocks_read slots h.read) in
     let there : compiled (slot_texts slots) at ≡ entry (readings (slot_texts slots)) block = rw read refl in
-    ap shown_entry state ∙ (shown_with block (expansion (readings (slot_texts slots)) block) ∙ sym there)
+    ap entry_seen state ∙ (shown_with block (expansion (readings (slot_texts slots)) block) ∙ sym there)
 
 -- what is no entry shows none
-pub shown_other : (e : State) → ((entry : BlockEntry) → e ≡ s.Compiled entry → ⊥) → None ≡ shown_entry (state_seen e)
+pub shown_other : (e : State) → ((entry : BlockEntry) → e ≡ s.Compiled entry → ⊥) → None ≡ entry_seen (state_seen e)
 shown_other s.Unresolved h = refl
 shown_other (s.TooLarge table) h = refl
 shown_other (s.Compiled entry) h = absurd (h entry refl)

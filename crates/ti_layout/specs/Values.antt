@@ -30,11 +30,11 @@ content_of (v.Text t) = content_text (rc_slice_items t)
 content_of Cancelled = content_cancelled
 
 -- what a content says whose string is elsewhere, as plain data
-abbrev pub plain_content : Lent → Content
-plain_content lent.True = content_true
-plain_content (lent.Number n) = content_number n
-plain_content (lent.Text t) = content_text t.now
-plain_content lent.Cancelled = content_cancelled
+abbrev pub content_seen : Lent → Content
+content_seen lent.True = content_true
+content_seen (lent.Number n) = content_number n
+content_seen (lent.Text t) = content_text t.now
+content_seen lent.Cancelled = content_cancelled
 
 -- the capability may have the content: the kinds agree, a number is no greater than one may be, a
 -- string has no NUL

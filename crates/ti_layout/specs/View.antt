@@ -19,8 +19,8 @@ pub record Entry : Type 0 where
   pub contents : Contents
 
 -- the entry that a view shows
-abbrev pub shown_entry : View → Entry
-shown_entry view = record { names = names_of view; contents = view_contents view }
+abbrev pub entry_seen : View → Entry
+entry_seen view = record { names = names_of view; contents = view_contents view }
 
 -- whether a boolean is set
 abbrev pub shown_flag : Option Content → Bool

@@ -6,7 +6,7 @@ ghost use Rattle.ti_caps.specs.declared.capability.Kind.TheVariants.{Flag, Numbe
 ghost use Rattle.ti_layout.specs.Layout.{first_negative};
 ghost use Rattle.ti_layout.specs.declared.layout.Format.TheVariants.{Legacy};
 ghost use Rattle.ti_layout.specs.Reading.{Reads, FailsToRead};
-ghost use Rattle.ti_layout.specs.Values.{plain_content};
+ghost use Rattle.ti_layout.specs.Values.{content_seen};
 ghost use Rattle.ti_layout.specs.inside.View.{OffsetsEnd};
 
 use crate::fault::ReadError;
@@ -93,7 +93,7 @@ impl<'a> View<'a> {
     // out, since by callgrind a listing takes half the instructions that it would by `?`)
     #[inline(always)]
     pub fn get(&self, cap: Cap) -> Option<Content<'a>>
-        ensures { option_map plain_content result ≡ view_contents self.now cap }
+        ensures { option_map content_seen result ≡ view_contents self.now cap }
     {
         match cap.kind() {
             Kind::Flag => {

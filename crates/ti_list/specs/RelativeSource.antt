@@ -7,7 +7,7 @@ use Rattle.std.specs.Str.{bytes_eq}
 use Rattle.ti_text.specs.Ascii as ascii
 use Rattle.ti_source.specs.Reading.{said_import}
 use Rattle.ti_layout.specs.declared.view.View.{View}
-use Rattle.ti_layout.specs.View.{Entry, shown_entry}
+use Rattle.ti_layout.specs.View.{Entry, entry_seen}
 use Rattle.ti_layout.specs.Values.{Content, content_true, content_number, content_text, content_cancelled, Contents}
 use Rattle.ti_list.specs.declared.layout.Layout.{Layout}
 use Rattle.ti_list.specs.Items.{item_text}
@@ -15,7 +15,7 @@ use Rattle.ti_list.specs.Listing.{source_lines, listing}
 
 -- entries in memory, as they are shown
 abbrev pub entries_shown : List View → List Entry
-entries_shown views = map (λ view. shown_entry view) views
+entries_shown views = map (λ view. entry_seen view) views
 
 -- the first name of a names field: all before the first `|`
 abbrev pub first_name : List ℕ → List ℕ

@@ -2,8 +2,8 @@
 ghost use Rattle.std.specs.Prelude.{◌≡◌, ◌++◌, option_map, IfOk, OnOk};
 ghost use Rattle.ti_list.specs.Comparison.{value_separator, common_row, compared_kind, comparison, differing_row};
 ghost use Rattle.ti_list.specs.Comparison.{kind_heading, neither_row, row, have_same, value_text};
-ghost use Rattle.ti_layout.specs.Values.{plain_content};
-ghost use Rattle.ti_layout.specs.View.{shown_entry};
+ghost use Rattle.ti_layout.specs.Values.{content_seen};
+ghost use Rattle.ti_layout.specs.View.{entry_seen};
 
 use crate::contents::same_content;
 use crate::layout::{Mode, Order};
@@ -17,7 +17,7 @@ use ti_spelling::push_escaped;
 // Appends what an entry has of a capability of the kind: `T` or `F`, a number, a string in quotes,
 // or `NULL` if it has none.
 fn push_value(out: &mut Vec<u8>, kind: Kind, content: Option<Content<'_>>) -> Result<(), AllocError>
-    ensures { OnOk result (out.new.items ≡ out.old.items ++ value_text kind (option_map plain_content content.entry)) }
+    ensures { OnOk result (out.new.items ≡ out.old.items ++ value_text kind (option_map content_seen content.entry)) }
 {
     match content {
         Some(Content::True) => out.extend_from_slice(b"T"),
@@ -38,7 +38,7 @@ fn push_value(out: &mut Vec<u8>, kind: Kind, content: Option<Content<'_>>) -> Re
 
 // Whether two entries have the same value of a capability, or neither has one.
 fn have_same(one: Option<Content<'_>>, other: Option<Content<'_>>) -> bool
-    ensures { result ≡ have_same (option_map plain_content one.entry) (option_map plain_content other.entry) }
+    ensures { result ≡ have_same (option_map content_seen one.entry) (option_map content_seen other.entry) }
 {
     match (one, other) {
         (None, None) => true,
@@ -64,7 +64,7 @@ fn push_differing(
     one: Option<Content<'_>>,
     other: Option<Content<'_>>,
 ) -> Result<(), AllocError>
-    ensures { OnOk result (out.new.items ≡ out.old.items ++ differing_row cap (option_map plain_content one.entry) (option_map plain_content other.entry)) }
+    ensures { OnOk result (out.new.items ≡ out.old.items ++ differing_row cap (option_map content_seen one.entry) (option_map content_seen other.entry)) }
 {
     out.extend_from_slice(b"\t")?;
     out.extend_from_slice(name(cap).as_bytes())?;
@@ -77,7 +77,7 @@ fn push_differing(
 
 // Appends the row of a capability whose values are equal.
 fn push_common(out: &mut Vec<u8>, cap: Cap, content: Option<Content<'_>>) -> Result<(), AllocError>
-    ensures { OnOk result (out.new.items ≡ out.old.items ++ common_row cap (option_map plain_content content.entry)) }
+    ensures { OnOk result (out.new.items ≡ out.old.items ++ common_row cap (option_map content_seen content.entry)) }
 {
     out.extend_from_slice(b"\t")?;
     out.extend_from_slice(name(cap).as_bytes())?;
@@ -103,7 +103,7 @@ fn push_row(
     one: Option<Content<'_>>,
     other: Option<Content<'_>>,
 ) -> Result<(), AllocError>
-    ensures { OnOk result (out.new.items ≡ out.old.items ++ row mode cap (option_map plain_content one.entry) (option_map plain_content other.entry)) }
+    ensures { OnOk result (out.new.items ≡ out.old.items ++ row mode cap (option_map content_seen one.entry) (option_map content_seen other.entry)) }
 {
     match mode {
         Mode::Differ if !have_same(one, other) => push_differing(out, cap, one, other),
@@ -133,7 +133,7 @@ fn push_kind(
     order: Order,
     kind: Kind,
 ) -> Result<(), AllocError>
-    ensures { OnOk result (out.new.items ≡ out.old.items ++ compared_kind (shown_entry one.now) (shown_entry other.now) mode order kind) }
+    ensures { OnOk result (out.new.items ≡ out.old.items ++ compared_kind (entry_seen one.now) (entry_seen other.now) mode order kind) }
 {
     out.extend_from_slice(kind_heading(kind))?;
     for place in 0..count(kind) {
@@ -156,7 +156,7 @@ pub fn compare(
     mode: Mode,
     order: Order,
 ) -> Result<Vec<u8>, AllocError>
-    ensures { IfOk result (λ text. text.items ≡ comparison (shown_entry one.now) (shown_entry other.now) mode order) }
+    ensures { IfOk result (λ text. text.items ≡ comparison (entry_seen one.now) (entry_seen other.now) mode order) }
 {
     let mut out = Vec::from_slice(alloc, b"comparing ")?;
     out.extend_from_slice(one.first_name())?;

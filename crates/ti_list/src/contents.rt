@@ -1,6 +1,6 @@
 //! How what an entry has of a capability differs from what others have of it.
 ghost use Rattle.std.specs.Prelude.{◌≡◌, option_map};
-ghost use Rattle.ti_layout.specs.Values.{plain_content};
+ghost use Rattle.ti_layout.specs.Values.{content_seen};
 ghost use Rattle.ti_list.specs.RelativeSource.{difference, first_of, same_content, entries_shown};
 
 use ti_caps::Cap;
@@ -9,7 +9,7 @@ use ti_layout::{Content, View};
 /// What the first of the entries that has the capability has of it.
 #[inline(always)]
 pub fn first_of<'a>(others: &[View<'a>], cap: Cap) -> Option<Content<'a>>
-    ensures { option_map plain_content result ≡ first_of (entries_shown others.now) cap }
+    ensures { option_map content_seen result ≡ first_of (entries_shown others.now) cap }
 {
     for other in others {
         if let Some(content) = other.get(cap) {
@@ -21,7 +21,7 @@ pub fn first_of<'a>(others: &[View<'a>], cap: Cap) -> Option<Content<'a>>
 
 /// Whether two contents are equal.
 pub fn same_content(one: Content<'_>, other: Content<'_>) -> bool
-    ensures { result ≡ same_content (plain_content one.entry) (plain_content other.entry) }
+    ensures { result ≡ same_content (content_seen one.entry) (content_seen other.entry) }
 {
     match (one, other) {
         (Content::True, Content::True) | (Content::Cancelled, Content::Cancelled) => true,
@@ -34,7 +34,7 @@ pub fn same_content(one: Content<'_>, other: Content<'_>) -> bool
 /// What a relative source says of a capability, given what the entry and the others have of it.
 #[inline(always)]
 pub fn difference<'a>(own: Option<Content<'a>>, theirs: Option<Content<'_>>) -> Option<Content<'a>>
-    ensures { option_map plain_content result ≡ difference (option_map plain_content own.entry) (option_map plain_content theirs.entry) }
+    ensures { option_map content_seen result ≡ difference (option_map content_seen own.entry) (option_map content_seen theirs.entry) }
 {
     match (own, theirs) {
         (None, None) => None,

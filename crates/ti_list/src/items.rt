@@ -2,7 +2,7 @@
 ghost use Rattle.std.specs.Prelude.{◌≡◌, ◌+◌, ◌<◌, ◌≤◌, ◌++◌, ◌∷◌, vec_len, vec_capacity};
 ghost use Rattle.std.specs.Fmt.{decimal};
 ghost use Rattle.ti_text.specs.Ascii as ascii;
-ghost use Rattle.ti_layout.specs.Values.{plain_content};
+ghost use Rattle.ti_layout.specs.Values.{content_seen};
 ghost use Rattle.ti_list.specs.inside.Contents.{said_for, FitsStringTable};
 ghost use Rattle.ti_list.specs.Items.{item_text};
 ghost use Rattle.ti_list.specs.inside.Room.{item_room};
@@ -15,8 +15,8 @@ use ti_text::room::append_reserved;
 
 /// Enough room for the item, with its comma and what is before it.
 pub fn item_room(cap: Cap, content: Content<'_>) -> usize
-    requires { FitsStringTable (plain_content content) }
-    ensures { result ≡ item_room (said_for cap (plain_content content.entry)) }
+    requires { FitsStringTable (content_seen content) }
+    ensures { result ≡ item_room (said_for cap (content_seen content.entry)) }
 {
     let name = name(cap).len();
     match content {
@@ -29,9 +29,9 @@ pub fn item_room(cap: Cap, content: Content<'_>) -> usize
 
 /// Appends the item. There is such room.
 pub fn write_item(out: &mut Vec<u8>, cap: Cap, content: Content<'_>)
-    requires { vec_len out.old + item_room (said_for cap (plain_content content)) ≤ vec_capacity out.old + 3 }
-    ensures items { out.new.items ≡ out.old.items ++ item_text (said_for cap (plain_content content.entry)) }
-    ensures len { vec_len out.new + 3 ≤ vec_len out.old + item_room (said_for cap (plain_content content.entry)) }
+    requires { vec_len out.old + item_room (said_for cap (content_seen content)) ≤ vec_capacity out.old + 3 }
+    ensures items { out.new.items ≡ out.old.items ++ item_text (said_for cap (content_seen content.entry)) }
+    ensures len { vec_len out.new + 3 ≤ vec_len out.old + item_room (said_for cap (content_seen content.entry)) }
     ensures capacity { vec_capacity out.old ≤ vec_capacity out.new }
 {
     append_reserved(out, name(cap).as_bytes());

@@ -1,8 +1,8 @@
 //! Writes an entry as source text.
 ghost use Rattle.std.specs.Prelude.{◌≡◌, ℕ, ◌+◌, ◌≤◌, ◌++◌, ◌∷◌, [], List, option_map, IfOk, IfSome, ◌<◌, vec_len, vec_capacity};
 ghost use Rattle.ti_text.specs.Ascii as ascii;
-ghost use Rattle.ti_layout.specs.Values.{plain_content};
-ghost use Rattle.ti_layout.specs.View.{view_contents, names_of, shown_entry};
+ghost use Rattle.ti_layout.specs.Values.{content_seen};
+ghost use Rattle.ti_layout.specs.View.{view_contents, names_of, entry_seen};
 ghost use Rattle.ti_source.specs.Reading.{Said};
 ghost use Rattle.ti_list.specs.inside.Contents.{said_for, FitsStringTable};
 ghost use Rattle.ti_list.specs.inside.Listing.{flow, further_before};
@@ -26,20 +26,20 @@ const TAB: usize = 8;
 // What an entry's source says of a capability if it uses the others.
 #[inline(always)]
 fn said_of<'a>(view: &View<'a>, others: &[View<'a>], cap: Cap) -> Option<Content<'a>>
-    ensures is { option_map plain_content result ≡ differing_contents (view_contents view.now) (entries_shown others.now) cap }
-    ensures short { IfSome result (λ c. FitsStringTable (plain_content c)) }
+    ensures is { option_map content_seen result ≡ differing_contents (view_contents view.now) (entries_shown others.now) cap }
+    ensures short { IfSome result (λ c. FitsStringTable (content_seen c)) }
 {
     difference(view.get(cap), first_of(others, cap))
 }
 
 // Appends an item with its comma on a new line, after a tab. Gives the columns that are then taken.
 fn write_below(out: &mut Vec<u8>, cap: Cap, content: Content<'_>) -> usize
-    requires short { FitsStringTable (plain_content content) }
-    requires room { vec_len out.old + item_room (said_for cap (plain_content content)) ≤ vec_capacity out.old }
+    requires short { FitsStringTable (content_seen content) }
+    requires room { vec_len out.old + item_room (said_for cap (content_seen content)) ≤ vec_capacity out.old }
     ensures items { out.new.items ≡ out.old.items
-        ++ ascii.newline ∷ ascii.tab ∷ item_text (said_for cap (plain_content content.entry)) ++ ascii.comma ∷ [] }
-    ensures column { result ≡ 8 + size_of (said_for cap (plain_content content.entry)) }
-    ensures len { vec_len out.new ≤ vec_len out.old + item_room (said_for cap (plain_content content.entry)) }
+        ++ ascii.newline ∷ ascii.tab ∷ item_text (said_for cap (content_seen content.entry)) ++ ascii.comma ∷ [] }
+    ensures column { result ≡ 8 + size_of (said_for cap (content_seen content.entry)) }
+    ensures len { vec_len out.new ≤ vec_len out.old + item_room (said_for cap (content_seen content.entry)) }
     ensures capacity { vec_capacity out.old ≤ vec_capacity out.new }
 {
     let start = out.len();
@@ -61,15 +61,15 @@ fn write_further(
     cap: Cap,
     content: Content<'_>,
 ) -> usize
-    requires short { FitsStringTable (plain_content content) }
-    requires room { vec_len out.old + item_room (said_for cap (plain_content content)) ≤ vec_capacity out.old }
-    ensures fits { taken + 1 + size_of (said_for cap (plain_content content.entry)) ≤ width
-        → (result ≡ taken + 1 + size_of (said_for cap (plain_content content.entry)))
-        × (out.new.items ≡ out.old.items ++ ascii.space ∷ item_text (said_for cap (plain_content content.entry)) ++ ascii.comma ∷ []) }
-    ensures breaks { width < taken + 1 + size_of (said_for cap (plain_content content.entry))
-        → (result ≡ 8 + size_of (said_for cap (plain_content content.entry)))
-        × (out.new.items ≡ out.old.items ++ ascii.newline ∷ ascii.tab ∷ item_text (said_for cap (plain_content content.entry)) ++ ascii.comma ∷ []) }
-    ensures len { vec_len out.new ≤ vec_len out.old + item_room (said_for cap (plain_content content.entry)) }
+    requires short { FitsStringTable (content_seen content) }
+    requires room { vec_len out.old + item_room (said_for cap (content_seen content)) ≤ vec_capacity out.old }
+    ensures fits { taken + 1 + size_of (said_for cap (content_seen content.entry)) ≤ width
+        → (result ≡ taken + 1 + size_of (said_for cap (content_seen content.entry)))
+        × (out.new.items ≡ out.old.items ++ ascii.space ∷ item_text (said_for cap (content_seen content.entry)) ++ ascii.comma ∷ []) }
+    ensures breaks { width < taken + 1 + size_of (said_for cap (content_seen content.entry))
+        → (result ≡ 8 + size_of (said_for cap (content_seen content.entry)))
+        × (out.new.items ≡ out.old.items ++ ascii.newline ∷ ascii.tab ∷ item_text (said_for cap (content_seen content.entry)) ++ ascii.comma ∷ []) }
+    ensures len { vec_len out.new ≤ vec_len out.old + item_room (said_for cap (content_seen content.entry)) }
     ensures capacity { vec_capacity out.old ≤ vec_capacity out.new }
 {
     let start = out.len();
@@ -95,12 +95,12 @@ fn write_placed(
     cap: Cap,
     content: Content<'_>,
 ) -> usize
-    requires short { FitsStringTable (plain_content content) }
-    requires room { vec_len out.old + item_room (said_for cap (plain_content content)) ≤ vec_capacity out.old }
+    requires short { FitsStringTable (content_seen content) }
+    requires room { vec_len out.old + item_room (said_for cap (content_seen content)) ≤ vec_capacity out.old }
     ensures items { (items : List Said) (rest : List ℕ)
         → out.new.items ++ further_before layout.now result items rest
-        ≡ out.old.items ++ flow layout.now line (said_for cap (plain_content content.entry) ∷ items) rest }
-    ensures len { vec_len out.new ≤ vec_len out.old + item_room (said_for cap (plain_content content.entry)) }
+        ≡ out.old.items ++ flow layout.now line (said_for cap (content_seen content.entry) ∷ items) rest }
+    ensures len { vec_len out.new ≤ vec_len out.old + item_room (said_for cap (content_seen content.entry)) }
     ensures capacity { vec_capacity out.old ≤ vec_capacity out.new }
 {
     match line {
@@ -181,7 +181,7 @@ fn uses_room(others: &[View<'_>]) -> Option<usize>
 // Enough room for the source of an entry that uses the others.
 #[inline(always)]
 fn source_room<'a>(view: &View<'a>, others: &[View<'a>], order: Order) -> Option<usize>
-    ensures { IfSome result (λ room. room ≡ source_room (shown_entry view.now) (entries_shown others.now) order) }
+    ensures { IfSome result (λ room. room ≡ source_room (entry_seen view.now) (entries_shown others.now) order) }
 {
     let flags = kind_room(view, others, order, Kind::Flag)?;
     let numbers = kind_room(view, others, order, Kind::Number)?;
@@ -199,8 +199,8 @@ fn source_room<'a>(view: &View<'a>, others: &[View<'a>], order: Order) -> Option
 // Appends the source of an entry that uses the others. There is such room. It takes no memory.
 #[inline(always)]
 fn write_source<'a>(out: &mut Vec<u8>, view: &View<'a>, others: &[View<'a>], layout: &Layout)
-    requires { vec_len out.old + source_room (shown_entry view.now) (entries_shown others.now) layout.now.order ≤ vec_capacity out.old }
-    ensures { out.new.items ≡ out.old.items ++ relative (shown_entry view.now) (entries_shown others.now) layout.now }
+    requires { vec_len out.old + source_room (entry_seen view.now) (entries_shown others.now) layout.now.order ≤ vec_capacity out.old }
+    ensures { out.new.items ≡ out.old.items ++ relative (entry_seen view.now) (entries_shown others.now) layout.now }
 {
     append_reserved(out, view.names());
     out.push_reserved(b',');
@@ -219,7 +219,7 @@ pub(crate) fn source_of<'a>(
     others: &[View<'a>],
     layout: &Layout,
 ) -> Result<Vec<u8>, AllocError>
-    ensures { IfOk result (λ text. text.items ≡ relative (shown_entry view.now) (entries_shown others.now) layout.now) }
+    ensures { IfOk result (λ text. text.items ≡ relative (entry_seen view.now) (entries_shown others.now) layout.now) }
 {
     // if no number is so great, no memory is either, and the growth is refused
     let room = source_room(view, others, layout.order).unwrap_or(usize::MAX);

@@ -1,6 +1,6 @@
 //! Writes an entry as source text, as it differs from others.
 ghost use Rattle.std.specs.Prelude.{◌≡◌, ◌↔◌, [], IfOk, IsErrOf};
-ghost use Rattle.ti_layout.specs.View.{shown_entry};
+ghost use Rattle.ti_layout.specs.View.{entry_seen};
 ghost use Rattle.ti_list.specs.RelativeSource.{relative, entries_shown};
 ghost use Rattle.ti_list.specs.declared.relative_source.ListError.TheVariants.{Memory};
 
@@ -42,7 +42,7 @@ pub fn relative(
     others: &[View<'_>],
     layout: &Layout,
 ) -> Result<Vec<u8>, ListError>
-    ensures ok { IfOk result (λ text. text.items ≡ relative (shown_entry view.now) (entries_shown others.now) layout.now) }
+    ensures ok { IfOk result (λ text. text.items ≡ relative (entry_seen view.now) (entries_shown others.now) layout.now) }
     ensures no_others { IsErrOf result ListError.NoOthers ↔ (others.now ≡ []) }
 {
     if others.is_empty() {

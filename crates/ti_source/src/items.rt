@@ -3,7 +3,7 @@ ghost use Rattle.std.specs.Prelude.{◌≡◌, ◌+◌, ◌<◌, ◌≤◌, IfOk
 ghost use Rattle.memchr.specs.Find.{IsFirstByte};
 ghost use Rattle.std.specs.Option.{option_map_or};
 ghost use Rattle.ti_source.specs.Items.{bytes, is_mark, item_piece, without_outer_space};
-ghost use Rattle.ti_source.specs.inside.Items.{escape_after, cuts, field_of, after_field, PassesRun, ReadsOn, TakesItem, EndsItem, IsWholeItem, with_byte, statement_in_memory, statement_of, statement_with_value, plain_statement};
+ghost use Rattle.ti_source.specs.inside.Items.{escape_after, cuts, field_of, after_field, PassesRun, ReadsOn, TakesItem, EndsItem, IsWholeItem, with_byte, statement_seen, statement_of, statement_with_value, plain_statement};
 
 use crate::folding::Folded;
 use crate::white_space::trim_end;
@@ -228,7 +228,7 @@ pub(crate) enum Claim<'a> {
 /// What an item states, by its text with no white space at its front. An empty item, and a disabled
 /// one, which begins with a dot, state nothing.
 pub(crate) fn statement_of(text: &[u8]) -> Option<Statement<'_>>
-    ensures { option_map statement_in_memory result ≡ statement_of text.now }
+    ensures { option_map statement_seen result ≡ statement_of text.now }
 {
     let (first, _) = text.split_first()?;
     if *first == b'.' {
@@ -257,7 +257,7 @@ fn first_mark(text: &[u8]) -> Option<usize>
 // What an item with its first mark at `end` states: a number after `#`, a string after `=`.
 fn statement_with_value(text: &[u8], end: usize) -> Statement<'_>
     requires { end < length text.now }
-    ensures { statement_in_memory result ≡ statement_with_value (take end text.now) (slice_index text.now end) (drop (end + 1) text.now) }
+    ensures { statement_seen result ≡ statement_with_value (take end text.now) (slice_index text.now end) (drop (end + 1) text.now) }
 {
     let value = &text[end + 1..];
     Statement {
@@ -273,7 +273,7 @@ fn statement_with_value(text: &[u8], end: usize) -> Statement<'_>
 // What an item with no mark states: a cancel if it ends in `@`, else a boolean.
 #[tactic(auto, using(crate::proofs::TextLemmas::plain_statement_lemmas))]
 fn plain_statement(text: &[u8]) -> Statement<'_>
-    ensures { statement_in_memory result ≡ plain_statement text.now }
+    ensures { statement_seen result ≡ plain_statement text.now }
 {
     let flag = Statement {
         name: text,

@@ -1,9 +1,9 @@
 //! What comes of what an item states.
 ghost use Rattle.std.specs.Prelude.{◌≡◌, IfOk};
-ghost use Rattle.ti_source.specs.inside.Items.{statement_in_memory};
+ghost use Rattle.ti_source.specs.inside.Items.{statement_seen};
 ghost use Rattle.ti_source.specs.inside.Numbers.{number_read};
 ghost use Rattle.ti_source.specs.Verdicts.{number_verdict, text_verdict};
-ghost use Rattle.ti_source.specs.inside.Verdicts.{verdict_in_memory, verdict_of};
+ghost use Rattle.ti_source.specs.inside.Verdicts.{verdict_seen, verdict_of};
 ghost use Rattle.ti_spelling.specs.inside.Spelling.{unescape_result};
 
 use crate::code::Code;
@@ -32,7 +32,7 @@ pub(crate) fn judge(
     statement: &Statement<'_>,
     shared: &mut SharedTexts,
 ) -> Result<Verdict, AllocError>
-    ensures { IfOk result (λ v. verdict_in_memory v ≡ verdict_of (statement_in_memory statement.now).name (statement_in_memory statement.now).claim) }
+    ensures { IfOk result (λ v. verdict_seen v ≡ verdict_of (statement_seen statement.now).name (statement_seen statement.now).claim) }
 {
     let name = statement.name;
     if let Claim::Text(value) = statement.claim
@@ -54,7 +54,7 @@ pub(crate) fn judge(
 }
 
 fn judge_number(cap: Cap, text: &[u8]) -> Verdict
-    ensures { verdict_in_memory result ≡ number_verdict cap (number_read text.now) }
+    ensures { verdict_seen result ≡ number_verdict cap (number_read text.now) }
 {
     match read_number(text) {
         Ok(number) => Verdict::Accepted(What::Number(cap, number)),
@@ -69,7 +69,7 @@ fn judge_text(
     value: &[u8],
     shared: &mut SharedTexts,
 ) -> Result<Verdict, AllocError>
-    ensures { IfOk result (λ v. verdict_in_memory v ≡ text_verdict cap (unescape_result value.now)) }
+    ensures { IfOk result (λ v. verdict_seen v ≡ text_verdict cap (unescape_result value.now)) }
 {
     if let Some(text) = shared.text_of(cap, value) {
         return Ok(Verdict::Accepted(What::Text(cap, text.clone()?)));

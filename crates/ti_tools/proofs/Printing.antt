@@ -9,7 +9,7 @@ use Rattle.ti_list.specs.declared.layout.Mode.{Mode}
 use Rattle.ti_list.specs.declared.layout.Mode.TheVariants as rows
 use Rattle.ti_list.specs.Comparison.{comparison}
 use Rattle.ti_list.specs.RelativeSource.{entries_shown, relative}
-use Rattle.ti_layout.specs.View.{Entry, shown_entry}
+use Rattle.ti_layout.specs.View.{Entry, entry_seen}
 use Rattle.ti_layout.specs.declared.view.View.{View}
 use Rattle.ti_commands.specs.declared.jobs.InfocmpMode.{InfocmpMode}
 use Rattle.ti_commands.specs.declared.jobs.InfocmpMode.TheVariants as mode
@@ -62,6 +62,6 @@ listing_printed (first ∷ other ∷ others) options is = rw is refl
 
 -- in any mode, what it takes several entries for
 pub several_printed : (first : View) (others : List View) (options : InfocmpOptions) → others ≢ []
-    → infocmp_result (entries_shown (first ∷ others)) options ≡ Some (printed_listing options.mode (shown_entry first) (entries_shown others) options.layout)
+    → infocmp_result (entries_shown (first ∷ others)) options ≡ Some (printed_listing options.mode (entry_seen first) (entries_shown others) options.layout)
 several_printed first [] options not = absurd (not refl)
 several_printed first (other ∷ others) options not = refl

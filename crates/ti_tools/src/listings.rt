@@ -2,7 +2,7 @@
 ghost use Rattle.std.specs.Prelude.{◌≡◌, ◌≢◌, ◌⊎◌, ◌↔◌, [], IfErr, IfOk, IsErrOf, None, Some};
 ghost use Rattle.std.specs.List.{flat_map};
 ghost use Rattle.ti_list.specs.Comparison.{comparison};
-ghost use Rattle.ti_layout.specs.View.{shown_entry};
+ghost use Rattle.ti_layout.specs.View.{entry_seen};
 ghost use Rattle.ti_list.specs.RelativeSource.{relative, entries_shown};
 ghost use Rattle.ti_commands.specs.declared.jobs.InfocmpMode.TheVariants.{List};
 ghost use Rattle.ti_tools.specs.Listings.{infocmp_result, listings_text, printed_listing};
@@ -47,7 +47,7 @@ fn comparisons(
     order: Order,
 ) -> Result<Vec<u8>, AllocError>
     ensures { IfOk result (λ text. text.items
-        ≡ flat_map (λ other. comparison (shown_entry first.now) other mode order) (entries_shown others.now)) }
+        ≡ flat_map (λ other. comparison (entry_seen first.now) other mode order) (entries_shown others.now)) }
 {
     let mut text = Vec::new(alloc);
     for other in others {
@@ -65,7 +65,7 @@ fn relation(
     layout: &Layout,
 ) -> Result<Vec<u8>, AllocError>
     requires { others.now ≢ [] }
-    ensures { IfOk result (λ text. text.items ≡ relative (shown_entry first.now) (entries_shown others.now) layout.now) }
+    ensures { IfOk result (λ text. text.items ≡ relative (entry_seen first.now) (entries_shown others.now) layout.now) }
 {
     match relative(alloc, first, others, layout) {
         Ok(text) => Ok(text),
@@ -95,7 +95,7 @@ fn beside_others(
     requires several { others.now ≢ [] }
     requires mode { options.now.mode ≢ List }
     ensures { IfOk result (λ text. text.items
-        ≡ printed_listing options.now.mode (shown_entry first.now) (entries_shown others.now) options.now.layout) }
+        ≡ printed_listing options.now.mode (entry_seen first.now) (entries_shown others.now) options.now.layout) }
 {
     match comparison_mode(options.mode) {
         Some(mode) => comparisons(alloc, first, others, mode, options.layout.order),

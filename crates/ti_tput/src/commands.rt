@@ -1,6 +1,6 @@
 //! The command `tput`: a capability's name, and the words after it.
 ghost use Rattle.std.specs.Prelude.{◌≡◌, ℕ, ℤ, List, OnErr, map};
-ghost use Rattle.ti_layout.specs.View.{Entry, shown_entry};
+ghost use Rattle.ti_layout.specs.View.{Entry, entry_seen};
 ghost use Rattle.ti_param.specs.Meaning.{no_variables};
 ghost use Rattle.ti_tput.specs.Entries.{line_at_rate};
 ghost use Rattle.ti_tput.specs.Commands.{AnswersCommand};
@@ -27,8 +27,8 @@ pub(crate) fn answer(
     words: &[&[u8]],
     statics: &mut Statics,
 ) -> Result<TputOutcome, ToolError>
-    ensures answer { (rate : ℕ) → line.now ≡ line_at_rate (shown_entry view.now) rate
-        → AnswersWords result statics.new (tput_result (shown_entry view.now) (map (λ word. word.now) words.now) rate statics.old) }
+    ensures answer { (rate : ℕ) → line.now ≡ line_at_rate (entry_seen view.now) rate
+        → AnswersWords result statics.new (tput_result (entry_seen view.now) (map (λ word. word.now) words.now) rate statics.old) }
     ensures err { OnErr result (statics.new ≡ statics.old) }
 {
     let Some((cap, params)) = words.split_first() else {
@@ -64,7 +64,7 @@ pub fn tput(
     words: &[&[u8]],
     rate: u32,
 ) -> Result<TputOutcome, ToolError>
-    ensures { AnswersCommand (shown_entry view.now) rate no_variables (map (λ word. word.now) words.now) result }
+    ensures { AnswersCommand (entry_seen view.now) rate no_variables (map (λ word. word.now) words.now) result }
 {
     let line = terminal_line(view, rate);
     let mut statics = Statics::new();

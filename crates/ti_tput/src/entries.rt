@@ -1,7 +1,7 @@
 //! What an entry has of a capability that is asked for by its name, and the line of its terminal.
 ghost use Rattle.std.specs.Prelude.{◌≡◌, option_map};
-ghost use Rattle.ti_layout.specs.Values.{plain_content};
-ghost use Rattle.ti_layout.specs.View.{shown_entry, shown_flag, shown_number, shown_text};
+ghost use Rattle.ti_layout.specs.Values.{content_seen};
+ghost use Rattle.ti_layout.specs.View.{entry_seen, shown_flag, shown_number, shown_text};
 ghost use Rattle.ti_tput.specs.Entries.{content_named, line_at_rate, pad_byte_of};
 
 use ti_caps::find;
@@ -11,14 +11,14 @@ use ti_param::Line;
 // What an entry has of the capability of a name.
 #[tactic(auto, unfolding(crate::specs::Entries::content_named))]
 fn content_named<'a>(view: &View<'a>, name: &[u8]) -> Option<Content<'a>>
-    ensures { option_map plain_content result ≡ content_named (shown_entry view.now) name.now }
+    ensures { option_map content_seen result ≡ content_named (entry_seen view.now) name.now }
 {
     view.get(find(name)?)
 }
 
 // Whether an entry has a boolean.
 fn flag(view: &View<'_>, name: &[u8]) -> bool
-    ensures { result ≡ shown_flag (content_named (shown_entry view.now) name.now) }
+    ensures { result ≡ shown_flag (content_named (entry_seen view.now) name.now) }
 {
     match content_named(view, name) {
         Some(Content::True) => true,
@@ -28,7 +28,7 @@ fn flag(view: &View<'_>, name: &[u8]) -> bool
 
 // The number that an entry has of a capability.
 fn number(view: &View<'_>, name: &[u8]) -> Option<u32>
-    ensures { result ≡ shown_number (content_named (shown_entry view.now) name.now) }
+    ensures { result ≡ shown_number (content_named (entry_seen view.now) name.now) }
 {
     match content_named(view, name) {
         Some(Content::Number(number)) => Some(number),
@@ -38,7 +38,7 @@ fn number(view: &View<'_>, name: &[u8]) -> Option<u32>
 
 /// The string that an entry has of a capability.
 pub fn text<'a>(view: &View<'a>, name: &[u8]) -> Option<&'a [u8]>
-    ensures { option_map (λ t. t.now) result ≡ shown_text (content_named (shown_entry view.now) name.now) }
+    ensures { option_map (λ t. t.now) result ≡ shown_text (content_named (entry_seen view.now) name.now) }
 {
     match content_named(view, name) {
         Some(Content::Text(text)) => Some(text),
@@ -49,7 +49,7 @@ pub fn text<'a>(view: &View<'a>, name: &[u8]) -> Option<&'a [u8]>
 // The byte that passes the time: the first byte of `pad`, 0 if there is none, and no byte with
 // `npc`.
 fn pad_byte(view: &View<'_>) -> Option<u8>
-    ensures { result ≡ pad_byte_of (shown_entry view.now) }
+    ensures { result ≡ pad_byte_of (entry_seen view.now) }
 {
     if flag(view, b"npc") {
         return None;
@@ -64,7 +64,7 @@ fn pad_byte(view: &View<'_>) -> Option<u8>
 /// `pad`.
 #[tactic(auto, unfolding(crate::specs::Entries::line_at_rate))]
 pub fn terminal_line(view: &View<'_>, rate: u32) -> Line
-    ensures { result ≡ line_at_rate (shown_entry view.now) rate }
+    ensures { result ≡ line_at_rate (entry_seen view.now) rate }
 {
     Line {
         rate,

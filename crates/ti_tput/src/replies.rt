@@ -2,7 +2,7 @@
 ghost use Rattle.std.specs.Prelude.{◌≡◌, ℕ, ℤ, List, [], IfOk, OnErr, MatchResult, Some, map};
 ghost use Rattle.ti_param.specs.Meaning.{argument_of};
 ghost use Rattle.ti_param.specs.inside.Expansion.{EndsWith, expanded, format_expansion};
-ghost use Rattle.ti_layout.specs.View.{shown_entry, view_contents};
+ghost use Rattle.ti_layout.specs.View.{entry_seen, view_contents};
 ghost use Rattle.ti_tput.specs.Entries.{line_at_rate};
 ghost use Rattle.ti_tput.specs.Results.{init_strings, long_name, number_text};
 ghost use Rattle.ti_tput.specs.inside.Results.{content_reply, named_reply};
@@ -209,14 +209,14 @@ fn answer_strings(
 
 // The strings that initialize a terminal.
 fn init_strings<'a>(view: &View<'a>) -> [Option<&'a [u8]>; 3]
-    ensures { given_texts result ≡ init_strings (shown_entry view.now) }
+    ensures { given_texts result ≡ init_strings (entry_seen view.now) }
 {
     [text(view, b"is1"), text(view, b"is2"), text(view, b"is3")]
 }
 
 // The strings that reset the terminal: those that initialize it, if it has no others.
 fn reset_strings<'a>(view: &View<'a>) -> [Option<&'a [u8]>; 3]
-    ensures { given_texts result ≡ reset_strings (shown_entry view.now) }
+    ensures { given_texts result ≡ reset_strings (entry_seen view.now) }
 {
     let texts = [text(view, b"rs1"), text(view, b"rs2"), text(view, b"rs3")];
     if texts[0].is_none() && texts[1].is_none() && texts[2].is_none() {
@@ -244,8 +244,8 @@ pub(crate) fn answer_name(
     line: &Line,
     statics: &mut Statics,
 ) -> Result<TputOutcome, AllocError>
-    ensures answer { (rate : ℕ) → line.now ≡ line_at_rate (shown_entry view.now) rate → IfOk result (λ outcome. reply_of outcome statics.new
-        ≡ named_reply (shown_entry view.now) rate cap.now (map (λ word. word.now) words.now) statics.old) }
+    ensures answer { (rate : ℕ) → line.now ≡ line_at_rate (entry_seen view.now) rate → IfOk result (λ outcome. reply_of outcome statics.new
+        ≡ named_reply (entry_seen view.now) rate cap.now (map (λ word. word.now) words.now) statics.old) }
     ensures err { OnErr result (statics.new ≡ statics.old) }
 {
     if cap == b"longname".as_slice() {

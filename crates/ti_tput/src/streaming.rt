@@ -2,7 +2,7 @@
 ghost use Rattle.std.specs.Prelude.{◌+◌, ◌≤◌};
 ghost use Rattle.ti_devices.specs.Counted.{observation, reads_of};
 ghost use Rattle.ti_devices.specs.Reading.{reads_max};
-ghost use Rattle.ti_layout.specs.View.{shown_entry};
+ghost use Rattle.ti_layout.specs.View.{entry_seen};
 ghost use Rattle.ti_tput.specs.Streaming.{CommandsEnd};
 
 use crate::terminal::Terminal;
@@ -33,7 +33,7 @@ pub fn tput_lines<R: Read, W: Write>(
     reader: &mut Counted<R>,
     writer: &mut Counted<W>,
 ) -> Result<u8, ToolError>
-    ensures ends { CommandsEnd (shown_entry view.now) rate (observation R.remaining reader.old) (observation R.remaining reader.new)
+    ensures ends { CommandsEnd (entry_seen view.now) rate (observation R.remaining reader.old) (observation R.remaining reader.new)
         (observation W.contents writer.old) (observation W.contents writer.new) result }
     ensures reads { reads_of reader.new ≤ reads_of reader.old + reads_max }
 {

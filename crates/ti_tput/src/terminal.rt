@@ -1,6 +1,6 @@
 //! A terminal that takes commands line by line, and writes their output.
 ghost use Rattle.std.specs.Prelude.{◌≡◌, ◌==◌, ℕ, IfOk};
-ghost use Rattle.ti_layout.specs.View.{Entry, shown_entry};
+ghost use Rattle.ti_layout.specs.View.{Entry, entry_seen};
 ghost use Rattle.ti_tput.specs.Results.{bad_status};
 ghost use Rattle.ti_tput.specs.Runs.{RunState, run_status, lines_start};
 ghost use Rattle.ti_tput.specs.inside.Runs.{line_step};
@@ -38,7 +38,7 @@ impl<'a> Terminal<'a> {
 
     /// The terminal of an entry at a rate, before any command.
     pub fn new(alloc: Global, view: &View<'a>, rate: u32) -> Terminal<'a>
-        ensures { HasRunState (shown_entry view.now) rate result lines_start }
+        ensures { HasRunState (entry_seen view.now) rate result lines_start }
     {
         Terminal {
             alloc,

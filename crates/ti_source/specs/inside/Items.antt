@@ -179,12 +179,12 @@ EndsItem old piece last new =
     (start : List PlacedByte) → ReadsSoFar start escape.Nothing ascii.comma old (item_piece [] 0) → TakesItem start piece last new
 
 -- a claim that holds its text in memory, as plain data
-abbrev pub claim_of : ClaimInMemory → Claim
-claim_of claims.Flag = claims_flag
-claim_of (claims.Number text) = claims_number text.now
-claim_of (claims.Text text) = claims_text text.now
-claim_of claims.Cancel = claims_cancel
+abbrev pub claim_seen : ClaimInMemory → Claim
+claim_seen claims.Flag = claims_flag
+claim_seen (claims.Number text) = claims_number text.now
+claim_seen (claims.Text text) = claims_text text.now
+claim_seen claims.Cancel = claims_cancel
 
 -- a statement that holds its texts in memory, as plain data
-abbrev pub statement_in_memory : StatementInMemory → Statement
-statement_in_memory s = record { name = s.name.now; claim = claim_of s.claim }
+abbrev pub statement_seen : StatementInMemory → Statement
+statement_seen s = record { name = s.name.now; claim = claim_seen s.claim }

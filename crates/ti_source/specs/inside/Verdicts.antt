@@ -20,7 +20,7 @@ abbrev pub verdict_of : List ℕ → Claim → Verdict
 verdict_of name claim = verdict_on name claim (read_claim claim)
 
 -- a verdict that holds what it accepts in memory, as plain data
-abbrev pub verdict_in_memory : VerdictInMemory → Verdict
-verdict_in_memory (verdict.Accepted what) = accepted (said_of what)
-verdict_in_memory (verdict.AcceptedOdd what) = accepted_odd (said_of what)
-verdict_in_memory (verdict.Refused code) = refused code
+abbrev pub verdict_seen : VerdictInMemory → Verdict
+verdict_seen (verdict.Accepted what) = accepted (said_of what)
+verdict_seen (verdict.AcceptedOdd what) = accepted_odd (said_of what)
+verdict_seen (verdict.Refused code) = refused code

@@ -1,6 +1,6 @@
 -- A terminal that takes commands line by line: what it holds, and what a line leads to (own).
 use Rattle.std.specs.Prelude.{◌≡◌, ℕ, List, min}
-use Rattle.ti_layout.specs.View.{Entry, shown_entry}
+use Rattle.ti_layout.specs.View.{Entry, entry_seen}
 use Rattle.ti_tput.specs.Entries.{line_at_rate}
 use Rattle.ti_tput.specs.Runs.{LineStep, RunState, TakesLine}
 use Rattle.ti_tput.specs.declared.terminal.Terminal.{Terminal}
@@ -8,7 +8,7 @@ use Rattle.ti_tput.specs.declared.terminal.Terminal.{Terminal}
 -- the terminal is that of the entry at the rate, and has what is between two lines; it counts no
 -- more than 255 bad lines
 pub record HasRunState (entry : Entry) (rate : ℕ) (terminal : Terminal) (state : RunState) : Type 0 where
-  pub of_entry : shown_entry terminal.view ≡ entry
+  pub of_entry : entry_seen terminal.view ≡ entry
   pub of_rate : terminal.line ≡ line_at_rate entry rate
   pub statics : terminal.statics ≡ state.statics
   pub bad : terminal.bad ≡ min 255 state.bad

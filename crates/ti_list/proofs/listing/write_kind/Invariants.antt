@@ -1,5 +1,5 @@
 use Rattle.std.proofs.Common.{◌≡◌, ℕ, ◌+◌, ◌≤◌, ◌++◌, List, map, drop, vec_len, vec_capacity}
-use Rattle.ti_layout.specs.View.{view_contents, shown_entry}
+use Rattle.ti_layout.specs.View.{view_contents, entry_seen}
 use Rattle.ti_list.specs.inside.Listing.{flow, lines_before}
 use Rattle.ti_list.specs.Listing.{in_order, items_for}
 use Rattle.ti_list.specs.RelativeSource.{differing_contents}
@@ -8,7 +8,7 @@ use Rattle.ti_list.proofs.listing.write_kind.Given as goal
 
 abbrev pub invariant-loop-place : goal.invariant-loop-place
 invariant-loop-place l =
-    let table = differing_contents (view_contents l.view) (map (λ o. shown_entry o) l.others) in
+    let table = differing_contents (view_contents l.view) (map (λ o. entry_seen o) l.others) in
     let caps = in_order l.layout.order l.kind in
     record {
       done : (rest : List ℕ) → l.out.items ++ flow l.layout l.line (items_for table (drop l.place caps)) rest ≡ l.initial.out.items ++ lines_before l.layout (items_for table caps) rest;

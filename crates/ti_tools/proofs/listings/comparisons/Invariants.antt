@@ -1,10 +1,10 @@
 use Rattle.std.proofs.Common.{◌≡◌, ◌++◌, map, drop}
 use Rattle.std.specs.List.{flat_map}
 use Rattle.ti_list.specs.Comparison.{comparison}
-use Rattle.ti_layout.specs.View.{shown_entry}
+use Rattle.ti_layout.specs.View.{entry_seen}
 use Rattle.ti_tools.proofs.listings.comparisons.Given as goal
 
 abbrev pub invariant-loop-other : goal.invariant-loop-other
 invariant-loop-other l =
-    l.text.items ++ flat_map (λ other. comparison (shown_entry l.first) other l.mode l.order) (map (λ view. shown_entry view) (drop l.other-index l.others))
-    ≡ flat_map (λ other. comparison (shown_entry l.first) other l.mode l.order) (map (λ view. shown_entry view) l.others)
+    l.text.items ++ flat_map (λ other. comparison (entry_seen l.first) other l.mode l.order) (map (λ view. entry_seen view) (drop l.other-index l.others))
+    ≡ flat_map (λ other. comparison (entry_seen l.first) other l.mode l.order) (map (λ view. entry_seen view) l.others)

@@ -1,14 +1,14 @@
 use Rattle.std.proofs.Common.{length, refl, Some, ap, sym, ◌∙◌}
 use Rattle.ti_meaning.specs.Compiled.{compiled}
 use Rattle.ti_slots.specs.Settled.{state_seen}
-use Rattle.ti_base.proofs.SlotEntries.{shown_entry, shown_other, entry_of_slot}
+use Rattle.ti_base.proofs.SlotEntries.{entry_seen, shown_other, entry_of_slot}
 use Rattle.ti_base.proofs.SlotLists.{within_list}
 use Rattle.ti_base.proofs.database.Database.compiled.Goals as goal
 
 pub returns-in-Compiled : goal.returns-in-Compiled
 returns-in-Compiled c =
     let kept = entry_of_slot c.self.inside.slots c.args.at c.slot_of.result.now c.self.invariant c.slot_of.ensures in
-    ap (λ x. Some x) c.bytes.ensures.image ∙ (ap (λ e. shown_entry (state_seen e)) (sym c.in-Compiled.is) ∙ (kept ∙ ap (λ texts. compiled texts c.args.at) c.self.view_is))
+    ap (λ x. Some x) c.bytes.ensures.image ∙ (ap (λ e. entry_seen (state_seen e)) (sym c.in-Compiled.is) ∙ (kept ∙ ap (λ texts. compiled texts c.args.at) c.self.view_is))
 
 pub returns-in_default : goal.returns-in_default
 returns-in_default c =
