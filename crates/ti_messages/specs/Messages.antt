@@ -6,6 +6,7 @@ use Rattle.serde_json.specs.Data.{Num, Data, null, boolean, number, unsigned, ne
 use Rattle.serde_json.specs.Find.{as_array, as_bool, as_number, as_str, get, is_float}
 use Rattle.ti_messages.specs.declared.asking.Topic.{Topic}
 use Rattle.ti_messages.specs.declared.asking.Topic.TheVariants as asks
+use Rattle.ti_messages.specs.declared.clients.Client.{Client}
 use Rattle.ti_messages.specs.declared.places.Position.{Position}
 use Rattle.ti_messages.specs.declared.places.Range.{Range}
 
@@ -26,10 +27,10 @@ pub data Query : Type 0 where
   prepare_rename : Position → Query
   fixes : Range → Bool → Query
 
--- a request: of a document its URI and what is asked about it; `unreadable` are those whose
--- parameters are not those of the method
+-- a request: to begin, of what client; of a document its URI and what is asked about it;
+-- `unreadable` are those whose parameters are not those of the method
 pub data Asked : Type 0 where
-  initialize : Asked
+  initialize : Client → Asked
   shutdown : Asked
   about : List ℕ → Query → Asked
   unreadable : Asked
@@ -205,6 +206,33 @@ about_of topic params = do
 abbrev pub about_document : Topic → Data → Asked
 about_document topic d = unwrap_or (option_and_then (about_of topic) (get (codes "params") d)) unreadable
 
+-- ---- what a client can do
+
+-- "RenameClientCapabilities": whether it asks which name a rename is of before it renames
+abbrev pub prepares_renames : Data → Bool
+prepares_renames abilities =
+    unwrap_or (option_and_then as_bool (option_and_then (get (codes "prepareSupport")) (get (codes "rename") abilities))) false
+
+-- "CodeActionClientCapabilities": whether it takes code actions, and not commands alone
+abbrev pub takes_actions : Data → Bool
+takes_actions abilities = is_some (option_and_then (get (codes "codeActionLiteralSupport")) (get (codes "codeAction") abilities))
+
+-- "TextDocumentClientCapabilities", if they are told
+abbrev pub abilities_of : Data → Option Data
+abilities_of d = do
+  params ← get (codes "params") d
+  capabilities ← get (codes "capabilities") params
+  get (codes "textDocument") capabilities
+
+-- a client that tells nothing can do nothing of it
+abbrev pub client_with : Option Data → Client
+client_with None = record { prepares_renames = false; takes_actions = false }
+client_with (Some abilities) = record { prepares_renames = prepares_renames abilities; takes_actions = takes_actions abilities }
+
+-- "InitializeParams": what the client can do
+abbrev pub client_of : Data → Client
+client_of d = client_with (abilities_of d)
+
 -- ---- methods
 
 abbrev pub asked_about : Option Topic → Data → Asked
@@ -213,7 +241,7 @@ asked_about (Some topic) d = about_document topic d
 
 abbrev pub asked_of : List ℕ → Data → Asked
 asked_of method d =
-    if bytes_eq method (codes "initialize") then initialize
+    if bytes_eq method (codes "initialize") then initialize (client_of d)
     else (if bytes_eq method (codes "shutdown") then shutdown else asked_about (topic_of method) d)
 
 -- what parameters tell, if they are those of the method

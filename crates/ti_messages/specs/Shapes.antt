@@ -1,10 +1,11 @@
 -- The values that a language server sends (LSP 3.17; the section is named at each). Members are in
 -- the order of their keys.
-use Rattle.std.specs.Prelude.{ℕ, List, codes, true, false, Option, None, Some, unwrap_or}
+use Rattle.std.specs.Prelude.{ℕ, List, Bool, codes, true, false, Option, None, Some, unwrap_or}
 use Rattle.serde_json.specs.Data.{Data, null, boolean, number, negative, unsigned, string, array, object, Items, item, no_items, no_members, member}
 use Rattle.ti_messages.specs.Failures.{code_of, sentence_of}
 use Rattle.ti_messages.specs.declared.answers.ItemKind.{ItemKind}
 use Rattle.ti_messages.specs.declared.answers.ItemKind.TheVariants.{Capability, Entry}
+use Rattle.ti_messages.specs.declared.clients.Client.{Client}
 use Rattle.ti_messages.specs.declared.failures.Failure.{Failure}
 use Rattle.ti_messages.specs.declared.places.Position.{Position}
 use Rattle.ti_messages.specs.declared.places.Range.{Range}
@@ -161,25 +162,28 @@ abbrev pub completion_options_data : Data
 completion_options_data =
     object (member (codes "triggerCharacters") (array (item (string (codes "=")) (item (string (codes ",")) no_items))) no_members)
 
--- "RenameOptions": a client may ask first which name a rename is of
-abbrev pub rename_options_data : Data
-rename_options_data = object (member (codes "prepareProvider") (boolean true) no_members)
+-- "RenameOptions", for a client that asks first which name a rename is of
+abbrev pub rename_options_data : Bool → Data
+rename_options_data false = boolean true
+rename_options_data true = object (member (codes "prepareProvider") (boolean true) no_members)
 
--- "CodeActionOptions": the actions are quick fixes
-abbrev pub action_options_data : Data
-action_options_data = object (member (codes "codeActionKinds") (array (item (string (codes "quickfix")) no_items)) no_members)
+-- "CodeActionOptions": the actions are quick fixes; there are none for a client that takes commands
+-- alone
+abbrev pub action_options_data : Bool → Data
+action_options_data false = boolean false
+action_options_data true = object (member (codes "codeActionKinds") (array (item (string (codes "quickfix")) no_items)) no_members)
 
 -- "ServerCapabilities"
-abbrev pub capabilities_data : Data
-capabilities_data =
-    object (member (codes "codeActionProvider") action_options_data
+abbrev pub capabilities_data : Client → Data
+capabilities_data client =
+    object (member (codes "codeActionProvider") (action_options_data client.takes_actions)
     (member (codes "completionProvider") completion_options_data
     (member (codes "definitionProvider") (boolean true)
     (member (codes "documentSymbolProvider") (boolean true)
     (member (codes "hoverProvider") (boolean true)
     (member (codes "positionEncoding") (string (codes "utf-16"))
     (member (codes "referencesProvider") (boolean true)
-    (member (codes "renameProvider") rename_options_data
+    (member (codes "renameProvider") (rename_options_data client.prepares_renames)
     (member (codes "textDocumentSync") sync_data no_members)))))))))
 
 -- "InitializeResult"
@@ -189,7 +193,7 @@ server_data version =
     (member (codes "version") (string version) no_members))
 
 -- "InitializeResult": what the server can do, and its name and version
-abbrev pub initialized_data : List ℕ → Data
-initialized_data version =
-    object (member (codes "capabilities") capabilities_data
+abbrev pub initialized_data : Client → List ℕ → Data
+initialized_data client version =
+    object (member (codes "capabilities") (capabilities_data client)
     (member (codes "serverInfo") (server_data version) no_members))

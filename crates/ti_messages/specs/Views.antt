@@ -37,7 +37,7 @@ reply_view (Refusal failure) = said_refusal failure
 
 -- what a request that is held in memory asks
 abbrev pub asked_view : Call → Asked
-asked_view call.Initialize = means.initialize
+asked_view (call.Initialize client) = means.initialize client
 asked_view call.Shutdown = means.shutdown
 asked_view (call.Asked uri question) = means.about uri.now (question_view question)
 asked_view call.Faulty = means.unreadable

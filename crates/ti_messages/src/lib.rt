@@ -6,11 +6,13 @@
 //!   document, and `objects` makes the larger ones
 //! - `messages`: what a client asks for or tells; `reading` reads it from values, with `members`
 //!   and `asking`
+//! - `clients`: what a client can do
 //! - `frames`: a value's text after a header, read and written
 #![tactic(auto)]
 
 pub mod answers;
 mod asking;
+pub mod clients;
 pub mod failures;
 pub mod frames;
 mod members;
@@ -20,6 +22,7 @@ pub mod places;
 pub mod reading;
 pub mod writing;
 
+pub use clients::Client;
 pub use failures::Failure;
 pub use frames::{Frame, FrameFault, read_frame, write_frame};
 pub use messages::{Call, Change, Message, Notice, Question, Reply};

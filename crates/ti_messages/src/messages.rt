@@ -1,4 +1,5 @@
 //! What a client asks for or tells. The strings are those of the value that was read.
+use crate::clients::Client;
 use crate::failures::Failure;
 use crate::places::{Position, Range};
 use serde_json::Value;
@@ -60,8 +61,8 @@ pub enum Reply {
 /// What a request asks for.
 #[derive(Drop)]
 pub enum Call<'a> {
-    /// What the server can do.
-    Initialize,
+    /// What the server can do for this client.
+    Initialize(Client),
     /// That the server gets ready to end.
     Shutdown,
     /// Something about a document.

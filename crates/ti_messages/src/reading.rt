@@ -8,6 +8,7 @@ ghost use Rattle.ti_messages.specs.Messages.{asked_of, called_of, changed, chang
 ghost use Rattle.ti_messages.specs.Views.{asked_view, edit_view, message_view, told_view};
 
 use crate::asking::{read_asked, topic_of};
+use crate::clients::read_client;
 use crate::members::{number_at, read_range, text_at};
 use crate::messages::{Call, Change, Message, Notice};
 use crate::places::Range;
@@ -140,7 +141,7 @@ fn read_call<'a>(method: &str, value: &'a Value) -> Call<'a>
     ensures { asked_view result ≡ asked_of method.now (view value.now) }
 {
     if method == "initialize" {
-        Call::Initialize
+        Call::Initialize(read_client(value))
     } else if method == "shutdown" {
         Call::Shutdown
     } else {

@@ -6,6 +6,7 @@ ghost use Rattle.ti_messages.specs.Views.{reply_view};
 ghost use Rattle.ti_messages.specs.Shapes.{action_options_data, capabilities_data, completion_options_data, initialized_data, rename_options_data, server_data, sync_data};
 ghost use Rattle.ti_messages.specs.Shapes.{diagnostic_data, failure_data, notification_data, position_data, publish_data, published_data, range_data, refusal_data, reply_data, response_data, severity_number};
 
+use crate::clients::Client;
 use crate::failures::Failure;
 use crate::messages::Reply;
 use crate::objects::{with_number, with_text, with_value};
@@ -195,25 +196,31 @@ fn completion_options_value(alloc: Global) -> Result<Value, AllocError>
     json!(in alloc; {"triggerCharacters": ["=", ","]})
 }
 
-// Which actions there are ("CodeActionOptions").
-fn action_options_value(alloc: Global) -> Result<Value, AllocError>
-    ensures { IfOk result (λ v. view v ≡ action_options_data) }
+// Which actions there are ("CodeActionOptions"); none for a client that takes commands alone.
+fn action_options_value(alloc: Global, takes_actions: bool) -> Result<Value, AllocError>
+    ensures { IfOk result (λ v. view v ≡ action_options_data takes_actions) }
 {
+    if !takes_actions {
+        return Ok(Value::Bool(false));
+    }
     json!(in alloc; {"codeActionKinds": ["quickfix"]})
 }
 
-// How names are changed ("RenameOptions").
-fn rename_options_value(alloc: Global) -> Result<Value, AllocError>
-    ensures { IfOk result (λ v. view v ≡ rename_options_data) }
+// How names are changed ("RenameOptions", for a client that asks first which name a rename is of).
+fn rename_options_value(alloc: Global, prepares_renames: bool) -> Result<Value, AllocError>
+    ensures { IfOk result (λ v. view v ≡ rename_options_data prepares_renames) }
 {
+    if !prepares_renames {
+        return Ok(Value::Bool(true));
+    }
     json!(in alloc; {"prepareProvider": true})
 }
 
 // What the server can do ("ServerCapabilities").
-fn capabilities_value(alloc: Global) -> Result<Value, AllocError>
-    ensures { IfOk result (λ v. view v ≡ capabilities_data) }
+fn capabilities_value(alloc: Global, client: Client) -> Result<Value, AllocError>
+    ensures { IfOk result (λ v. view v ≡ capabilities_data client) }
 {
-    let actions = action_options_value(alloc)?;
+    let actions = action_options_value(alloc, client.takes_actions)?;
     let members = with_value(alloc, Map::new(alloc), "codeActionProvider", actions)?;
     let completions = completion_options_value(alloc)?;
     let members = with_value(alloc, members, "completionProvider", completions)?;
@@ -222,7 +229,7 @@ fn capabilities_value(alloc: Global) -> Result<Value, AllocError>
     let members = with_value(alloc, members, "hoverProvider", Value::Bool(true))?;
     let members = with_text(alloc, members, "positionEncoding", "utf-16")?;
     let members = with_value(alloc, members, "referencesProvider", Value::Bool(true))?;
-    let renames = rename_options_value(alloc)?;
+    let renames = rename_options_value(alloc, client.prepares_renames)?;
     let members = with_value(alloc, members, "renameProvider", renames)?;
     let sync = sync_value(alloc)?;
     let members = with_value(alloc, members, "textDocumentSync", sync)?;
@@ -236,14 +243,14 @@ fn server_value(alloc: Global, version: &str) -> Result<Value, AllocError>
     json!(in alloc; {"name": "ti-lsp", "version": version})
 }
 
-/// The answer to `initialize` ("InitializeResult"), with the version of the server.
+/// The answer to `initialize` of a client ("InitializeResult"), with the version of the server.
 ///
 /// # Errors
 /// `AllocError` if memory ran out.
-pub fn initialized_value(alloc: Global, version: &str) -> Result<Value, AllocError>
-    ensures { IfOk result (λ v. view v ≡ initialized_data version.now) }
+pub fn initialized_value(alloc: Global, client: Client, version: &str) -> Result<Value, AllocError>
+    ensures { IfOk result (λ v. view v ≡ initialized_data client version.now) }
 {
-    let capabilities = capabilities_value(alloc)?;
+    let capabilities = capabilities_value(alloc, client)?;
     let server = server_value(alloc, version)?;
     json!(in alloc; {"capabilities": capabilities, "serverInfo": server})
 }

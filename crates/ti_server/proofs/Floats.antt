@@ -5,7 +5,7 @@ use Rattle.serde_json.specs.Find.{as_str, get}
 use Rattle.serde_json.specs.Written.{has_float}
 use Rattle.std.specs.Prelude.{codes, option_and_then}
 use Rattle.ti_messages.specs.Messages.{Asked, initialize, shutdown, about, unreadable, unknown, Meaning, Query, request, notification, response, faulty, Told, exited, opened, changed, closed, nothing, id_in, id_of, message_of, meaning_by, method_meaning, request_of, told_of}
-use Rattle.ti_messages.specs.Shapes.{Said, said_answer, said_refusal, refusal_data, reply_data}
+use Rattle.ti_messages.specs.Shapes.{Said, said_answer, said_refusal, action_options_data, refusal_data, rename_options_data, reply_data}
 use Rattle.ti_messages.specs.declared.failures.Failure.{Failure}
 use Rattle.ti_messages.specs.declared.failures.Failure.TheVariants.{BadParameters, NoJson, NoMethod, NoRequest, NotInitialized}
 use Rattle.ti_server.specs.Answers.{answer_data}
@@ -73,7 +73,7 @@ plain_message d = plain_meaning d (get (codes "method") d)
 
 -- the id of an answer, if it has one
 abbrev id_answered : Answer → Option Data
-id_answered (ready id) = Some id
+id_answered (ready id client) = Some id
 id_answered (done id) = Some id
 id_answered (refused id failure) = id
 id_answered (answered id document query) = Some id
@@ -88,8 +88,17 @@ plain_reply : (id : Data) (said : Said) → has_float id ≡ false → SaidHasNo
 plain_reply id (said_answer result) h plain = rw h (rw plain refl)
 plain_reply id (said_refusal failure) h plain = plain_refusal (Some id) failure h
 
+-- what the server offers a client has no number with a fraction, whatever the client can do
+plain_actions : (takes : Bool) → has_float (action_options_data takes) ≡ false
+plain_actions false = refl
+plain_actions true = refl
+
+plain_renames : (prepares : Bool) → has_float (rename_options_data prepares) ≡ false
+plain_renames false = refl
+plain_renames true = refl
+
 plain_answer : (says : Sayings) (answer : Answer) → HasNoFloats says → HasNoFloat (id_answered answer) → has_float (answer_data says answer) ≡ false
-plain_answer says (ready id) plain h = rw h refl
+plain_answer says (ready id client) plain h = rw h (rw (plain_actions client.takes_actions) (rw (plain_renames client.prepares_renames) refl))
 plain_answer says (done id) plain h = rw h refl
 plain_answer says (refused id failure) plain h = plain_refusal id failure h
 plain_answer says (answered id document query) plain h = plain_reply id (says.answers document.text document.uri query) h (plain.answers document.text document.uri query)
@@ -102,7 +111,7 @@ abbrev IsPlain : Sayings → Option Answer → Type 0
 IsPlain says answer = HasNoFloat (option_map (answer_data says) answer)
 
 plain_fresh : (says : Sayings) (id : Data) (asked : Asked) → HasNoFloats says → has_float id ≡ false → has_float (answer_data says (requested_fresh id asked).1) ≡ false
-plain_fresh says id initialize plain h = plain_answer says (ready id) plain h
+plain_fresh says id (initialize client) plain h = plain_answer says (ready id client) plain h
 plain_fresh says id shutdown plain h = plain_answer says (refused (Some id) NotInitialized) plain h
 plain_fresh says id (about uri query) plain h = plain_answer says (refused (Some id) NotInitialized) plain h
 plain_fresh says id unreadable plain h = plain_answer says (refused (Some id) NotInitialized) plain h
@@ -113,7 +122,7 @@ plain_about says id query None plain h = plain_answer says (refused (Some id) Ba
 plain_about says id query (Some document) plain h = plain_answer says (answered id document query) plain h
 
 plain_running : (says : Sayings) (documents : List Open) (id : Data) (asked : Asked) → HasNoFloats says → has_float id ≡ false → has_float (answer_data says (requested_running documents id asked).1) ≡ false
-plain_running says documents id initialize plain h = plain_answer says (refused (Some id) NoRequest) plain h
+plain_running says documents id (initialize client) plain h = plain_answer says (refused (Some id) NoRequest) plain h
 plain_running says documents id shutdown plain h = plain_answer says (done id) plain h
 plain_running says documents id (about uri query) plain h = plain_about says id query (open_at uri documents) plain h
 plain_running says documents id unreadable plain h = plain_answer says (refused (Some id) BadParameters) plain h

@@ -166,7 +166,7 @@ shown_in places uri Finished notice ds = refl
 shown_in places uri (Ended status) notice ds = refl
 
 shown_fresh : (uri : List ℕ) (before : Option Open) (id : Data) (asked : Asked) → shown_by uri before (requested_fresh id asked).1 ≡ before
-shown_fresh uri before id initialize = refl
+shown_fresh uri before id (initialize client) = refl
 shown_fresh uri before id shutdown = refl
 shown_fresh uri before id (about other query) = refl
 shown_fresh uri before id unreadable = refl
@@ -177,7 +177,7 @@ shown_about uri before id query None = refl
 shown_about uri before id query (Some document) = refl
 
 shown_running : (uri : List ℕ) (before : Option Open) (documents : List Open) (id : Data) (asked : Asked) → shown_by uri before (requested_running documents id asked).1 ≡ before
-shown_running uri before documents id initialize = refl
+shown_running uri before documents id (initialize client) = refl
 shown_running uri before documents id shutdown = refl
 shown_running uri before documents id (about other query) = shown_about uri before id query (open_at other documents)
 shown_running uri before documents id unreadable = refl

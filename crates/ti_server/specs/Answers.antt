@@ -11,7 +11,7 @@ server_version = codes "1.0.0"
 
 -- the message that an answer is, if `says` gives what is said of each document
 abbrev pub answer_data : Sayings → Answer → Data
-answer_data says (ready id) = response_data id (initialized_data server_version)
+answer_data says (ready id client) = response_data id (initialized_data client server_version)
 answer_data says (done id) = response_data id null
 answer_data says (refused id failure) = refusal_data id failure
 answer_data says (answered id document query) = reply_data id (says.answers document.text document.uri query)

@@ -20,7 +20,7 @@ answers_to places state (message ∷ messages) =
 
 -- what is shown of a document after an answer, where `before` was
 abbrev pub shown_by : List ℕ → Option Open → Answer → Option Open
-shown_by uri before (ready id) = before
+shown_by uri before (ready id client) = before
 shown_by uri before (done id) = before
 shown_by uri before (refused id failure) = before
 shown_by uri before (answered id document query) = before

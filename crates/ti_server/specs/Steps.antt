@@ -7,6 +7,7 @@ use Rattle.serde_json.specs.Data.{Data}
 use Rattle.ti_messages.specs.Messages.{Asked, initialize, shutdown, about, unreadable, unknown, Edit, Meaning, message_of, Query, request, notification, response, faulty, Told, exited, opened, changed, closed, nothing}
 use Rattle.ti_messages.specs.declared.failures.Failure.{Failure}
 use Rattle.ti_messages.specs.declared.failures.Failure.TheVariants.{BadParameters, NoJson, NoMethod, NoRequest, NotInitialized}
+use Rattle.ti_messages.specs.declared.clients.Client.{Client}
 use Rattle.ti_messages.specs.declared.places.Position.{Position}
 use Rattle.ti_messages.specs.declared.places.Range.{Range}
 use Rattle.ti_server.specs.declared.phase.Phase.{Phase}
@@ -23,10 +24,11 @@ pub record State : Type 0 where
   pub phase : Phase
   pub documents : List Open
 
--- what is sent: that the server is ready, or will end, or why a request is refused; what comes of a
--- question about a document; the diagnostics of a document, or none of one that was closed
+-- what is sent: that the server is ready for a client, or will end, or why a request is refused;
+-- what comes of a question about a document; the diagnostics of a document, or none of one that was
+-- closed
 pub data Answer : Type 0 where
-  ready : Data → Answer
+  ready : Data → Client → Answer
   done : Data → Answer
   refused : Option Data → Failure → Answer
   answered : Data → Open → Query → Answer
@@ -45,7 +47,7 @@ open_at uri (document ∷ documents) = if bytes_eq document.uri uri then Some do
 -- ---- requests
 
 abbrev pub requested_fresh : Data → Asked → Phase × Answer
-requested_fresh id initialize = (Running, ready id)
+requested_fresh id (initialize client) = (Running, ready id client)
 requested_fresh id shutdown = (Fresh, refused (Some id) NotInitialized)
 requested_fresh id (about uri query) = (Fresh, refused (Some id) NotInitialized)
 requested_fresh id unreadable = (Fresh, refused (Some id) NotInitialized)
@@ -57,7 +59,7 @@ answered_of id query None = refused (Some id) BadParameters
 answered_of id query (Some document) = answered id document query
 
 abbrev pub requested_running : List Open → Data → Asked → Phase × Answer
-requested_running documents id initialize = (Running, refused (Some id) NoRequest)
+requested_running documents id (initialize client) = (Running, refused (Some id) NoRequest)
 requested_running documents id shutdown = (Finished, done id)
 requested_running documents id (about uri query) = (Running, answered_of id query (open_at uri documents))
 requested_running documents id unreadable = (Running, refused (Some id) BadParameters)

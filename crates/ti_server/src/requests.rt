@@ -14,16 +14,16 @@ use crate::source::Source;
 use serde_json::Value;
 use std::alloc::{AllocError, Global};
 use ti_messages::writing::{initialized_value, refusal_value, reply_value, response_value};
-use ti_messages::{Call, Failure, Question};
+use ti_messages::{Call, Client, Failure, Question};
 
 /// The version of the server.
 pub const VERSION: &str = "1.0.0";
 
-// That the server is ready.
-fn ready_value(alloc: Global, id: &Value) -> Result<Value, AllocError>
-    ensures { IfOk result (λ v. (says : Sayings) → view v ≡ answer_data says (ready (view id.now))) }
+// That the server is ready, to a client.
+fn ready_value(alloc: Global, id: &Value, client: Client) -> Result<Value, AllocError>
+    ensures { IfOk result (λ v. (says : Sayings) → view v ≡ answer_data says (ready (view id.now) client)) }
 {
-    let answer = initialized_value(alloc, VERSION)?;
+    let answer = initialized_value(alloc, client, VERSION)?;
     response_value(alloc, id, answer)
 }
 
@@ -32,7 +32,7 @@ fn answer_fresh(alloc: Global, id: &Value, call: &Call<'_>) -> Result<(Phase, Va
     ensures { IfOk result (λ r. (says : Sayings) → IsAnswer says r (requested_fresh (view id.now) (asked_view call.now))) }
 {
     match call {
-        Call::Initialize => Ok((Phase::Running, ready_value(alloc, id)?)),
+        Call::Initialize(client) => Ok((Phase::Running, ready_value(alloc, id, *client)?)),
         _ => Ok((
             Phase::Fresh,
             refusal_value(alloc, Some(id), Failure::NotInitialized)?,
@@ -68,7 +68,7 @@ fn answer_running<D: Source>(
         (requested_running (documents_view D.text_of documents.now) (view id.now) (asked_view call.now))) }
 {
     match call {
-        Call::Initialize => Ok((
+        Call::Initialize(_) => Ok((
             Phase::Running,
             refusal_value(alloc, Some(id), Failure::NoRequest)?,
         )),

@@ -20,6 +20,13 @@ const INITIALIZE: &str =
     r#"{"jsonrpc":"2.0","id":1,"method":"initialize","params":{"capabilities":{}}}"#;
 
 const READY: &str =
+    r#"{"id":1,"jsonrpc":"2.0","result":{"capabilities":{"codeActionProvider":false,"completionProvider":{"triggerCharacters":["=",","]},"definitionProvider":true,"documentSymbolProvider":true,"hoverProvider":true,"positionEncoding":"utf-16","referencesProvider":true,"renameProvider":true,"textDocumentSync":{"change":2,"openClose":true}},"serverInfo":{"name":"ti-lsp","version":"1.0.0"}}}"#;
+
+// A client that asks which name a rename is of, and that takes code actions.
+const INITIALIZE_ABLE: &str =
+    r#"{"jsonrpc":"2.0","id":1,"method":"initialize","params":{"capabilities":{"textDocument":{"rename":{"prepareSupport":true},"codeAction":{"codeActionLiteralSupport":{}}}}}}"#;
+
+const READY_FOR_ABLE: &str =
     r#"{"id":1,"jsonrpc":"2.0","result":{"capabilities":{"codeActionProvider":{"codeActionKinds":["quickfix"]},"completionProvider":{"triggerCharacters":["=",","]},"definitionProvider":true,"documentSymbolProvider":true,"hoverProvider":true,"positionEncoding":"utf-16","referencesProvider":true,"renameProvider":{"prepareProvider":true},"textDocumentSync":{"change":2,"openClose":true}},"serverInfo":{"name":"ti-lsp","version":"1.0.0"}}}"#;
 
 const SHUTDOWN: &str = r#"{"jsonrpc":"2.0","id":2,"method":"shutdown"}"#;
@@ -94,7 +101,7 @@ fn expect_all(rt: &impl Abort, alloc: Global, sessions: &[Session]) -> Result<()
     Ok(())
 }
 
-const LIVES: [Session; 7] = [
+const LIVES: [Session; 8] = [
     Session {
         name: "a document opened, changed and closed",
         sent: &[
@@ -150,6 +157,12 @@ const LIVES: [Session; 7] = [
             r#"{"error":{"code":-32002,"message":"the server is not initialized"},"id":-8,"jsonrpc":"2.0"}"#,
             READY,
         ],
+        end: Ok(1),
+    },
+    Session {
+        name: "a client that can do more",
+        sent: &[INITIALIZE_ABLE, EXIT],
+        answers: &[READY_FOR_ABLE],
         end: Ok(1),
     },
     Session {

@@ -10,7 +10,7 @@ use ti_messages::writing::{
     Severity, diagnostic_value, initialized_value, position_value, publish_value, range_value,
     refusal_value, reply_value, response_value,
 };
-use ti_messages::{Failure, Message, Notice, Position, Range, Reply, parse, read_message};
+use ti_messages::{Client, Failure, Message, Notice, Position, Range, Reply, parse, read_message};
 
 const RANGE: Range = Range {
     start: Position { line: 2, column: 1 },
@@ -118,6 +118,21 @@ const REFUSED: &str =
 const READY: &str =
     r#"{"capabilities":{"codeActionProvider":{"codeActionKinds":["quickfix"]},"completionProvider":{"triggerCharacters":["=",","]},"definitionProvider":true,"documentSymbolProvider":true,"hoverProvider":true,"positionEncoding":"utf-16","referencesProvider":true,"renameProvider":{"prepareProvider":true},"textDocumentSync":{"change":2,"openClose":true}},"serverInfo":{"name":"ti-lsp","version":"9"}}"#;
 
+const READY_FOR_LESS: &str =
+    r#"{"capabilities":{"codeActionProvider":false,"completionProvider":{"triggerCharacters":["=",","]},"definitionProvider":true,"documentSymbolProvider":true,"hoverProvider":true,"positionEncoding":"utf-16","referencesProvider":true,"renameProvider":true,"textDocumentSync":{"change":2,"openClose":true}},"serverInfo":{"name":"ti-lsp","version":"9"}}"#;
+
+// A client that asks which name a rename is of, and that takes code actions.
+const ABLE: Client = Client {
+    prepares_renames: true,
+    takes_actions: true,
+};
+
+// A client that does neither.
+const LESS: Client = Client {
+    prepares_renames: false,
+    takes_actions: false,
+};
+
 #[test]
 fn messages(rt: HostRuntime) -> Result<(), Fail> {
     let alloc = rt.alloc();
@@ -132,8 +147,10 @@ fn messages(rt: HostRuntime) -> Result<(), Fail> {
     let id = Value::Bool(true);
     let refusal = refusal_value(alloc, Some(&id), Failure::BadParameters)?;
     assert!(rt; refusal.to_string(alloc)?.as_str() == REFUSAL);
-    let ready = initialized_value(alloc, "9")?;
+    let ready = initialized_value(alloc, ABLE, "9")?;
     assert!(rt; ready.to_string(alloc)?.as_str() == READY);
+    let ready = initialized_value(alloc, LESS, "9")?;
+    assert!(rt; ready.to_string(alloc)?.as_str() == READY_FOR_LESS);
     Ok(())
 }
 
