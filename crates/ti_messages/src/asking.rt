@@ -34,24 +34,16 @@ pub(crate) enum Topic {
 pub(crate) fn topic_of(method: &str) -> Option<Topic>
     ensures { result ≡ topic_of method.now }
 {
-    if method == "textDocument/completion" {
-        Some(Topic::Completion)
-    } else if method == "textDocument/hover" {
-        Some(Topic::Hover)
-    } else if method == "textDocument/definition" {
-        Some(Topic::Definition)
-    } else if method == "textDocument/references" {
-        Some(Topic::References)
-    } else if method == "textDocument/documentSymbol" {
-        Some(Topic::Symbols)
-    } else if method == "textDocument/rename" {
-        Some(Topic::Rename)
-    } else if method == "textDocument/prepareRename" {
-        Some(Topic::PrepareRename)
-    } else if method == "textDocument/codeAction" {
-        Some(Topic::Fixes)
-    } else {
-        None
+    match method {
+        "textDocument/completion" => Some(Topic::Completion),
+        "textDocument/hover" => Some(Topic::Hover),
+        "textDocument/definition" => Some(Topic::Definition),
+        "textDocument/references" => Some(Topic::References),
+        "textDocument/documentSymbol" => Some(Topic::Symbols),
+        "textDocument/rename" => Some(Topic::Rename),
+        "textDocument/prepareRename" => Some(Topic::PrepareRename),
+        "textDocument/codeAction" => Some(Topic::Fixes),
+        _ => None,
     }
 }
 

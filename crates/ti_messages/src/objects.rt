@@ -1,5 +1,5 @@
-//! Objects made member by member. One `json!` makes them as well, but the proof of one with many
-//! members takes long, since at each of them it has all values at hand that are still to be put in.
+//! Objects made member by member. One `json!` makes them as well, but its proof grows faster than
+//! the number of members.
 ghost use Rattle.std.specs.Prelude.{◌≡◌, IfOk};
 ghost use Rattle.serde_json.specs.Data.{put, string};
 ghost use Rattle.serde_json.specs.View.{members_view, view};

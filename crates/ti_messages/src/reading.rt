@@ -109,14 +109,11 @@ fn read_params<'a>(
 ) -> Result<Option<Notice<'a>>, AllocError>
     ensures { IfOk result (λ notice. option_map told_view notice ≡ told_by method.now (view params.now)) }
 {
-    if method == "textDocument/didOpen" {
-        Ok(read_opened(params))
-    } else if method == "textDocument/didChange" {
-        read_changed(alloc, params)
-    } else if method == "textDocument/didClose" {
-        Ok(read_closed(params))
-    } else {
-        Ok(None)
+    match method {
+        "textDocument/didOpen" => Ok(read_opened(params)),
+        "textDocument/didChange" => read_changed(alloc, params),
+        "textDocument/didClose" => Ok(read_closed(params)),
+        _ => Ok(None),
     }
 }
 
@@ -140,15 +137,13 @@ fn read_notice<'a>(alloc: Global, method: &str, value: &'a Value) -> Result<Noti
 fn read_call<'a>(method: &str, value: &'a Value) -> Call<'a>
     ensures { asked_view result ≡ asked_of method.now (view value.now) }
 {
-    if method == "initialize" {
-        Call::Initialize(read_client(value))
-    } else if method == "shutdown" {
-        Call::Shutdown
-    } else {
-        match topic_of(method) {
+    match method {
+        "initialize" => Call::Initialize(read_client(value)),
+        "shutdown" => Call::Shutdown,
+        _ => match topic_of(method) {
             None => Call::Unknown,
             Some(topic) => read_asked(topic, value),
-        }
+        },
     }
 }
 
