@@ -1,4 +1,14 @@
+pub mod Exchanging
+pub mod InOrder
 pub mod Listing
+pub mod Marks
+pub mod NamesFit
+pub mod Opening
+pub mod OthersOwn
 pub mod Printing
 pub mod Ranging
+pub mod Readings
+pub mod SignsFit
+pub mod SpellingsRead
+pub mod Verdicts
 pub mod Wholes

@@ -1,9 +1,10 @@
 -- Names that are put into a list, one after the other.
-use Rattle.std.proofs.Common.{◌≡◌, ℕ, ◌+◌, ◌<◌, Bor, List, [], ◌∷◌, ◌++◌, drop, get_or, length, map, sym, take, ap, add-one, ◌∙◌}
+use Rattle.std.proofs.Common.{◌≡◌, ℕ, ◌+◌, ◌<◌, Bor, List, [], ◌∷◌, ◌++◌, drop, flat_map, get_or, length, map, sym, take, ap, ◌∙◌}
+use Rattle.std.specs.List.{enumerate_from}
 use Rattle.std.proofs.lemmas.List.{append_assoc, map-append, take_more}
 use Rattle.ti_document.specs.Diagnostics.{text_at}
 use Rattle.ti_features.proofs.Outlines.{blocks_more}
-use Rattle.ti_fixes.specs.Fixes.{others_from, others_in}
+use Rattle.ti_fixes.specs.Fixes.{others_in}
 
 -- those that are borrowed, as plain data
 abbrev pub seen : List (Bor (List ℕ)) → List (List ℕ)
@@ -19,11 +20,10 @@ names_more names before all name index within so is =
 
 -- those of one more block
 pub others_next : (blocks : List (List ℕ)) (own : ℕ) (before now : List (List ℕ)) (at : ℕ) (whole : List (List ℕ)) → at < length blocks
-    → before ++ others_from blocks own at (drop at blocks) ≡ whole → now ≡ before ++ others_in blocks own at (text_at blocks at)
-    → now ++ others_from blocks own (at + 1) (drop (at + 1) blocks) ≡ whole
+    → before ++ flat_map (others_in blocks own) (enumerate_from at (drop at blocks)) ≡ whole → now ≡ before ++ others_in blocks own (at, text_at blocks at)
+    → now ++ flat_map (others_in blocks own) (enumerate_from (at + 1) (drop (at + 1) blocks)) ≡ whole
 others_next blocks own before now at whole within so e =
-    let here = others_in blocks own at (text_at blocks at) in
-    let rest = others_from blocks own (at + 1) (drop (at + 1) blocks) in
+    let here = others_in blocks own (at, text_at blocks at) in
+    let rest = flat_map (others_in blocks own) (enumerate_from (at + 1) (drop (at + 1) blocks)) in
     ap (λ (t : List (List ℕ)). t ++ rest) e ∙ append_assoc before here rest
-    ∙ ap (λ (n : ℕ). before ++ (here ++ others_from blocks own n (drop (at + 1) blocks))) (add-one at)
-    ∙ ap (λ (t : List (List ℕ)). before ++ others_from blocks own at t) (sym (blocks_more blocks at within)) ∙ so
+    ∙ ap (λ (t : List (List ℕ)). before ++ flat_map (others_in blocks own) (enumerate_from at t)) (sym (blocks_more blocks at within)) ∙ so

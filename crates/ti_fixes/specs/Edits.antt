@@ -1,6 +1,6 @@
 -- What is offered against the fault of an item, as edits of its block (own): which names are near,
 -- the sign of another kind, and the spelling that reads back.
-use Rattle.std.specs.Prelude.{ℕ, suc, ◌==◌, ◌&&◌, not, nat_le, Bool, List, [], ◌∷◌, codes, drop, map, Option, None, Some, if◌then◌else◌}
+use Rattle.std.specs.Prelude.{ℕ, suc, ◌&&◌, not, nat_le, Bool, List, [], ◌∷◌, codes, map, Option, None, Some, if◌then◌else◌}
 use Rattle.std.specs.List.{list_all}
 use Rattle.std.specs.Option.{option_map_or}
 use Rattle.std.specs.String.{string_bytes}

@@ -1,6 +1,7 @@
 -- What an editor offers against the faults of a document's items (own; Language Server Protocol
 -- 3.17, "Code Action Request").
-use Rattle.std.specs.Prelude.{ℕ, suc, ◌==◌, ◌&&◌, not, nat_le, is_none, Bool, false, List, [], ◌∷◌, ◌++◌, map, Option, None, Some, if◌then◌else◌}
+use Rattle.std.specs.Prelude.{ℕ, ◌==◌, ◌&&◌, not, nat_le, is_none, Bool, false, List, [], ◌++◌, flat_map, map, Option, None, Some, option_and_then, option_map, if◌then◌else◌}
+use Rattle.std.specs.List.{enumerate_from, find}
 use Rattle.std.specs.Option.{option_map_or}
 use Rattle.std.specs.String.{string_bytes}
 use Rattle.ti_source.specs.Code.{is_of_header}
@@ -37,10 +38,10 @@ fix_seen fix = record { advice = advice_seen fix.advice; range = fix.range; text
 
 -- ---- the reading of an item, by its place among the items of its block
 
--- its fault, if it has one
+-- its fault, if it has one: the first of that place that is not of the names field
 abbrev pub code_at : ℕ → List ReadFault → Option Code
-code_at ordinal [] = None
-code_at ordinal (fault ∷ faults) = if fault.ordinal == ordinal && not (is_of_header fault.code) then Some fault.code else code_at ordinal faults
+code_at ordinal faults =
+    option_map (λ (fault : ReadFault). fault.code) (find (λ (fault : ReadFault). fault.ordinal == ordinal && not (is_of_header fault.code)) faults)
 
 -- the string that an item says, if it says one
 abbrev pub text_said : Said → Option (List ℕ)
@@ -49,23 +50,17 @@ text_said _ = None
 
 -- the string that it says, if it is accepted and says one
 abbrev pub value_at : ℕ → List ReadItem → Option (List ℕ)
-value_at ordinal [] = None
-value_at ordinal (item ∷ items) = if item.ordinal == ordinal then text_said item.said else value_at ordinal items
+value_at ordinal items = option_and_then (λ (item : ReadItem). text_said item.said) (find (λ (item : ReadItem). item.ordinal == ordinal) items)
 
 -- ---- a use of a name that no block has
 
--- the names that a block owns, unless it is the one at the position `own`
-abbrev pub others_in : List (List ℕ) → (own at : ℕ) → List ℕ → List (List ℕ)
-others_in blocks own at block = if at == own then [] else own_names (readings blocks) at (reading_of_text block).names
-
--- the same of blocks, the first of which is at the position `at`
-abbrev pub others_from : List (List ℕ) → (own at : ℕ) → List (List ℕ) → List (List ℕ)
-others_from blocks own at [] = []
-others_from blocks own at (block ∷ rest) = others_in blocks own at block ++ others_from blocks own (suc at) rest
+-- the names that a block owns, which is after its position, unless that is `own`
+abbrev pub others_in : List (List ℕ) → ℕ → (ℕ × List ℕ) → List (List ℕ)
+others_in blocks own placed = if placed.0 == own then [] else own_names (readings blocks) placed.0 (reading_of_text placed.1).names
 
 -- the lookup names of all blocks but the one at that position, which would use itself
 abbrev pub other_names : List (List ℕ) → ℕ → List (List ℕ)
-other_names blocks own = others_from blocks own 0 blocks
+other_names blocks own = flat_map (others_in blocks own) (enumerate_from 0 blocks)
 
 -- the nearest of these names in place of one that the block at that position uses, if no block has
 -- it
@@ -85,20 +80,17 @@ item_edits blocks at ordinal block item =
 abbrev pub touches : Stretch → List PlacedByte → Bool
 touches stretch item = option_map_or (λ (span : Part). nat_le span.start stretch.end && nat_le stretch.start span.end) (spanned item) false
 
--- what is offered for an item of that place, if the stretch touches it
-abbrev pub touched_edits : List (List ℕ) → Stretch → ℕ → Reading → List PlacedByte → List EditSeen
-touched_edits blocks stretch ordinal block item = if touches stretch item then item_edits blocks stretch.at ordinal block item else []
+-- what is offered for an item, which is after its place, if the stretch touches it
+abbrev pub touched_edits : List (List ℕ) → Stretch → Reading → (ℕ × List PlacedByte) → List EditSeen
+touched_edits blocks stretch block placed = if touches stretch placed.1 then item_edits blocks stretch.at placed.0 block placed.1 else []
 
--- what is offered for the items, the first of which has that place
-abbrev pub edits_from : List (List ℕ) → Stretch → ℕ → Reading → List (List PlacedByte) → List EditSeen
-edits_from blocks stretch ordinal block [] = []
-edits_from blocks stretch ordinal block (item ∷ items) =
-    touched_edits blocks stretch ordinal block item ++ edits_from blocks stretch (suc ordinal) block items
+-- what is offered for those of these items that the stretch touches, in their order
+abbrev pub edits_of : List (List ℕ) → Stretch → Reading → List (List PlacedByte) → List EditSeen
+edits_of blocks stretch block items = flat_map (touched_edits blocks stretch block) (enumerate_from 0 items)
 
--- what is offered for the items that a stretch touches, in their order
+-- the same of the items of its block
 abbrev pub edits_in : List (List ℕ) → Stretch → List EditSeen
-edits_in blocks stretch =
-    edits_from blocks stretch 0 (reading_of_text (text_at blocks stretch.at)) (items_of (folded_of (text_at blocks stretch.at)))
+edits_in blocks stretch = edits_of blocks stretch (reading_of_text (text_at blocks stretch.at)) (items_of (folded_of (text_at blocks stretch.at)))
 
 -- ---- a document
 

@@ -1,6 +1,6 @@
 -- The parts of an item as it is written (terminfo(5); X/Open Curses Issue 7, "Terminfo Source
 -- Format").
-use Rattle.std.specs.Prelude.{ℕ, ◌+◌, List, drop, length}
+use Rattle.std.specs.Prelude.{◌+◌, List, drop, length}
 use Rattle.ti_source.specs.Folding.{PlacedByte}
 use Rattle.ti_spans.specs.Subjects.{without_end}
 use Rattle.ti_spans.specs.Touching.{name_of}

@@ -1,29 +1,37 @@
 //! The `^` at the end of a string that takes nothing.
-ghost use Rattle.std.specs.Prelude.{◌≡◌, ◌<◌, ◌^◌, All};
+ghost use Rattle.std.specs.Prelude.{◌≡◌, ◌<◌, ◌^◌, ◌&&◌, All, not};
+ghost use Rattle.ti_source.specs.Items.{bytes};
 ghost use Rattle.ti_fixes.specs.Carets as spec;
+ghost use Rattle.ti_fixes.specs.Carets.{is_open};
 
 use ti_spans::Part;
 
-// Whether a byte that nothing takes is a `^` that takes the next byte.
-fn is_open_caret(before: u8, byte: u8) -> bool
-    ensures { result ≡ spec.is_open_caret before byte }
+// Whether a byte takes the next one, if `taken` says whether one takes it.
+fn takes(taken: bool, before: u8, byte: u8) -> bool
+    ensures { result ≡ (not taken && is_open before byte) }
 {
-    byte == b'^' && before != b'%'
+    !taken && (byte == b'\\' || byte == b'^' && before != b'%')
 }
 
-// Whether a byte that nothing takes takes the next byte.
-fn is_open(before: u8, byte: u8) -> bool
-    ensures { result ≡ spec.is_open before byte }
+// Whether a text takes the byte after it.
+fn takes_next(text: &[(u8, usize)]) -> bool
+    ensures { result ≡ spec.takes_next (bytes text.now) }
 {
-    byte == b'\\' || is_open_caret(before, byte)
+    let mut before = 0;
+    let mut taken = false;
+    for byte in text {
+        taken = takes(taken, before, byte.0);
+        before = byte.0;
+    }
+    taken
 }
 
-// Where a byte is that nothing takes, if it is a `^` that takes the next byte.
-fn caret_at(before: u8, byte: (u8, usize)) -> Option<Part>
+// Where a byte is, if it is a `^`.
+fn caret_at(byte: (u8, usize)) -> Option<Part>
     requires { byte.1 < 2 ^ 63 }
-    ensures { result ≡ spec.caret_at before byte }
+    ensures { result ≡ spec.caret_at byte }
 {
-    if !is_open_caret(before, byte.0) {
+    if byte.0 != b'^' {
         return None;
     }
     Some(Part {
@@ -37,18 +45,8 @@ pub(crate) fn caret_at_end(value: &[(u8, usize)]) -> Option<Part>
     requires { All (λ x. x.1 < 2 ^ 63) value.now }
     ensures { result ≡ spec.caret_at_end value.now }
 {
-    let mut before = 0;
-    let mut taken = false;
-    let mut found = None;
-    for byte in value {
-        if taken {
-            found = None;
-            taken = false;
-        } else {
-            found = caret_at(before, *byte);
-            taken = is_open(before, byte.0);
-        }
-        before = byte.0;
+    match value.last() {
+        Some(byte) if takes_next(value) => caret_at(*byte),
+        _ => None,
     }
-    found
 }

@@ -7,7 +7,7 @@ ghost use Rattle.ti_document.specs.Diagnostics.{text_at};
 ghost use Rattle.ti_document.specs.Documents.{IsShortBlock};
 ghost use Rattle.ti_fixes.specs.Edits.{edit_seen};
 ghost use Rattle.ti_fixes.specs.Fixes as spec;
-ghost use Rattle.ti_fixes.specs.Fixes.{edits_from, fix_of, fix_seen, item_edits, stretch_to, text_said, touched_edits};
+ghost use Rattle.ti_fixes.specs.Fixes.{fix_of, fix_seen, stretch_to, text_said, touched_edits};
 
 use crate::edits::{Advice, Edit, push_edits};
 use crate::pieces::span;
@@ -76,26 +76,6 @@ fn value_at(items: &[Item], ordinal: usize) -> Option<&[u8]>
     None
 }
 
-// Adds what is offered for the item of that place in the block at that position.
-fn push_item(
-    alloc: Global,
-    edits: &mut Vec<Edit>,
-    database: &Database,
-    at: usize,
-    ordinal: usize,
-    parsed: &Parsed,
-    item: &[(u8, usize)],
-) -> Result<(), AllocError>
-    requires { All (λ x. x.1 < 2 ^ 63) item.now }
-    ensures { OnOk result (map edit_seen edits.new.items
-        ≡ map edit_seen edits.old.items ++ item_edits database.now at ordinal (reading_of parsed.now) item.now) }
-{
-    let code = code_at(&parsed.faults, ordinal);
-    let value = value_at(&parsed.items, ordinal);
-    push_edits(alloc, edits, item, code, value)?;
-    push_used(alloc, edits, database, at, item)
-}
-
 // Whether a stretch touches an item of its block.
 fn touches(stretch: Stretch, item: &[(u8, usize)]) -> bool
     requires { All (λ x. x.1 < 2 ^ 63) item.now }
@@ -108,7 +88,7 @@ fn touches(stretch: Stretch, item: &[(u8, usize)]) -> bool
 }
 
 // Adds what is offered for the item of that place, if the stretch touches it.
-fn push_touched(
+fn push_item(
     alloc: Global,
     edits: &mut Vec<Edit>,
     database: &Database,
@@ -119,12 +99,15 @@ fn push_touched(
 ) -> Result<(), AllocError>
     requires { All (λ x. x.1 < 2 ^ 63) item.now }
     ensures { OnOk result (map edit_seen edits.new.items
-        ≡ map edit_seen edits.old.items ++ touched_edits database.now stretch ordinal (reading_of parsed.now) item.now) }
+        ≡ map edit_seen edits.old.items ++ touched_edits database.now stretch (reading_of parsed.now) (ordinal, item.now)) }
 {
     if !touches(stretch, item) {
         return Ok(());
     }
-    push_item(alloc, edits, database, stretch.at, ordinal, parsed, item)
+    let code = code_at(&parsed.faults, ordinal);
+    let value = value_at(&parsed.items, ordinal);
+    push_edits(alloc, edits, item, code, value)?;
+    push_used(alloc, edits, database, stretch.at, item)
 }
 
 // What is offered for the items of a block that a stretch of it touches.
@@ -139,13 +122,13 @@ fn edits_of(
     requires within { All (IsWithin text.now) items.now }
     requires offsets { All (λ x. x.1 < 2 ^ 63) text.now }
     ensures { IfOk result (λ edits. map edit_seen edits.items
-        ≡ edits_from database.now stretch 0 (reading_of parsed.now) (map (part_of text.now) items.now)) }
+        ≡ spec.edits_of database.now stretch (reading_of parsed.now) (map (part_of text.now) items.now)) }
 {
     let mut edits = Vec::new(alloc);
     for ordinal in 0..items.len() {
         let item = items[ordinal];
         let bytes = &text[item.start..item.end];
-        push_touched(alloc, &mut edits, database, stretch, ordinal, parsed, bytes)?;
+        push_item(alloc, &mut edits, database, stretch, ordinal, parsed, bytes)?;
     }
     Ok(edits)
 }

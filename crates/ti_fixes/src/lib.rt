@@ -9,6 +9,7 @@
 //! - `edits`: what is offered against the fault of an item, as edits of its block
 //! - `uses`: what is offered against a use of a name that no block has
 //! - `fixes`: what is offered for the items that a range touches
+//! - `laws`: an item that is edited as it is offered has lost its fault
 #![tactic(auto)]
 
 mod candidates;
@@ -16,6 +17,7 @@ mod carets;
 mod distances;
 mod edits;
 mod fixes;
+mod laws;
 mod pieces;
 mod texts;
 mod uses;
@@ -23,3 +25,7 @@ mod uses;
 pub use distances::nearest;
 pub use edits::Advice;
 pub use fixes::{Fix, fixes_of};
+pub use laws::{
+    items_are_in_order, items_have_one_verdict, names_are_of_capabilities,
+    names_are_of_other_blocks, signs_fit_the_kind, spellings_read_back,
+};

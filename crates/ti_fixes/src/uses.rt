@@ -56,7 +56,7 @@ fn push_other<'a>(
 ) -> Result<(), AllocError>
     requires { at < length database.now }
     ensures { OnOk result (map (λ name. name.now) names.new.items
-        ≡ map (λ name. name.now) names.old.items ++ others_in database.now own at (text_at database.now at)) }
+        ≡ map (λ name. name.now) names.old.items ++ others_in database.now own (at, text_at database.now at)) }
 {
     if at == own {
         return Ok(());
