@@ -1,19 +1,16 @@
 -- The block that decides a capability: as it is looked for, and that it is the one.
-use Rattle.std.proofs.Common.{◌≡◌, ℕ, zero, suc, ◌+◌, ◌-◌, ◌<◌, Bool, true, false, cond, List, [], ◌∷◌, ◌++◌, Option, Some, None, map, slice_get, refl, sym, ap, subst, ◌∙◌, add-one, arith}
-use Rattle.std.specs.Prelude.{◌↔◌, option_and_then, option_map}
+use Rattle.std.proofs.Common.{◌≡◌, ℕ, zero, suc, ◌+◌, ◌-◌, ◌<◌, List, [], ◌∷◌, ◌++◌, Option, Some, None, map, slice_get, refl, sym, ap, subst, ◌∙◌, add-one, arith}
+use Rattle.std.specs.Prelude.{option_and_then, option_map}
 use Rattle.std.specs.Option.{option_map_or}
-use Rattle.std.proofs.lemmas.List.{append_assoc}
 use Rattle.std.proofs.lemmas.Option.{none-some, same_Some}
 use Rattle.ti_caps.specs.Tables.{Capability, IsCapability, capability}
 use Rattle.ti_caps.specs.declared.capability.Kind.{Kind}
 use Rattle.ti_source.specs.Reading as reading
 use Rattle.ti_source.specs.Reading.{Reading, ReadItem, item_of}
 use Rattle.ti_source.specs.declared.parsing.Item.{Item}
-use Rattle.ti_layout.specs.Values.{Contents, Mention, contents}
-use Rattle.ti_meaning.specs.Expansion.{expansion}
+use Rattle.ti_layout.specs.Values.{Contents}
 use Rattle.ti_meaning.specs.ValueTables.{HasTable}
-use Rattle.ti_features.specs.Deciding.{Decides, decides_it, hands_it_on, is_silent, decider_by, decider_in, inherited_below, inherited_one, items_of, said_by, said_of, say_of}
-use Rattle.ti_features.specs.declared.deciding.Inherited.{Inherited}
+use Rattle.ti_features.specs.Deciding.{Decides, decides_it, hands_it_on, is_silent, decider_by, decider_in, inherited_below, inherited_one, items_of, said_by, say_of}
 use Rattle.ti_features.specs.declared.deciding.Say.{Say}
 use Rattle.ti_features.specs.declared.deciding.Say.TheVariants.{Silent, Decisive, HandsOn}
 

@@ -16,10 +16,9 @@ use Rattle.ti_layout.specs.Values.{Contents, Mention}
 use Rattle.ti_meaning.specs.Compiled as meaning
 use Rattle.ti_meaning.specs.Compiled.{compiled, entry, image_of, is_too_large}
 use Rattle.ti_meaning.specs.Expansion.{expansion, values}
-use Rattle.ti_meaning.specs.Owner.{owner, owner_block, readings}
-use Rattle.ti_meaning.proofs.Owning.{nobody_to_none, owner_to_owned}
-use Rattle.ti_features.specs.Holdings.{count_there, entry_of, entry_with, holding}
-use Rattle.ti_features.specs.declared.holdings.Entry.TheVariants.{Missing, Faulty, Held}
+use Rattle.ti_meaning.specs.Owner.{readings}
+use Rattle.ti_document.specs.Diagnostics.{Shown}
+use Rattle.ti_features.specs.Holdings.{count_there, entry_faulty, entry_held, entry_of, entry_with, holding}
 use Rattle.ti_features.specs.declared.holdings.Holding.{Holding}
 use Rattle.ti_document.specs.Documents.{IsShortBlock}
 use Rattle.ti_features.proofs.EntriesRead.{entry_reads}
@@ -37,26 +36,26 @@ kind_same c d same kind = count_same (of_kind c kind) (of_kind d kind) (count_of
 pub holding_same : (c d : Contents) (size : ℕ) → ((k : Capability) → IsCapability k → c k ≡ d k) → holding c size ≡ holding d size
 holding_same c d size same = rw (kind_same c d same Flag, kind_same c d same Number, kind_same c d same Text) refl
 
-pub count_none : (places : ByIndex) → count_there places 0 ≡ 0
+pub count_none : (places : ByIndex) → count_there values 0 ≡ 0
 unfolding count_there
 count_none places = refl
 
-count_more : (places : ByIndex) (n : ℕ) (b : Bool) → is_there (places n) ≡ b → count_there places (suc n) ≡ cond b (suc (count_there places n)) (count_there places n)
+count_more : (places : ByIndex) (n : ℕ) (b : Bool) → is_there (values n) ≡ b → count_there values (suc n) ≡ cond b (suc (count_there values n)) (count_there values n)
 unfolding count_there
 count_more places n b e = rw e refl
 
-pub count_one : (places : ByIndex) (n count : ℕ) → is_there (places n) ≡ true → count ≡ count_there places n → count + 1 ≡ count_there places (n + 1)
+pub count_one : (places : ByIndex) (n count : ℕ) → is_there (values n) ≡ true → count ≡ count_there values n → count + 1 ≡ count_there values (n + 1)
 count_one places n count e so =
-    ap (λ (k : ℕ). k + 1) so ∙ add-one (count_there places n) ∙ sym (ap (count_there places) (add-one n) ∙ count_more places n true e)
+    ap (λ (k : ℕ). k + 1) so ∙ add-one (count_there values n) ∙ sym (ap (count_there values) (add-one n) ∙ count_more places n true e)
 
-pub count_no : (places : ByIndex) (n count : ℕ) → is_there (places n) ≡ false → count ≡ count_there places n → count ≡ count_there places (n + 1)
-count_no places n count e so = so ∙ sym (ap (count_there places) (add-one n) ∙ count_more places n false e)
+pub count_no : (places : ByIndex) (n count : ℕ) → is_there (values n) ≡ false → count ≡ count_there values n → count ≡ count_there values (n + 1)
+count_no places n count e so = so ∙ sym (ap (count_there values) (add-one n) ∙ count_more places n false e)
 
 -- ---- whether a block has an entry
 
-none_with : (b : Reading) (o : Option (List Mention)) → option_and_then (meaning.entry_of b) o ≡ None → Faulty ≡ entry_with b o
-none_with b None e = refl
-none_with b (Some ms) e = elim (is_too_large b ms) as (λ v. cond v None (Some (image_of b ms)) ≡ None → Faulty ≡ cond v Faulty (Held (holding (values ms) (length (image_of b ms))))) [
+none_with : (cause : Option Shown) (b : Reading) (o : Option (List Mention)) → option_and_then (meaning.entry_of b) o ≡ None → entry_faulty cause ≡ entry_with cause b o
+none_with cause b None e = refl
+none_with cause b (Some ms) e = elim (is_too_large b ms) as (λ v. cond v None (Some (image_of b ms)) ≡ None → entry_faulty cause ≡ cond v (entry_faulty cause) (entry_held (holding (values ms) (length (image_of b ms))))) [
   | true ↦ λ is. refl
   | false ↦ λ is. absurd (none-some (image_of b ms) (sym is))
 ] e
@@ -80,28 +79,30 @@ some_with b (Some ms) bytes e = elim (cases_Bool (is_too_large b ms)) [
 pub read_at : (texts : List (List ℕ)) (at : ℕ) (text : List ℕ) → slice_get texts at ≡ Some text → slice_get (readings texts) at ≡ Some (reading_of_text text)
 read_at texts at text e = slice_get-map reading_of_text texts at ∙ ap (option_map reading_of_text) e
 
-held_with : (b : Reading) (ms : List Mention) → is_too_large b ms ≡ false → entry_with b (Some ms) ≡ Held (holding (values ms) (length (image_of b ms)))
-held_with b ms small = ap (λ (v : Bool). cond v Faulty (Held (holding (values ms) (length (image_of b ms))))) small
+held_with : (cause : Option Shown) (b : Reading) (ms : List Mention) → is_too_large b ms ≡ false → entry_with cause b (Some ms) ≡ entry_held (holding (values ms) (length (image_of b ms)))
+held_with cause b ms small = ap (λ (v : Bool). cond v (entry_faulty cause) (entry_held (holding (values ms) (length (image_of b ms))))) small
 
 pub block_here : (texts : List (List ℕ)) (at : ℕ) → at < length texts → slice_get (readings texts) at ≡ Some (reading_of_text (get_or texts at []))
 block_here texts at within = read_at texts at (get_or texts at []) (slice_get-get_or texts at [] within)
 
-pub no_entry : (texts : List (List ℕ)) (at : ℕ) → at < length texts → compiled texts at ≡ None → Faulty ≡ entry_of (readings texts) (slice_get (readings texts) at)
-no_entry texts at within e =
+pub no_entry : (texts : List (List ℕ)) (cause : Option Shown) (at : ℕ) → at < length texts → compiled texts at ≡ None
+    → entry_faulty cause ≡ entry_of (readings texts) cause (slice_get (readings texts) at)
+no_entry texts cause at within e =
     let block = reading_of_text (get_or texts at []) in
     let here = block_here texts at within in
-    none_with block (expansion (readings texts) block) (sym (ap (option_and_then (entry (readings texts))) here) ∙ e) ∙ ap (entry_of (readings texts)) (sym here)
+    none_with cause block (expansion (readings texts) block) (sym (ap (option_and_then (entry (readings texts))) here) ∙ e)
+    ∙ ap (entry_of (readings texts) cause) (sym here)
 
 -- these bytes are read as what the entry at a position holds
-pub record IsHeldIn (texts : List (List ℕ)) (at : ℕ) (bytes : List ℕ) : Type 0 where
+pub record IsHeldIn (texts : List (List ℕ)) (cause : Option Shown) (at : ℕ) (bytes : List ℕ) : Type 0 where
   pub names : List ℕ
   pub contents : Contents
   pub reads : Reads bytes names contents
-  pub held : Held (holding contents (length bytes)) ≡ entry_of (readings texts) (slice_get (readings texts) at)
+  pub held : entry_held (holding contents (length bytes)) ≡ entry_of (readings texts) cause (slice_get (readings texts) at)
 
-pub found_entry : EachIsWellRead → ImagesAreRead → (texts : List (List ℕ)) → All IsShortBlock texts → (at : ℕ) → at < length texts → (bytes : List ℕ) → compiled texts at ≡ Some bytes
-    → IsHeldIn texts at bytes
-found_entry each images texts short at within bytes e =
+pub found_entry : EachIsWellRead → ImagesAreRead → (texts : List (List ℕ)) → All IsShortBlock texts → (cause : Option Shown) (at : ℕ) → at < length texts
+    → (bytes : List ℕ) → compiled texts at ≡ Some bytes → IsHeldIn texts cause at bytes
+found_entry each images texts short cause at within bytes e =
     let text = get_or texts at [] in
     let block = reading_of_text text in
     let here = block_here texts at within in
@@ -111,18 +112,9 @@ found_entry each images texts short at within bytes e =
       names = block.field;
       contents = r.read;
       reads = subst (λ (b : List ℕ). Reads b block.field r.read) s.whole r.reads;
-      held = ap (λ (h : Holding). Held h) (holding_same r.read (values s.ms) (length bytes) r.same)
-          ∙ ap (λ (b : List ℕ). Held (holding (values s.ms) (length b))) (sym s.whole)
-          ∙ sym (held_with block s.ms s.fits)
-          ∙ ap (entry_with block) (sym s.expands)
-          ∙ ap (entry_of (readings texts)) (sym here);
+      held = ap (λ (h : Holding). entry_held h) (holding_same r.read (values s.ms) (length bytes) r.same)
+          ∙ ap (λ (b : List ℕ). entry_held (holding (values s.ms) (length b))) (sym s.whole)
+          ∙ sym (held_with cause block s.ms s.fits)
+          ∙ ap (entry_with cause block) (sym s.expands)
+          ∙ ap (entry_of (readings texts) cause) (sym here);
     }
-
-pub owned_entry : (texts : List (List ℕ)) (name : List ℕ) (at : ℕ) → at < length texts → owner (readings texts) name ≡ Some at
-    → entry_of (readings texts) (slice_get (readings texts) at) ≡ entry_of (readings texts) (owner_block (readings texts) name)
-owned_entry texts name at within e =
-    let here = block_here texts at within in
-    ap (entry_of (readings texts)) (here ∙ sym (owner_to_owned (readings texts) name at (reading_of_text (get_or texts at [])) e here))
-
-pub no_owner : (texts : List (List ℕ)) (name : List ℕ) → owner (readings texts) name ≡ None → Missing ≡ entry_of (readings texts) (owner_block (readings texts) name)
-no_owner texts name e = ap (entry_of (readings texts)) (sym (nobody_to_none (readings texts) name e))

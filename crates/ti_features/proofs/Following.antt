@@ -1,5 +1,5 @@
 -- What is renamed is in the order of the text, and no part of it overlaps another.
-use Rattle.std.proofs.Common.{◌≡◌, ℕ, zero, suc, ◌+◌, ◌-◌, ◌<◌, ◌≤◌, ◌==◌, ◌||◌, ◌&&◌, All, Bool, true, false, cond, inl, inr, List, [], ◌∷◌, ◌++◌, drop, filter, flat_map, length, map, take, Option, None, Some, refl, sym, subst, arith}
+use Rattle.std.proofs.Common.{◌≡◌, ℕ, zero, suc, ◌+◌, ◌-◌, ◌≤◌, ◌==◌, ◌||◌, ◌&&◌, All, Bool, true, false, cond, inl, inr, List, [], ◌∷◌, ◌++◌, drop, filter, flat_map, length, map, take, Option, None, Some, refl, sym, subst, arith}
 use Rattle.std.specs.Option.{option_map_or, option_to_list}
 use Rattle.std.specs.Str.{bytes_eq}
 use Rattle.std.specs.List.{list_all}
@@ -21,7 +21,7 @@ use Rattle.ti_messages.specs.declared.failures.Failure.{Failure}
 use Rattle.ti_messages.specs.declared.places.Position.{Position}
 use Rattle.ti_messages.specs.declared.places.Range.{Range}
 use Rattle.ti_document.specs.Documents.{HeldBlocksFit, IsShortBlock, held}
-use Rattle.ti_document.specs.Position.{ends_line, place_after, position_of, step_over, units}
+use Rattle.ti_document.specs.Position.{ends_line, place_after, step_over, units}
 use Rattle.ti_features.specs.Names.{is_sought, name_of, one_name, owner_of, parts_in, ranges_from, ranges_in, ranges_of, touched_at, used_parts}
 use Rattle.ti_features.specs.Renaming.{FollowFrom, RenamedPartsFollow, failure_of, refuses, renamed, renamed_touched, renames, renames_nothing}
 use Rattle.ti_features.specs.Spots.{head_line, place_in, range_in}

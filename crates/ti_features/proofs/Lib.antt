@@ -1,8 +1,11 @@
+pub mod CausesFound
+pub mod CausesTold
 pub mod Deciders
 pub mod Decisions
 pub mod EntriesHeld
 pub mod EntriesRead
 pub mod EntryParts
+pub mod Firsts
 pub mod Following
 pub mod Naming
 pub mod OnceNamed

@@ -1,5 +1,5 @@
 -- A block says of a capability what the block says that decides it.
-use Rattle.std.proofs.Common.{◌≡◌, ℕ, zero, suc, ◌≤◌, Bool, true, false, cond, List, [], ◌∷◌, ◌++◌, Option, Some, None, length, slice_get, refl, sym, ap, subst, ◌∙◌, arith}
+use Rattle.std.proofs.Common.{◌≡◌, ℕ, zero, suc, Bool, true, false, cond, List, [], ◌∷◌, Option, Some, None, length, slice_get, refl, sym, ap, subst, ◌∙◌, arith}
 use Rattle.std.specs.Prelude.{is_some, option_and_then}
 use Rattle.std.specs.Option.{option_map_or, option_or}
 use Rattle.std.proofs.lemmas.Option.{none-some, same_Some}
@@ -11,8 +11,7 @@ use Rattle.ti_meaning.specs.Owner.{owner, owner_block}
 use Rattle.ti_meaning.proofs.Depth.{expand-le, joined_parts, names_at}
 use Rattle.ti_meaning.proofs.MentionMerging.{said-append}
 use Rattle.ti_meaning.proofs.Owning.{owning, somebody, nobody}
-use Rattle.ti_features.specs.Deciding.{Decides, DecidersSayIt, decider_by, decider_in, items_of, said_by, said_of, say_of, say_of_mention, say_of_use}
-use Rattle.ti_features.specs.declared.deciding.Say.{Say}
+use Rattle.ti_features.specs.Deciding.{DecidersSayIt, decider_by, decider_in, items_of, said_by, said_of, say_of, say_of_mention, say_of_use}
 use Rattle.ti_features.specs.declared.deciding.Say.TheVariants.{Silent, Decisive, HandsOn}
 use Rattle.ti_features.proofs.Deciders.{decided_found}
 

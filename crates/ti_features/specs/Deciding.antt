@@ -11,12 +11,10 @@ use Rattle.ti_source.specs.Parsing.{reading_of_text}
 use Rattle.ti_source.specs.Reading.{Reading, ReadItem, Said, said_flag, said_number, said_text, said_cancel, said_import}
 use Rattle.ti_layout.specs.Image.{is_there}
 use Rattle.ti_layout.specs.Values.{Content, Mention, contents}
+use Rattle.ti_meaning.specs.Compiled.{compiled}
 use Rattle.ti_meaning.specs.Expansion.{expansion}
 use Rattle.ti_meaning.specs.Owner.{owner, readings}
 use Rattle.ti_meaning.specs.Report.{shown_detail}
-use Rattle.ti_features.specs.Holdings.{entry_named}
-use Rattle.ti_features.specs.declared.holdings.Entry.{Entry}
-use Rattle.ti_features.specs.declared.holdings.Entry.TheVariants.{Missing, Faulty, Held}
 use Rattle.ti_features.specs.declared.deciding.Inherited.{Inherited}
 use Rattle.ti_features.specs.declared.deciding.Say.{Say}
 use Rattle.ti_features.specs.declared.deciding.Say.TheVariants.{Silent, Decisive, HandsOn}
@@ -156,16 +154,13 @@ sources_from inherited at (text ∷ texts) = source_with (reading_of_text text).
 abbrev pub sources_of : List (List ℕ) → ℕ → List SourceSeen
 sources_of texts at = sources_from (inherited_of (readings texts) at) 0 texts
 
--- those of the block at a position, if there is one and it has an entry
-abbrev pub sources_with : List (List ℕ) → Entry → Option ℕ → List SourceSeen
-sources_with texts Missing at = []
-sources_with texts Faulty at = []
-sources_with texts (Held holding) None = []
-sources_with texts (Held holding) (Some at) = sources_of texts at
+-- those of the block at a position, if it has an entry
+abbrev pub sources_at : List (List ℕ) → ℕ → List SourceSeen
+sources_at texts at = if is_some (compiled texts at) then sources_of texts at else []
 
 -- those of the block that owns a name
 abbrev pub sources_named : List (List ℕ) → List ℕ → List SourceSeen
-sources_named texts name = sources_with texts (entry_named texts name) (owner (readings texts) name)
+sources_named texts name = option_map_or (sources_at texts) (owner (readings texts) name) []
 
 -- ---- laws
 

@@ -11,21 +11,21 @@ use Rattle.ti_messages.specs.declared.places.Range.{Range}
 use Rattle.ti_document.specs.Diagnostics.{text_at}
 use Rattle.ti_document.specs.Documents.{held}
 use Rattle.ti_features.specs.Deciding.{SourceSeen, source_seen, sources_named}
-use Rattle.ti_features.specs.Holdings.{entry_named}
+use Rattle.ti_features.specs.Holdings.{EntrySeen, entry_named, entry_seen}
 use Rattle.ti_features.specs.Meanings.{MeaningSeen, meaning_at, meaning_seen}
 use Rattle.ti_features.specs.Names.{name_of}
 use Rattle.ti_features.specs.Spots.{range_in, spot_at}
-use Rattle.ti_features.specs.declared.holdings.Entry.{Entry}
 use Rattle.ti_features.specs.declared.hovers.About.{About}
 use Rattle.ti_features.specs.declared.hovers.About.TheVariants as about
 use Rattle.ti_features.specs.declared.hovers.Hover.{Hover}
 use Rattle.ti_features.specs.declared.spots.Spot.{Spot}
 
 -- what a place is on, as plain data: an item of a capability, with its text and what it means; or a
--- name, with what its owner's entry holds and the blocks that decide what it inherits
+-- name, with what its owner's entry holds or why there is none, and the blocks that decide what it
+-- inherits
 pub data AboutSeen : Type 0 where
   about_item : Capability → List ℕ → MeaningSeen → AboutSeen
-  about_name : List ℕ → Entry → List SourceSeen → AboutSeen
+  about_name : List ℕ → EntrySeen → List SourceSeen → AboutSeen
 
 -- what is told of a part of a source, as plain data
 pub record HoverSeen : Type 0 where
@@ -35,17 +35,17 @@ pub record HoverSeen : Type 0 where
 -- what holds its texts in memory, as plain data
 abbrev pub about_seen : About → AboutSeen
 about_seen (about.Item capability text meaning) = about_item capability (string_bytes text) (meaning_seen meaning)
-about_seen (about.Name name entry sources) = about_name (string_bytes name) entry (map source_seen sources.items)
+about_seen (about.Name name entry sources) = about_name (string_bytes name) (entry_seen entry) (map source_seen sources.items)
 
 -- what is told, if its texts are in memory, as plain data
 abbrev pub hover_seen : Hover → HoverSeen
 hover_seen hover = record { range = hover.range; about = about_seen hover.about }
 
--- what is told of a name in a block that begins on that line
-abbrev pub name_told : List (List ℕ) → ℕ → List ℕ → TouchedSeen → HoverSeen
-name_told blocks line block touched = record {
+-- what is told of a name in a block of a text that begins on that line
+abbrev pub name_told : List ℕ → ℕ → List ℕ → TouchedSeen → HoverSeen
+name_told text line block touched = record {
   range = range_in line block touched.span;
-  about = about_name (shown_detail (name_of touched.subject)) (entry_named blocks (name_of touched.subject)) (sources_named blocks (name_of touched.subject));
+  about = about_name (shown_detail (name_of touched.subject)) (entry_named text (name_of touched.subject)) (sources_named (held text) (name_of touched.subject));
 }
 
 -- what is told of an item of a capability, which that offset is on
@@ -59,15 +59,15 @@ capability_told line block offset item c = record {
 abbrev pub item_told : ℕ → List ℕ → ℕ → ItemSeen → Option HoverSeen
 item_told line block offset item = option_map (capability_told line block offset item) (capability_named item.name)
 
--- what is told at an offset of a block that begins on that line
-abbrev pub told_at : List (List ℕ) → ℕ → List ℕ → ℕ → Option HoverSeen
-told_at blocks line block offset =
-    option_or (option_map (name_told blocks line block) (subject_at block offset)) (option_and_then (item_told line block offset) (item_at block offset))
+-- what is told at an offset of a block of a text that begins on that line
+abbrev pub told_at : List ℕ → ℕ → List ℕ → ℕ → Option HoverSeen
+told_at text line block offset =
+    option_or (option_map (name_told text line block) (subject_at block offset)) (option_and_then (item_told line block offset) (item_at block offset))
 
--- what is told at a place in a block
-abbrev pub told_in : List (List ℕ) → Spot → Option HoverSeen
-told_in blocks spot = told_at blocks spot.line (text_at blocks spot.at) spot.offset
+-- what is told at a place in a block of a text
+abbrev pub told_in : List ℕ → Spot → Option HoverSeen
+told_in text spot = told_at text spot.line (text_at (held text) spot.at) spot.offset
 
 -- what is told at a place of a text
 abbrev pub hover_of : List ℕ → Position → Option HoverSeen
-hover_of text place = option_and_then (told_in (held text)) (spot_at text place)
+hover_of text place = option_and_then (told_in text) (spot_at text place)

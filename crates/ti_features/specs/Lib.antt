@@ -1,4 +1,5 @@
 -- The definitions that the contracts of this crate cite.
+pub mod Causes
 pub mod Completions
 pub mod Deciding
 pub mod Holdings

@@ -119,13 +119,8 @@ pub fn completion_of(
         return Ok(None);
     };
     let database = document.database();
-    completion_at(
-        alloc,
-        database,
-        spot.line,
-        database.text(spot.at),
-        spot.offset,
-    )
+    let block = database.text(spot.at);
+    completion_at(alloc, database, spot.line, block, spot.offset)
 }
 
 /// A law, with no code: the names that are offered are the lookup names of all blocks, each once,

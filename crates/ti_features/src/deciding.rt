@@ -8,9 +8,8 @@ ghost use Rattle.ti_layout.specs.Values.{content_of};
 ghost use Rattle.ti_meaning.specs.Owner.{owner, readings};
 ghost use Rattle.ti_features.specs.Deciding as spec;
 ghost use Rattle.ti_features.specs.Deciding.{decided_by, decider, first_name, inherited_kind, other_decider, said_by, say_of, say_of_mention, say_of_use, source_seen, source_with, sources_from};
-ghost use Rattle.ti_features.specs.Holdings.{entry_named};
 
-use crate::holdings::{Entry, cap_at};
+use crate::holdings::cap_at;
 use std::alloc::{AllocError, Global};
 use std::rc::RcSlice;
 use ti_base::Database;
@@ -256,13 +255,11 @@ pub(crate) fn sources_named(
     alloc: Global,
     database: &Database,
     name: &[u8],
-    entry: Entry,
 ) -> Result<Vec<Source>, AllocError>
-    requires { entry ≡ entry_named database.now name.now }
     ensures { IfOk result (λ sources. map source_seen sources.items ≡ spec.sources_named database.now name.now) }
 {
-    match (entry, database.owner(name)) {
-        (Entry::Held(_), Some(at)) => sources_of(alloc, database, at),
+    match database.owner(name) {
+        Some(at) if database.compiled(at).is_some() => sources_of(alloc, database, at),
         _ => Ok(Vec::new(alloc)),
     }
 }

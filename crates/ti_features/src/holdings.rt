@@ -1,17 +1,19 @@
-//! What the entry of a block holds.
-ghost use Rattle.std.specs.Prelude.{◌≡◌, ◌<◌, All, List, length, slice_get, ℕ};
+//! What the entry of a block holds, or why there is none.
+ghost use Rattle.std.specs.Prelude.{◌≡◌, ◌<◌, IfOk, List, length, ℕ};
 ghost use Rattle.ti_caps.specs.Tables.{capability, count_of};
 ghost use Rattle.ti_layout.specs.Image.{is_there, of_kind};
 ghost use Rattle.ti_layout.specs.Reading.{Reads};
 ghost use Rattle.ti_layout.specs.Values.{Contents};
 ghost use Rattle.ti_layout.specs.View.{view_contents};
-ghost use Rattle.ti_meaning.specs.Owner.{readings};
-ghost use Rattle.ti_features.specs.Holdings.{count_there, entry_named, entry_of, holding};
+ghost use Rattle.ti_document.specs.Documents.{held};
+ghost use Rattle.ti_features.specs.Holdings as spec;
+ghost use Rattle.ti_features.specs.Holdings.{count_there, entry_seen, holding};
 ghost use Rattle.ti_features.specs.inside.Entries.{IsEntry};
-ghost use Rattle.ti_document.specs.Documents.{IsShortBlock};
 
-use ti_base::Database;
+use crate::causes::cause_told;
+use std::alloc::{AllocError, Global};
 use ti_caps::{Cap, Kind, count};
+use ti_document::{Diagnostic, Document, held_blocks_fit};
 use ti_layout::{View, images_are_read};
 use ti_source::each_is_well_read;
 
@@ -29,13 +31,13 @@ pub struct Holding {
 }
 
 /// What became of a name.
-#[derive(Clone, Copy, Debug, PartialEq, Eq)]
+#[derive(Debug, Drop)]
 pub enum Entry {
     /// No block has the name.
     Missing,
-    /// The block that owns the name has no entry: there is an error in it or in a block that it
-    /// uses, or its entry is over the limit.
-    Faulty,
+    /// The block that owns the name has no entry: why, as the diagnostic of the first error that
+    /// the report has of the block tells it.
+    Faulty(Diagnostic),
     /// The block that owns the name has an entry, which holds this.
     Held(Holding),
 }
@@ -95,27 +97,30 @@ fn held_in(bytes: &[u8]) -> Holding
     }
 }
 
-// What the entry of a block holds, if it has one.
-fn entry_at(database: &Database, at: usize) -> Entry
-    requires short { All IsShortBlock database.now }
-    requires within { at < length database.now }
-    ensures { result ≡ entry_of (readings database.now) (slice_get (readings database.now) at) }
+// What became of the block at a position.
+fn entry_at(alloc: Global, document: &Document, at: usize) -> Result<Entry, AllocError>
+    requires { at < length (held document.now) }
+    ensures { IfOk result (λ entry. entry_seen entry ≡ spec.entry_at document.now at) }
 {
+    held_blocks_fit();
     each_is_well_read();
     images_are_read();
-    match database.compiled(at) {
-        Some(bytes) => Entry::Held(held_in(bytes)),
-        None => Entry::Faulty,
+    match document.database().compiled(at) {
+        Some(bytes) => Ok(Entry::Held(held_in(bytes))),
+        None => Ok(Entry::Faulty(cause_told(alloc, document, at)?)),
     }
 }
 
 /// What became of a name.
-pub(crate) fn entry_named(database: &Database, name: &[u8]) -> Entry
-    requires { All IsShortBlock database.now }
-    ensures { result ≡ entry_named database.now name.now }
+pub(crate) fn entry_named(
+    alloc: Global,
+    document: &Document,
+    name: &[u8],
+) -> Result<Entry, AllocError>
+    ensures { IfOk result (λ entry. entry_seen entry ≡ spec.entry_named document.now name.now) }
 {
-    match database.owner(name) {
-        Some(at) => entry_at(database, at),
-        None => Entry::Missing,
+    match document.database().owner(name) {
+        Some(at) => entry_at(alloc, document, at),
+        None => Ok(Entry::Missing),
     }
 }

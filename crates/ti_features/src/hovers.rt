@@ -1,24 +1,22 @@
 //! What an editor tells of what a place is on.
-ghost use Rattle.std.specs.Prelude.{◌≡◌, ◌<◌, ◌+◌, ◌^◌, All, IfOk, length, option_map};
+ghost use Rattle.std.specs.Prelude.{◌≡◌, ◌<◌, ◌+◌, ◌^◌, IfOk, length, option_map};
 ghost use Rattle.std.specs.Option.{option_or};
 ghost use Rattle.ti_source.specs.Cutting.{OneBlock};
-ghost use Rattle.ti_spans.specs.Subjects.{subject_seen, touched_seen};
+ghost use Rattle.ti_spans.specs.Subjects.{touched_seen};
 ghost use Rattle.ti_spans.specs.Touching.{item_seen};
 ghost use Rattle.ti_features.specs.Hovers as spec;
 ghost use Rattle.ti_features.specs.Hovers.{hover_seen, item_told, name_told, told_at};
-ghost use Rattle.ti_features.specs.Names.{name_of};
-ghost use Rattle.ti_document.specs.Documents.{IsShortBlock};
 
 use crate::deciding::{Source, sources_named};
 use crate::holdings::{Entry, entry_named};
 use crate::meanings::{Meaning, meaning_at};
+use crate::names::name_of;
 use crate::spots::{range_in, spot_at};
 use std::alloc::{AllocError, Global};
-use ti_base::Database;
 use ti_caps::{Cap, find};
 use ti_document::{Document, held_blocks_fit, shown_detail};
 use ti_messages::{Position, Range};
-use ti_spans::{Item, Subject, Touched, item_at, subject_at};
+use ti_spans::{Item, Touched, item_at, subject_at};
 
 /// What a place is on.
 #[derive(Debug, Drop)]
@@ -52,34 +50,22 @@ pub struct Hover {
     pub about: About,
 }
 
-// The name that a subject is or uses.
-fn name_of(subject: &Subject) -> &[u8]
-    ensures { result.now ≡ name_of (subject_seen subject.now) }
-{
-    match subject {
-        Subject::OwnName(name) => name.as_slice(),
-        Subject::Used(name) => name.as_slice(),
-    }
-}
-
 // What is told of a name in a block that begins on that line.
 fn name_told(
     alloc: Global,
-    database: &Database,
+    document: &Document,
     line: usize,
     block: &[u8],
     touched: &Touched,
 ) -> Result<Hover, AllocError>
-    requires short { All IsShortBlock database.now }
     requires room { line + length block.now < 2 ^ 64 }
-    ensures { IfOk result (λ told. hover_seen told ≡ name_told database.now line block.now (touched_seen touched.now)) }
+    ensures { IfOk result (λ told. hover_seen told ≡ name_told document.now line block.now (touched_seen touched.now)) }
 {
     let name = name_of(&touched.subject);
-    let entry = entry_named(database, name);
     let about = About::Name {
         name: shown_detail(alloc, name)?,
-        entry,
-        sources: sources_named(alloc, database, name, entry)?,
+        entry: entry_named(alloc, document, name)?,
+        sources: sources_named(alloc, document.database(), name)?,
     };
     Ok(Hover {
         range: range_in(line, block, touched.span),
@@ -116,18 +102,17 @@ fn item_told(
 // What is told at an offset of a block that begins on that line.
 fn told_at(
     alloc: Global,
-    database: &Database,
+    document: &Document,
     line: usize,
     block: &[u8],
     offset: usize,
 ) -> Result<Option<Hover>, AllocError>
-    requires short { All IsShortBlock database.now }
     requires one { OneBlock block.now }
     requires room { line + length block.now < 2 ^ 64 }
-    ensures { IfOk result (λ told. option_map hover_seen told ≡ told_at database.now line block.now offset) }
+    ensures { IfOk result (λ told. option_map hover_seen told ≡ told_at document.now line block.now offset) }
 {
     if let Some(touched) = subject_at(alloc, block, offset)? {
-        return Ok(Some(name_told(alloc, database, line, block, &touched)?));
+        return Ok(Some(name_told(alloc, document, line, block, &touched)?));
     }
     match item_at(alloc, block, offset)? {
         Some(item) => item_told(alloc, line, block, offset, &item),
@@ -151,12 +136,6 @@ pub fn hover_of(
     let Some(spot) = spot_at(document, place) else {
         return Ok(None);
     };
-    let database = document.database();
-    told_at(
-        alloc,
-        database,
-        spot.line,
-        database.text(spot.at),
-        spot.offset,
-    )
+    let block = document.database().text(spot.at);
+    told_at(alloc, document, spot.line, block, spot.offset)
 }

@@ -3,7 +3,8 @@
 //!
 //! - `spots`: where the blocks of a document are, and where in one a place is
 //! - `names`: where the names of a document lead
-//! - `holdings`: what the entry of a block holds
+//! - `causes`: why a block has no entry
+//! - `holdings`: what the entry of a block holds, or why there is none
 //! - `deciding`: which block decides what an entry has of a capability
 //! - `meanings`: what an item says, as it is read
 //! - `hovers`: what an editor tells of what a place is on
@@ -12,6 +13,7 @@
 //! - `symbols`: the blocks of a document as its outline
 #![tactic(auto)]
 
+mod causes;
 mod completions;
 mod deciding;
 mod holdings;
@@ -22,6 +24,7 @@ mod renaming;
 mod spots;
 mod symbols;
 
+pub use causes::missing_entries_have_a_cause;
 pub use completions::{Completion, Offers, completion_of, names_are_offered_once};
 pub use deciding::{Source, deciders_are_found, deciders_say_it, one_block_decides};
 pub use holdings::{Entry, Holding};

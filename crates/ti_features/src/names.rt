@@ -47,14 +47,21 @@ pub(crate) fn touched_at(
     }
 }
 
+/// The name of a subject.
+pub(crate) fn name_of(subject: &Subject) -> &[u8]
+    ensures { result.now ≡ name_of (subject_seen subject.now) }
+{
+    match subject {
+        Subject::OwnName(name) => name,
+        Subject::Used(name) => name,
+    }
+}
+
 /// The block that owns the name of a subject.
 pub(crate) fn owner_of(database: &Database, subject: &Subject) -> Option<usize>
     ensures { result ≡ owner (readings database.now) (name_of (subject_seen subject.now)) }
 {
-    match subject {
-        Subject::OwnName(name) => database.owner(name),
-        Subject::Used(name) => database.owner(name),
-    }
+    database.owner(name_of(subject))
 }
 
 // The block that owns the name that a place is on.

@@ -1,20 +1,18 @@
 //! What an editor renames: a name of an entry, with its uses.
 ghost use Rattle.std.specs.Prelude.{◌≡◌, ◌^◌, ◌+◌, ◌<◌, IfOk, length, option_map};
 ghost use Rattle.ti_meaning.specs.Owner.{owner, readings};
-ghost use Rattle.ti_spans.specs.Subjects.{subject_seen};
 ghost use Rattle.ti_document.specs.Documents.{held};
-ghost use Rattle.ti_features.specs.Names as names;
 ghost use Rattle.ti_features.specs.Renaming as spec;
 ghost use Rattle.ti_features.specs.Renaming.{block_with, can_be_given, failure_of, renamed, renaming_seen};
 
-use crate::names::{Sought, owner_of, push_all, touched_at};
+use crate::names::{Sought, name_of, owner_of, push_all, touched_at};
 use crate::spots::{head_line, range_in, spot_at};
 use std::alloc::{AllocError, Global};
 use ti_base::Database;
 use ti_document::{Document, held_blocks_fit};
 use ti_messages::{Failure, Position, Range};
 use ti_source::is_lookup_name;
-use ti_spans::{Subject, subject_at, uses_of};
+use ti_spans::{subject_at, uses_of};
 
 /// What comes of a rename.
 #[derive(Drop)]
@@ -91,16 +89,6 @@ fn renamed(
     let sought = Sought::Name { owner, name };
     push_all(alloc, &mut parts, database, sought, head_line(document))?;
     Ok(Renaming::Parts(parts))
-}
-
-// The name of a subject.
-fn name_of(subject: &Subject) -> &[u8]
-    ensures { result.now ≡ names.name_of (subject_seen subject.now) }
-{
-    match subject {
-        Subject::OwnName(name) => name,
-        Subject::Used(name) => name,
-    }
 }
 
 /// What comes of a rename at a place: the name that it is on, in a head or in an item `use=`, gets

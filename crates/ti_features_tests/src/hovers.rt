@@ -39,13 +39,22 @@ enum Reads {
 #[derive(Clone, Copy)]
 enum Wanted {
     Item(&'static str, Kind, &'static str, Reads),
-    Name(&'static str, Entry),
+    Name(&'static str, Becomes),
+}
+
+/// What is wanted to become of a name: no block has it; its block has no entry, for a fault on that
+/// line, with this code and message; or its block has one, which holds this.
+#[derive(Clone, Copy)]
+enum Becomes {
+    Missing,
+    Faulty(usize, &'static str, &'static str),
+    Held(Holding),
 }
 
 /// What the entry of `a` holds: a boolean, a number, and strings of 4 and 8 bytes. Its size: a
 /// header of 12 bytes, names of 8 with their NUL, 2 booleans, 1 number, 11 offsets, and strings of
 /// 14 with their NULs.
-const A: Entry = Entry::Held(Holding {
+const A: Becomes = Becomes::Held(Holding {
     flags: 1,
     numbers: 1,
     texts: 2,
@@ -54,7 +63,7 @@ const A: Entry = Entry::Held(Holding {
 
 /// The same of `c`: names of 2 bytes, 21 booleans, a byte between, 3 numbers, the offsets and
 /// strings of `a`.
-const C: Entry = Entry::Held(Holding {
+const C: Becomes = Becomes::Held(Holding {
     flags: 2,
     numbers: 1,
     texts: 2,
@@ -75,10 +84,42 @@ const ROWS: [((usize, usize), (usize, usize), Wanted); 15] = [
     ((4, 34), (32, 34), Wanted::Item("it", Kind::Number, "it", Reads::Nothing)),
     ((5, 0), (0, 1), Wanted::Name("c", C)),
     ((5, 12), (10, 15), Wanted::Name("a", A)),
-    ((6, 0), (0, 1), Wanted::Name("d", Entry::Faulty)),
-    ((6, 8), (3, 8), Wanted::Name("x", Entry::Missing)),
-    ((6, 10), (10, 15), Wanted::Name("f", Entry::Faulty)),
+    ((6, 0), (0, 1), Wanted::Name("d", Becomes::Faulty(6, "E6", NO_X))),
+    ((6, 8), (3, 8), Wanted::Name("x", Becomes::Missing)),
+    ((6, 10), (10, 15), Wanted::Name("f", Becomes::Faulty(4, "E3", BAD_COLS))),
 ];
+
+const NO_X: &str =
+    "MissingUse x: No block has this name. Correct it, or put the block in: installed entries are not looked at.";
+
+const NO_ZZ: &str =
+    "MissingUse zz: No block has this name. Correct it, or put the block in: installed entries are not looked at.";
+
+const BAD_COLS: &str =
+    "BadNumber cols: This is no number. Write it in decimal, in octal after 0, or in hexadecimal after 0x.";
+
+const LARGE_COLS: &str = "NumberTooLarge cols: The number is over 2147483647. Write a smaller one.";
+
+const BAD_BEL: &str =
+    "BadString bel: The string cannot be read. Write octal escapes up to \\377, and \\^ for a caret that means itself.";
+
+const BACK_TO_B: &str =
+    "Circular b: This use leads back to its own block. Take one use of the circle out.";
+
+const BACK_TO_E: &str =
+    "Circular e: This use leads back to its own block. Take one use of the circle out.";
+
+const FAULTY_C: &str =
+    "Unresolved c: The block of this name has an error, or leads to one. Correct that block.";
+
+const FAULTY_E: &str =
+    "Unresolved e: The block of this name has an error, or leads to one. Correct that block.";
+
+const LONG_NAMES: &str =
+    "NamesTooLong: The names are over 127 bytes up to the first comma. Shorten them, or put in the comma that is missing.";
+
+const LARGE_ENTRY: &str =
+    "TooLarge large: The entry is over 4096 bytes, or over 32768 with a number over 32767. Cancel what is not needed.";
 
 /// Whether a meaning is as it is wanted.
 fn is_read(meaning: &Meaning, wanted: Reads) -> bool {
@@ -88,6 +129,19 @@ fn is_read(meaning: &Meaning, wanted: Reads) -> bool {
         (Meaning::Number(number), Reads::Number(other)) => *number == other,
         (Meaning::Text(text), Reads::Text(other)) => text.as_str() == other,
         (Meaning::Cancelled, Reads::Cancelled) => true,
+        _ => false,
+    }
+}
+
+/// Whether a name became what is wanted.
+fn became(entry: &Entry, wanted: Becomes) -> bool {
+    match (entry, wanted) {
+        (Entry::Missing, Becomes::Missing) => true,
+        (Entry::Faulty(cause), Becomes::Faulty(line, label, message)) => cause.range.start.line
+            == line
+            && cause.problem.label() == label
+            && cause.message.as_str() == message,
+        (Entry::Held(holding), Becomes::Held(other)) => *holding == other,
         _ => false,
     }
 }
@@ -107,7 +161,7 @@ fn is_wanted(told: &Hover, range: Range, wanted: Wanted) -> bool {
             && text.as_str() == written
             && is_read(meaning, reads),
         (About::Name { name, entry, .. }, Wanted::Name(named, found)) => name.as_str() == named
-            && *entry == found,
+            && became(entry, found),
         _ => false,
     };
     same && told.range == range
@@ -126,6 +180,99 @@ fn hovers(rt: HostRuntime) -> Result<(), AllocError> {
         };
         let told = hover_of(rt.alloc(), &document, Position { line, column })?;
         assert!(rt; told.is_some_and(|told| is_wanted(&told, range, wanted)));
+    }
+    Ok(())
+}
+
+/// A source of blocks without an entry: a use of a name that no block has, rings, a bad number,
+/// uses of faulty blocks, and errors after warnings and on later lines.
+const FAULTY: &[u8] = b"a,use=zz,
+b,use=b,
+c,cols#,
+d,use=c,
+e,cols#x,use=f,
+f,use=e,
+g,nosuch,use=e,bel=\\400,
+h|a|two,bel=\\400,use=zz,
+i,
+\tam,
+\tcols#2147483648,use=zz,
+";
+
+/// Why the names have no entry: the first error of the block that owns each.
+#[rattlefmt::skip]
+const CAUSES: [((usize, usize), &str, Becomes); 12] = [
+    ((0, 0), "a", Becomes::Faulty(0, "E6", NO_ZZ)),
+    ((1, 0), "b", Becomes::Faulty(1, "E7", BACK_TO_B)),
+    ((2, 0), "c", Becomes::Faulty(2, "E3", BAD_COLS)),
+    ((3, 0), "d", Becomes::Faulty(3, "E8", FAULTY_C)),
+    ((3, 2), "c", Becomes::Faulty(2, "E3", BAD_COLS)),
+    ((4, 0), "e", Becomes::Faulty(4, "E3", BAD_COLS)),
+    ((4, 9), "f", Becomes::Faulty(5, "E7", BACK_TO_E)),
+    ((5, 2), "e", Becomes::Faulty(4, "E3", BAD_COLS)),
+    ((6, 0), "g", Becomes::Faulty(6, "E8", FAULTY_E)),
+    ((7, 0), "h", Becomes::Faulty(7, "E5", BAD_BEL)),
+    ((7, 2), "a", Becomes::Faulty(0, "E6", NO_ZZ)),
+    ((8, 0), "i", Becomes::Faulty(10, "E4", LARGE_COLS)),
+];
+
+/// Whether what is told at a place is of that name, which became what is wanted.
+fn is_told(
+    alloc: Global,
+    document: &Document,
+    place: (usize, usize),
+    wanted: &str,
+    found: Becomes,
+) -> Result<bool, AllocError> {
+    let (line, column) = place;
+    match hover_of(alloc, document, Position { line, column })? {
+        Some(told) => match &told.about {
+            About::Name { name, entry, .. } => Ok(name.as_str() == wanted && became(entry, found)),
+            About::Item { .. } => Ok(false),
+        },
+        None => Ok(false),
+    }
+}
+
+#[test]
+fn causes(rt: HostRuntime) -> Result<(), AllocError> {
+    let document = document_of(rt.alloc(), FAULTY)?;
+    for (place, name, found) in CAUSES {
+        assert!(rt; is_told(rt.alloc(), &document, place, name, found)?);
+    }
+    Ok(())
+}
+
+/// A source with names of 128 bytes, and an entry that is over the limit, for its string has 4,096.
+fn source_with_long(alloc: Global) -> Result<Vec<u8>, AllocError> {
+    let mut text = Vec::new(alloc);
+    text.extend_from_slice(b"long|")?;
+    for _ in 0..123 {
+        text.push(b'A')?;
+    }
+    text.extend_from_slice(b",am,\nlarge,cbt=")?;
+    for _ in 0..4_096 {
+        text.push(b'A')?;
+    }
+    text.extend_from_slice(b",\nuser,cbt@,use=large,\n")?;
+    Ok(text)
+}
+
+/// The entry of `user` holds nothing: a header of 12 bytes, names of 5 with their NUL, and a byte
+/// that makes them even.
+#[rattlefmt::skip]
+const OVER: [((usize, usize), &str, Becomes); 4] = [
+    ((0, 0), "long", Becomes::Faulty(0, "E2", LONG_NAMES)),
+    ((1, 0), "large", Becomes::Faulty(1, "E9", LARGE_ENTRY)),
+    ((2, 0), "user", Becomes::Held(Holding { flags: 0, numbers: 0, texts: 0, bytes: 18 })),
+    ((2, 10), "large", Becomes::Faulty(1, "E9", LARGE_ENTRY)),
+];
+
+#[test]
+fn what_is_over_a_limit_has_no_entry(rt: HostRuntime) -> Result<(), AllocError> {
+    let document = Document::open(rt.alloc(), source_with_long(rt.alloc())?)?;
+    for (place, name, found) in OVER {
+        assert!(rt; is_told(rt.alloc(), &document, place, name, found)?);
     }
     Ok(())
 }

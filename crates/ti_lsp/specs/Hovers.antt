@@ -2,15 +2,16 @@
 -- are own.
 use Rattle.std.specs.Prelude.{ℕ, List, [], ◌∷◌, ◌++◌, Option, None, Some, codes}
 use Rattle.std.specs.Fmt.{decimal}
+use Rattle.std.specs.Option.{option_map_or}
 use Rattle.serde_json.specs.Data.{Data, null}
 use Rattle.ti_caps.specs.Tables.{Capability, name_of}
 use Rattle.ti_messages.specs.Shapes.{hover_data}
+use Rattle.ti_document.specs.Diagnostics.{Shown, label_of_problem}
 use Rattle.ti_features.specs.Deciding.{SourceSeen}
+use Rattle.ti_features.specs.Holdings.{EntrySeen, entry_missing, entry_faulty, entry_held}
 use Rattle.ti_features.specs.Hovers.{AboutSeen, HoverSeen, about_item, about_name}
 use Rattle.ti_features.specs.Meanings.{MeaningSeen, means_cancelled, means_nothing, means_number, means_set, means_text}
-use Rattle.ti_features.specs.declared.holdings.Entry.{Entry}
 use Rattle.ti_features.specs.declared.holdings.Holding.{Holding}
-use Rattle.ti_features.specs.declared.holdings.Entry.TheVariants.{Missing, Faulty, Held}
 use Rattle.ti_descriptions.specs.Words.{detail_of, documentation_of}
 
 -- how many bytes an entry takes
@@ -29,11 +30,16 @@ others_told holding = count_told (codes "numbers") holding.numbers ++ codes ", "
 abbrev pub counts_told : Holding → List ℕ
 counts_told holding = count_told (codes "Booleans") holding.flags ++ codes ", " ++ others_told holding
 
+-- why there is no entry: the code of the first error that the report has of the block, and what the
+-- diagnostic says that is published for it
+abbrev pub cause_told : Shown → List ℕ
+cause_told cause = label_of_problem cause.problem ++ codes " " ++ cause.message
+
 -- what an entry holds, or why there is none
-abbrev pub entry_told : Entry → List ℕ
-entry_told Missing = codes "no block has this name"
-entry_told Faulty = codes "its block has an error, or uses one that has"
-entry_told (Held holding) = size_told holding.bytes ++ codes "\n" ++ counts_told holding
+abbrev pub entry_told : EntrySeen → List ℕ
+entry_told entry_missing = codes "no block has this name"
+entry_told (entry_faulty cause) = codes "no entry" ++ option_map_or (λ (why : Shown). codes ": " ++ cause_told why) cause []
+entry_told (entry_held holding) = size_told holding.bytes ++ codes "\n" ++ counts_told holding
 
 -- the name of a capability, and what it is
 abbrev pub head_told : Capability → List ℕ

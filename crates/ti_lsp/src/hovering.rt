@@ -1,19 +1,20 @@
 //! What is told of what a place is on, as a value of the protocol.
-ghost use Rattle.std.specs.Prelude.{◌≡◌, ◌++◌, IfOk, OnOk, codes, map};
+ghost use Rattle.std.specs.Prelude.{◌≡◌, ◌++◌, IfOk, OnOk, Some, codes, map};
 ghost use Rattle.std.specs.Fmt.{decimal};
 ghost use Rattle.std.specs.String.{string_bytes};
 ghost use Rattle.serde_json.specs.View.{view};
 ghost use Rattle.ti_features.specs.Deciding.{source_seen};
+ghost use Rattle.ti_features.specs.Holdings.{entry_faulty, entry_held, entry_seen};
 ghost use Rattle.ti_features.specs.Hovers.{about_seen, hover_of};
 ghost use Rattle.ti_features.specs.Meanings.{meaning_seen};
-ghost use Rattle.ti_features.specs.declared.holdings.Entry.TheVariants.{Held};
-ghost use Rattle.ti_lsp.specs.Hovers.{about_told, capabilities_told, capability_told, count_told, counts_told, entry_told, head_told, hover_shown, item_told, lines_told, meaning_told, more_told, others_told, read_told, size_told, source_told, sources_told};
+ghost use Rattle.ti_document.specs.Diagnostics.{diagnostic_seen};
+ghost use Rattle.ti_lsp.specs.Hovers.{about_told, capabilities_told, capability_told, cause_told, count_told, counts_told, entry_told, head_told, hover_shown, item_told, lines_told, meaning_told, more_told, others_told, read_told, size_told, source_told, sources_told};
 
 use serde_json::Value;
 use std::alloc::{AllocError, Global};
 use ti_caps::{Cap, name};
 use ti_descriptions::{detail_of, documentation_of};
-use ti_document::Document;
+use ti_document::{Diagnostic, Document};
 use ti_features::{About, Entry, Holding, Meaning, Source, hover_of};
 use ti_messages::Position;
 use ti_messages::answers::hover_value;
@@ -76,21 +77,36 @@ fn counts_told(alloc: Global, holding: Holding) -> Result<String, AllocError>
 
 // What an entry holds.
 fn holding_told(alloc: Global, holding: Holding) -> Result<String, AllocError>
-    ensures { IfOk result (λ text. string_bytes text ≡ entry_told (Held holding)) }
+    ensures { IfOk result (λ text. string_bytes text ≡ entry_told (entry_held holding)) }
 {
     let size = size_told(alloc, holding.bytes)?;
     let counts = counts_told(alloc, holding)?;
     joined(alloc, size.as_str(), "\n", counts.as_str())
 }
 
+// Why there is no entry.
+fn cause_told(alloc: Global, cause: &Diagnostic) -> Result<String, AllocError>
+    ensures { IfOk result (λ text. string_bytes text ≡ cause_told (diagnostic_seen cause.now)) }
+{
+    joined(alloc, cause.problem.label(), " ", cause.message.as_str())
+}
+
+// That there is no entry, and why.
+fn fault_told(alloc: Global, cause: &Diagnostic) -> Result<String, AllocError>
+    ensures { IfOk result (λ text. string_bytes text ≡ entry_told (entry_faulty (Some (diagnostic_seen cause.now)))) }
+{
+    let cause = cause_told(alloc, cause)?;
+    joined(alloc, "no entry", ": ", cause.as_str())
+}
+
 // What an entry holds, or why there is none.
-fn entry_told(alloc: Global, entry: Entry) -> Result<String, AllocError>
-    ensures { IfOk result (λ text. string_bytes text ≡ entry_told entry) }
+fn entry_told(alloc: Global, entry: &Entry) -> Result<String, AllocError>
+    ensures { IfOk result (λ text. string_bytes text ≡ entry_told (entry_seen entry.now)) }
 {
     match entry {
         Entry::Missing => text_of(alloc, "no block has this name"),
-        Entry::Faulty => text_of(alloc, "its block has an error, or uses one that has"),
-        Entry::Held(holding) => holding_told(alloc, holding),
+        Entry::Faulty(cause) => fault_told(alloc, cause),
+        Entry::Held(holding) => holding_told(alloc, *holding),
     }
 }
 
@@ -207,10 +223,10 @@ fn push_sources(text: &mut String, sources: &[Source]) -> Result<(), AllocError>
 fn name_told(
     alloc: Global,
     name: &str,
-    entry: Entry,
+    entry: &Entry,
     sources: &[Source],
 ) -> Result<String, AllocError>
-    ensures { IfOk result (λ told. string_bytes told ≡ name.now ++ codes ": " ++ entry_told entry ++ sources_told (map source_seen sources.now)) }
+    ensures { IfOk result (λ told. string_bytes told ≡ name.now ++ codes ": " ++ entry_told (entry_seen entry.now) ++ sources_told (map source_seen sources.now)) }
 {
     let found = entry_told(alloc, entry)?;
     let mut told = joined(alloc, name, ": ", found.as_str())?;
@@ -232,7 +248,7 @@ fn about_told(alloc: Global, about: &About) -> Result<String, AllocError>
             name,
             entry,
             sources,
-        } => name_told(alloc, name.as_str(), *entry, sources),
+        } => name_told(alloc, name.as_str(), entry, sources),
     }
 }
 

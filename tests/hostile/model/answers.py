@@ -5,7 +5,7 @@ import re
 from .base import Meaning
 from .caps import FIND, FLAG, KINDS, NAMES_OF, NUMBER, TEXT, described
 from .listing import written
-from .source import CANCEL, WHITE, ends_of_items, read
+from .source import ADVICE, CANCEL, FAULTS, WHITE, ends_of_items, read
 from .texts import blocks_of, offset_of, refused_line, width
 
 REACH = 1024  # how many items may be on the way to the block that decides a capability
@@ -44,6 +44,12 @@ def range_in(block, line, start, end):
 def shown(name):
     """A name as a report shows it."""
     return "".join(chr(it) if 0x21 <= it <= 0x7E else "?" for it in name) or "-"
+
+
+def message_of(fault):
+    """What a diagnostic says of a fault."""
+    detail = "" if fault.detail is None else " " + shown(fault.detail)
+    return f"{FAULTS[fault.code]}{detail}: {ADVICE[fault.code]}"
 
 
 def symbol_of(block, line):
@@ -323,7 +329,8 @@ def name_told(meaning, name):
         return shown(name) + ": no block has this name"
     image, mentions = meaning.images[owner], meaning.mentions[owner]
     if image is None:
-        return shown(name) + ": its block has an error, or uses one that has"
+        cause = next(fault for fault in meaning.faults(owner) if fault.code[0] == "E")
+        return f"{shown(name)}: no entry: {cause.code} {message_of(cause)}"
     held = [cap[0] for cap, value in mentions.items() if value is not CANCEL]
     flags, numbers, texts = (held.count(kind) for kind in KINDS)
     counts = f"Booleans: {flags}, numbers: {numbers}, strings: {texts}"

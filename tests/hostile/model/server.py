@@ -6,11 +6,10 @@ import json
 import re
 
 from .answers import (
-    Refused, completion_of, definition_of, hover_of, prepared_of, references_of, renamed_of, symbols_of,
+    Refused, completion_of, definition_of, hover_of, message_of, prepared_of, references_of, renamed_of, symbols_of,
 )
 from .base import Meaning
 from .fixes import fixes_of
-from .source import FAULTS
 from .texts import blocks_of, lines_of, offset_of, refused_line, width
 
 SMALL = 2**31
@@ -101,19 +100,12 @@ def with_change(text, change):
     return text[:at] + change["text"] + text[max(at, offset_of(text, *end)) :]
 
 
-def shown_detail(detail):
-    """A detail as a report shows it, after a space; none if there is none."""
-    if detail is None:
-        return ""
-    return " " + ("".join(chr(byte) if 0x21 <= byte <= 0x7E else "?" for byte in detail) or "-")
-
-
-def mark(lines, line, code, front):
-    """A diagnostic: its line, the columns, its code, and how its message begins."""
+def mark(lines, line, code, message):
+    """A diagnostic: its line, the columns, its code, and its message."""
     characters = lines[line][1]
     # white space is the two bytes of terminfo(5)
     indent = len(characters) - len(characters.lstrip(" \t"))
-    return line, indent, width(characters), 1 if code[0] != "W" else 2, code, front
+    return line, indent, width(characters), 1 if code[0] != "W" else 2, code, message
 
 
 def diagnostics_of(text):
@@ -126,8 +118,7 @@ def diagnostics_of(text):
     meaning, found, line = Meaning(blocks), [], preface.count(b"\n")
     for at, block in enumerate(blocks):
         for fault in meaning.faults(at):
-            front = FAULTS[fault.code] + shown_detail(fault.detail) + ": "
-            found.append(mark(lines, line + fault.line - 1, fault.code, front))
+            found.append(mark(lines, line + fault.line - 1, fault.code, message_of(fault)))
         line += block.count(b"\n")
     return found
 
@@ -290,7 +281,7 @@ def frames_in(output):
 
 
 def seen_diagnostic(shown):
-    """A diagnostic that was sent, as `mark` has it, with its whole message."""
+    """A diagnostic that was sent, as `mark` has it."""
     start, end = shown["range"]["start"], shown["range"]["end"]
     if start["line"] != end["line"] or shown["source"] != "ti":
         raise ValueError(f"a diagnostic is {shown}")
@@ -316,9 +307,9 @@ def seen(answer):
 
 
 def agree(got, wanted):
-    """Whether an answer is the one that is wanted: of a message only the front is known."""
+    """Whether an answer is the one that is wanted: of the message of a refusal nothing is known."""
     if "shown" not in got or "shown" not in wanted:
         return got == wanted
     if {**got, "shown": None} != {**wanted, "shown": None} or len(got["shown"]) != len(wanted["shown"]):
         return False
-    return all(one[:5] == other[:5] and one[5].startswith(other[5]) for one, other in zip(got["shown"], wanted["shown"]))
+    return all(one[:5] == other[:5] and other[5] in ("", one[5]) for one, other in zip(got["shown"], wanted["shown"]))

@@ -3,7 +3,7 @@ use Rattle.std.specs.Rc.{rc_slice_items}
 use Rattle.ti_caps.specs.Tables.{Capability}
 use Rattle.ti_source.specs.Parsing.{reading_of_text}
 use Rattle.ti_document.specs.Diagnostics.{text_at}
-use Rattle.ti_features.specs.Deciding.{decided_by, source_seen, source_with}
+use Rattle.ti_features.specs.Deciding.{source_seen, source_with}
 use Rattle.ti_features.proofs.Outlines.{names_read}
 use Rattle.ti_features.proofs.Decisions.{source_next}
 use Rattle.ti_features.proofs.deciding.sources_from.Goals as goal
