@@ -36,20 +36,20 @@ kind_same c d same kind = count_same (of_kind c kind) (of_kind d kind) (count_of
 pub holding_same : (c d : Contents) (size : ℕ) → ((k : Capability) → IsCapability k → c k ≡ d k) → holding c size ≡ holding d size
 holding_same c d size same = rw (kind_same c d same Flag, kind_same c d same Number, kind_same c d same Text) refl
 
-pub count_none : (places : ByIndex) → count_there values 0 ≡ 0
+pub count_none : (by_index : ByIndex) → count_there by_index 0 ≡ 0
 unfolding count_there
-count_none places = refl
+count_none by_index = refl
 
-count_more : (places : ByIndex) (n : ℕ) (b : Bool) → is_there (values n) ≡ b → count_there values (suc n) ≡ cond b (suc (count_there values n)) (count_there values n)
+count_more : (by_index : ByIndex) (n : ℕ) (b : Bool) → is_there (by_index n) ≡ b → count_there by_index (suc n) ≡ cond b (suc (count_there by_index n)) (count_there by_index n)
 unfolding count_there
-count_more places n b e = rw e refl
+count_more by_index n b e = rw e refl
 
-pub count_one : (places : ByIndex) (n count : ℕ) → is_there (values n) ≡ true → count ≡ count_there values n → count + 1 ≡ count_there values (n + 1)
-count_one places n count e so =
-    ap (λ (k : ℕ). k + 1) so ∙ add-one (count_there values n) ∙ sym (ap (count_there values) (add-one n) ∙ count_more places n true e)
+pub count_one : (by_index : ByIndex) (n count : ℕ) → is_there (by_index n) ≡ true → count ≡ count_there by_index n → count + 1 ≡ count_there by_index (n + 1)
+count_one by_index n count e so =
+    ap (λ (k : ℕ). k + 1) so ∙ add-one (count_there by_index n) ∙ sym (ap (count_there by_index) (add-one n) ∙ count_more by_index n true e)
 
-pub count_no : (places : ByIndex) (n count : ℕ) → is_there (values n) ≡ false → count ≡ count_there values n → count ≡ count_there values (n + 1)
-count_no places n count e so = so ∙ sym (ap (count_there values) (add-one n) ∙ count_more places n false e)
+pub count_no : (by_index : ByIndex) (n count : ℕ) → is_there (by_index n) ≡ false → count ≡ count_there by_index n → count ≡ count_there by_index (n + 1)
+count_no by_index n count e so = so ∙ sym (ap (count_there by_index) (add-one n) ∙ count_more by_index n false e)
 
 -- ---- whether a block has an entry
 

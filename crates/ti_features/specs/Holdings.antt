@@ -19,8 +19,8 @@ use Rattle.ti_features.specs.declared.holdings.Holding.{Holding}
 
 -- how many of the indices below n have a value
 unfoldable pub count_there : ByIndex → ℕ → ℕ
-count_there values zero = 0
-count_there values (suc n) = if is_there (values n) then suc (count_there values n) else count_there values n
+count_there by_index zero = 0
+count_there by_index (suc n) = if is_there (by_index n) then suc (count_there by_index n) else count_there by_index n
 
 -- what an entry of these contents holds, which takes so many bytes
 abbrev pub holding : Contents → ℕ → Holding
