@@ -1,5 +1,5 @@
--- The `^` at the end of a string, which takes nothing (terminfo(5), "Types of Capabilities": `^x` is
--- control-x). A backslash before it makes it a `^`. Just after a `%` it is itself (own).
+-- The `^` at the end of a string, which takes nothing (terminfo(5), "Types of Capabilities": `^x`
+-- is control-x). A backslash before it makes it a `^`. Just after a `%` it is itself (own).
 use Rattle.std.specs.Prelude.{ℕ, suc, ◌%◌, ◌==◌, ◌&&◌, ◌||◌, not, Bool, List, ◌∷◌, Option, None, Some, option_and_then, if◌then◌else◌}
 use Rattle.std.specs.List.{last_or, suffix_len, zip}
 use Rattle.ti_text.specs.Ascii as ascii

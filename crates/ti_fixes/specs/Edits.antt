@@ -75,9 +75,9 @@ known_names item = renames (written_name item) (names_for (after_name item))
 abbrev pub is_digit : ℕ → Bool
 is_digit byte = nat_le ascii.digit_0 byte && nat_le byte ascii.digit_9
 
--- what takes the place of the sign before this value so that a capability of a kind is read: nothing
--- before no value, if it is a boolean; `#` before digits, if it is a number; `=` before a value, if
--- it is a string
+-- what takes the place of the sign before this value so that a capability of a kind is read:
+-- nothing before no value, if it is a boolean; `#` before digits, if it is a number; `=` before a
+-- value, if it is a string
 abbrev pub sign_for : Kind → List ℕ → Option (List ℕ)
 sign_for Flag value = if is_empty value then Some [] else None
 sign_for Number value = if not (is_empty value) && list_all is_digit value then Some (codes "#") else None
