@@ -26,15 +26,6 @@ fn sign_told(kind: Kind) -> &'static str
     }
 }
 
-// A text with memory of its own.
-fn text_of(alloc: Global, words: &str) -> Result<String, AllocError>
-    ensures { IfOk result (λ text. string_bytes text ≡ words.now) }
-{
-    let mut text = String::new(alloc);
-    text.push_str(words)?;
-    Ok(text)
-}
-
 // By what something is replaced.
 fn other_told(alloc: Global, text: &str) -> Result<String, AllocError>
     ensures { IfOk result (λ told. string_bytes told ≡ codes "` by `" ++ text.now ++ codes "`") }
@@ -63,8 +54,8 @@ fn advice_told(alloc: Global, advice: &Advice, text: &str) -> Result<String, All
 {
     match advice {
         Advice::Name(name) => name_told(alloc, name.as_str(), text),
-        Advice::Sign(kind) => text_of(alloc, sign_told(*kind)),
-        Advice::Spelling => text_of(alloc, "Spell the string as it is read"),
+        Advice::Sign(kind) => String::from_str(alloc, sign_told(*kind)),
+        Advice::Spelling => String::from_str(alloc, "Spell the string as it is read"),
         Advice::Caret => caret_told(alloc, text),
     }
 }

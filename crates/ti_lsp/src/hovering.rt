@@ -19,15 +19,6 @@ use ti_features::{About, Entry, Holding, Meaning, Source, hover_of};
 use ti_messages::Position;
 use ti_messages::answers::hover_value;
 
-// A text with memory of its own.
-fn text_of(alloc: Global, words: &str) -> Result<String, AllocError>
-    ensures { IfOk result (λ text. string_bytes text ≡ words.now) }
-{
-    let mut text = String::new(alloc);
-    text.push_str(words)?;
-    Ok(text)
-}
-
 // Two parts, and what is between them.
 fn joined(alloc: Global, first: &str, between: &str, rest: &str) -> Result<String, AllocError>
     ensures { IfOk result (λ text. string_bytes text ≡ first.now ++ between.now ++ rest.now) }
@@ -104,7 +95,7 @@ fn entry_told(alloc: Global, entry: &Entry) -> Result<String, AllocError>
     ensures { IfOk result (λ text. string_bytes text ≡ entry_told (entry_seen entry.now)) }
 {
     match entry {
-        Entry::Missing => text_of(alloc, "no block has this name"),
+        Entry::Missing => String::from_str(alloc, "no block has this name"),
         Entry::Faulty(cause) => fault_told(alloc, cause),
         Entry::Held(holding) => holding_told(alloc, *holding),
     }
@@ -131,11 +122,11 @@ fn meaning_told(alloc: Global, meaning: &Meaning) -> Result<String, AllocError>
     ensures { IfOk result (λ told. string_bytes told ≡ meaning_told (meaning_seen meaning.now)) }
 {
     match meaning {
-        Meaning::Nothing => text_of(alloc, "nothing, as the item is faulty"),
-        Meaning::Set => text_of(alloc, "set"),
+        Meaning::Nothing => String::from_str(alloc, "nothing, as the item is faulty"),
+        Meaning::Set => String::from_str(alloc, "set"),
         Meaning::Number(number) => digits(alloc, *number as usize),
-        Meaning::Text(text) => text_of(alloc, text.as_str()),
-        Meaning::Cancelled => text_of(alloc, "cancelled"),
+        Meaning::Text(text) => String::from_str(alloc, text.as_str()),
+        Meaning::Cancelled => String::from_str(alloc, "cancelled"),
     }
 }
 
