@@ -1,5 +1,5 @@
 -- What is offered against a fault, as the server says it (own; LSP 3.17, "Code Action Request").
-use Rattle.std.specs.Prelude.{ℕ, Bool, List, [], ◌∷◌, ◌++◌, codes, map, if◌then◌else◌}
+use Rattle.std.specs.Prelude.{ℕ, Bool, List, [], ◌++◌, codes, map, if◌then◌else◌}
 use Rattle.serde_json.specs.Data.{Data, array}
 use Rattle.serde_json.specs.View.{items_of}
 use Rattle.ti_caps.specs.declared.capability.Kind.{Kind}

@@ -2,8 +2,8 @@
 ghost use Rattle.std.specs.Prelude.{◌≡◌, ◌≢◌, IfOk, map, true};
 ghost use Rattle.std.specs.String.{string_bytes};
 ghost use Rattle.clap.specs.Takes.{takes};
-ghost use Rattle.clap.specs.Words.{app_of, kind_of};
-ghost use Rattle.ti_lsp.specs.Command.{lsp_app};
+ghost use Rattle.clap.specs.Words.{app_of, fault_of, kind_of};
+ghost use Rattle.ti_lsp.specs.Command.{lsp_app, IsAskedBy, IsSaidOf};
 ghost use Rattle.ti_lsp.specs.declared.command.Task.TheVariants.{Serve};
 
 use clap::Command;
@@ -48,7 +48,8 @@ fn command<'a>(alloc: Global) -> Command<'a>
 
 // What clap says of words that it does not take.
 fn said(alloc: Global, error: &clap::error::Error) -> Result<Task, AllocError>
-    ensures { IfOk result (λ _. kind_of error.now ≢ ErrorKind.OutOfMemory) }
+    ensures memory { IfOk result (λ _. kind_of error.now ≢ ErrorKind.OutOfMemory) }
+    ensures said { IfOk result (IsSaidOf (kind_of error.now)) }
 {
     match error.kind() {
         ErrorKind::OutOfMemory => Err(AllocError),
@@ -64,7 +65,8 @@ fn said(alloc: Global, error: &clap::error::Error) -> Result<Task, AllocError>
 /// # Errors
 /// Out of memory.
 pub fn asked(alloc: Global, words: &[String]) -> Result<Task, AllocError>
-    ensures { IfOk result (λ task. takes lsp_app (map string_bytes words.now) ≡ true → task ≡ Serve) }
+    ensures asked { IfOk result (IsAskedBy (fault_of lsp_app (map string_bytes words.now))) }
+    ensures served { IfOk result (λ task. takes lsp_app (map string_bytes words.now) ≡ true → task ≡ Serve) }
 {
     match command(alloc).try_get_matches_from(words) {
         Ok(_) => Ok(Task::Serve),
