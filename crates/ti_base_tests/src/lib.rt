@@ -10,7 +10,6 @@
 //! - `reports`: what a report says of a source, and where
 //! - `circular`: blocks that use one another
 //! - `runs`: runs of edits
-//! - `values`: the items of a block, and what it says once its uses are expanded
 //! - `insertions`: sources made by a run of insertions
 #![tactic(auto)]
 
@@ -32,5 +31,3 @@ mod reports;
 mod runs;
 #[cfg(test)]
 mod steps;
-#[cfg(test)]
-mod values;

@@ -1,10 +1,20 @@
 //! The accepted items of a block, and what it says once its uses are expanded.
-use super::steps::source_of;
+use std::alloc::Global;
 use std::process::Abort;
 use ti_base::{Database, EditError};
 use ti_caps::find;
 use ti_layout::{Table, Value};
 use ti_source::{Item, What};
+
+// A database of these blocks.
+fn source_of(alloc: Global, texts: &[&[u8]]) -> Result<Database, EditError> {
+    let mut database = Database::new(alloc);
+    for text in texts {
+        let end = database.len();
+        database.insert(end, text)?;
+    }
+    Ok(database)
+}
 
 // What a block says of `cols` once its uses are expanded.
 #[derive(Clone, Copy, Debug, PartialEq, Eq)]
