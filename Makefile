@@ -63,7 +63,7 @@ package: all
 	python3 tests/package/run.py
 
 hostile: all lsp
-	python3 build/build.py ti_probe
+	python3 build/build.py dev_probe
 	python3 tests/hostile/run.py --all
 
 wrong-bodies:
@@ -77,7 +77,7 @@ lsp:
 	python3 build/build.py ti_lsp
 
 bench: all
-	python3 build/build.py ti_bench
+	python3 build/build.py dev_bench
 	python3 bench/run.py
 
 # A program that is built is installed as it is, so that root needs no toolchain.

@@ -17,7 +17,7 @@ editor    the CPU time of `ti-lsp` for opening a source and for a key in it, and
           answers about 2,800 entries, of which 900 have a use
 rates     MB/s (10^6 bytes a second) of `ti tic -c` on one-block sources of 64 KiB, 256 KiB and
           1 MiB, and of ncurses's `tic -c` on the last: the best of several runs
-machine   what `ti_bench` prints of the libraries alone
+machine   what `dev_bench` prints of the libraries alone
 
 If each row of README's table was measured, that table is printed and docs/speed.svg is drawn anew.
 ncurses's own source is misc/terminfo.src of ncurses; the variable MASTER names the file, and
@@ -49,7 +49,7 @@ from measuring import OUT, Room, Work, clock, files_written, measure, run  # noq
 from repository import entry_file, program_of  # noqa: E402
 
 PROGRAM = program_of("ti")
-MACHINE = program_of("ti_bench")
+MACHINE = program_of("dev_bench")
 MASTER = os.environ.get("MASTER")
 TERMINAL = "xterm-256color"
 MEMORY = "/dev/shm"
@@ -209,7 +209,7 @@ def edits_of(count, what):
 
 def edits(_room):
     if not os.access(MACHINE, os.X_OK):
-        print("edits: left out (ti_bench is not built)")
+        print("edits: left out (dev_bench is not built)")
         return
     for count, what in (
         (1000, "edits"), (65535, "edits"), (65535, "chain"), (1000, "circular"), (65535, "circular"), (65535, "runs"),

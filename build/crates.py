@@ -3,15 +3,15 @@
     build/crates.py        prints each crate, its group and what it depends on
 
 A line is `NAME: DEPENDENCY ..`; between the name and the colon a line may have the word
-`staticlib` (a static library) and words `KEY=VALUE`. A comment line that is the name of a
-group alone, `# product`, `# tests` or `# tools`, begins that group.
+`staticlib` (a static library) and words `KEY=VALUE`. A comment line `# PREFIX: WHAT IT HOLDS`
+begins the group of the crates whose names have that prefix; `ti` itself is of the group `ti_`.
 """
 
 import os
 
 from repository import TOP
 
-GROUPS = ("product", "tests", "tools")
+GROUPS = ("ti_", "base_", "tools_", "lsp_", "test_", "dev_")
 
 
 class Crate:
@@ -23,15 +23,18 @@ class Crate:
 
 def read_crates(top=TOP):
     """The crates by name, in the order of the file."""
-    crates, group = {}, GROUPS[0]
+    crates, group = {}, None
     with open(os.path.join(top, "crates.txt"), encoding="utf-8") as file:
         for line in file:
             text, _, comment = line.partition("#")
-            if not text.strip() and comment.strip() in GROUPS:
-                group = comment.strip()
+            prefix = comment.strip().partition(":")[0]
+            if not text.strip() and prefix in GROUPS:
+                group = prefix
             head, colon, needs = text.partition(":")
             if colon:
                 name, *words = head.split()
+                if group is None or not f"{name}_".startswith(group):
+                    raise SystemExit(f"crates.txt: {name} is in the group {group}")
                 crates[name] = Crate(name, group, needs.split(), "staticlib" in words)
     return crates
 

@@ -66,7 +66,7 @@ def with_bytes(content, changes):
 
 
 def probed(entry, refusal):
-    """The lines that ti_probe prints of an entry."""
+    """The lines that dev_probe prints of an entry."""
     if refusal is not None:
         return [f"refused {refusal}"]
     names, values = entry

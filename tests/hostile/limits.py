@@ -12,7 +12,7 @@ sys.path.insert(0, os.path.dirname(HERE))
 from common import program_of  # noqa: E402
 
 PROGRAM = os.environ.get("TI_PROGRAM") or program_of("ti")
-PROBE = os.environ.get("TI_PROBE") or program_of("ti_probe")
+PROBE = os.environ.get("TI_PROBE") or program_of("dev_probe")
 LSP = os.environ.get("TI_LSP") or program_of("ti_lsp")
 MEMORY_MAX = 2_000_000_000
 # of CPU time

@@ -223,10 +223,10 @@ def library_faults(checkout):
         proved = checkout.build(words=["build/build.py", *words, "ti_c"])[3]
         if proved != wanted:
             yield f"build.py {words} ti_c proves {proved}"
-    checkout.edit("ti_tput", "src", "lib.rt")
+    checkout.edit("tools_tput", "src", "lib.rt")
     proved = checkout.build(words=["build/build.py", "ti_c"])[3]
-    if proved != ["ti_tput", "ti_c"]:
-        yield f"after an edit of ti_tput, build.py ti_c proves {proved}"
+    if proved != ["tools_tput", "ti_c"]:
+        yield f"after an edit of tools_tput, build.py ti_c proves {proved}"
 
 
 # A program above one library of the repository.

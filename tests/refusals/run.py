@@ -1,7 +1,7 @@
 #!/usr/bin/env python3
 """Has each growth of memory refused in turn to calls of the libraries.
 
-The program `ti_refusals`, which the gate has proved and built, runs scenarios by name.
+The program `dev_refusals`, which the gate has proved and built, runs scenarios by name.
 Each prints one line, and says `refused` on standard error if a call of the libraries
 answered out of memory. Here every scenario runs once with all the memory it asks for, and
 then once for each growth that it asks for, which is refused, until a run meets no
@@ -33,8 +33,8 @@ HERE = os.path.dirname(os.path.abspath(__file__))
 sys.path.insert(0, os.path.dirname(HERE))
 from common import TOP, Tally, is_missing, program_of  # noqa: E402
 
-PROGRAM = program_of("ti_refusals")
-EXPECTED = os.path.join(TOP, "crates", "ti_refusals", "stdout")
+PROGRAM = program_of("dev_refusals")
+EXPECTED = os.path.join(TOP, "crates", "dev_refusals", "stdout")
 SECONDS = 60
 # no scenario asks for so many growths: a sweep that reaches it would never end
 MOST_GROWTHS = 20_000

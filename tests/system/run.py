@@ -1,7 +1,7 @@
 #!/usr/bin/env python3
 """Compares with the ncurses of this system: its entries, and its lists of names.
 
-Every file below the system's terminfo directories is read by `ti_probe`, which prints what
+Every file below the system's terminfo directories is read by `dev_probe`, which prints what
 a view shows; Python's curses module asks ncurses for the same entry, each of the 497
 capabilities by its name. A file of neither format must be refused as `Magic`. ncurses opens no
 hardcopy terminal (`hc`) and no generic one (`gn`), so it is asked for a copy of such an entry
@@ -26,7 +26,7 @@ import tempfile
 sys.path.insert(0, os.path.dirname(os.path.dirname(os.path.abspath(__file__))))
 from common import ENTRY_DIRECTORIES, TOP, Tally, is_missing, program_of  # noqa: E402
 
-PROGRAM = program_of("ti_probe")
+PROGRAM = program_of("dev_probe")
 NAMES = os.path.join(TOP, "crates", "ti_caps", "specs", "Names.antt")
 HEADER_LEN = 12
 # the flags of the terminals that ncurses does not open
@@ -87,7 +87,7 @@ def shown(files):
 
 
 def ask(question):
-    """What ncurses says of an entry of a directory, as `ti_probe` prints it; or why it does not."""
+    """What ncurses says of an entry of a directory, as `dev_probe` prints it; or why it does not."""
     import curses
 
     directory, name, (flags, numbers, texts) = question

@@ -1,6 +1,6 @@
 //! The files of the system, as a tree.
 ghost use Rattle.std.specs.Prelude.{◌≡◌, ◌+◌, IfOk, option_map};
-ghost use Rattle.ti_devices.specs.Tree.{HasAtMost, failures_by};
+ghost use Rattle.tools_devices.specs.Tree.{HasAtMost, failures_by};
 
 use crate::made_directories::MadeDirectories;
 use crate::new_file::{is_absent, replace_file};

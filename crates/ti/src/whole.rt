@@ -5,8 +5,8 @@ use std::alloc::Global;
 use std::fs;
 use std::io::{self, ErrorKind, Read};
 use std::rt::Files;
-use ti_devices::READS_MAX;
 use ti_tools::ToolError;
+use tools_devices::READS_MAX;
 
 // How many bytes of a source are asked for at a time.
 const PIECE: usize = 16_384;

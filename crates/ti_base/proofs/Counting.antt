@@ -6,8 +6,8 @@ use Rattle.std.proofs.lemmas.Grind.{flat_map-append}
 use Rattle.std.proofs.lemmas.List.FromFn.{map-range_with_len_more, get_or-map-range_with_len, length-map-range_with_len}
 use Rattle.std.proofs.lemmas.List.Sums.{sum_by-append}
 use Rattle.ti_text.specs.Lines.{line_count}
-use Rattle.ti_meaning.specs.Report.{lines_before, fault_line, report_line}
-use Rattle.ti_meaning.specs.Faults.{SourceFault}
+use Rattle.base_meaning.specs.Report.{lines_before, fault_line, report_line}
+use Rattle.base_meaning.specs.Faults.{SourceFault}
 use Rattle.ti_base.proofs.Lists.{take_get}
 
 -- a text more

@@ -8,20 +8,20 @@ use Rattle.std.proofs.lemmas.Option.{same_Some, none-some, slice_get-map}
 use Rattle.ti_text.specs.Limits.{blocks_max}
 use Rattle.ti_source.specs.Reading.{Reading, reading_of}
 use Rattle.ti_source.specs.Parsing.{reading_of_text}
-use Rattle.ti_meaning.specs.Owner.{is_among, readings}
-use Rattle.ti_meaning.specs.Edits.{Change, IsInPlace, IsSoundEdit, list_after, insertion, replacement, removal, relocation, with_item_moved}
-use Rattle.ti_meaning.specs.Exchange.{HasPlace, Exchange, IsExchange, exchange_of, block_from}
-use Rattle.ti_meaning.specs.Dependents.{AreDependents, IsDependent, lookup_names_of, work}
-use Rattle.ti_meaning.proofs.EditedLists.{map-insert, map-remove, insert-remove, length-relocated}
-use Rattle.ti_meaning.proofs.Exchanging.{list_any-append}
-use Rattle.ti_meaning.proofs.Placing.{get-insert, get-insert_at, split-insert}
-use Rattle.ti_slots.specs.declared.slots.Slot.{Slot}
-use Rattle.ti_slots.specs.declared.slots.Slots.{Slots}
-use Rattle.ti_slots.specs.Slots.{blocks_of, slot_texts, slots_of}
-use Rattle.ti_slots.proofs.Owners.{length_slots, length_texts}
+use Rattle.base_meaning.specs.Owner.{is_among, readings}
+use Rattle.base_meaning.specs.Edits.{Change, IsInPlace, IsSoundEdit, list_after, insertion, replacement, removal, relocation, with_item_moved}
+use Rattle.base_meaning.specs.Exchange.{HasPlace, Exchange, IsExchange, exchange_of, block_from}
+use Rattle.base_meaning.specs.Dependents.{AreDependents, IsDependent, lookup_names_of, work}
+use Rattle.base_meaning.proofs.EditedLists.{map-insert, map-remove, insert-remove, length-relocated}
+use Rattle.base_meaning.proofs.Exchanging.{list_any-append}
+use Rattle.base_meaning.proofs.Placing.{get-insert, get-insert_at, split-insert}
+use Rattle.base_slots.specs.declared.slots.Slot.{Slot}
+use Rattle.base_slots.specs.declared.slots.Slots.{Slots}
+use Rattle.base_slots.specs.Slots.{blocks_of, slot_texts, slots_of}
+use Rattle.base_slots.proofs.Owners.{length_slots, length_texts}
 use Rattle.ti_text.proofs.Lists.{item_at}
-use Rattle.ti_dependents.specs.Dependents.{IsExchangeOf}
-use Rattle.ti_plan.specs.Plans.{OthersAreSettled}
+use Rattle.base_dependents.specs.Dependents.{IsExchangeOf}
+use Rattle.base_plan.specs.Plans.{OthersAreSettled}
 use Rattle.ti_base.specs.inside.Database.{AreRead, SlotsAreSettled, SlotsAreSound, IsSoundSlot, PlacedSlot, reading_seen, text_seen, with_slot, block_seen, exchange_with}
 use Rattle.ti_base.specs.inside.Texts.{IsBlockText}
 use Rattle.ti_base.specs.inside.Exchanges.{out_position, put_position, new_text, IsNewOf, names_seen, without, slot_out, slot_put, spare_after, placed, placed_put, with_exchange, IsOfSlots, CanExchange, IsMade, IsUndone, IsEdited}

@@ -6,21 +6,21 @@ use Rattle.std.proofs.lemmas.List.{drop-set-lt}
 use Rattle.std.proofs.lemmas.Option.{same_Some, none-some, get_or_from_slice_get}
 use Rattle.ti_source.specs.Reading.{reading_of}
 use Rattle.ti_source.specs.Parsing.{reading_of_text}
-use Rattle.ti_meaning.specs.Usable.{IsUsable}
-use Rattle.ti_meaning.specs.Dependents.{IsDependent}
+use Rattle.base_meaning.specs.Usable.{IsUsable}
+use Rattle.base_meaning.specs.Dependents.{IsDependent}
 use Rattle.ti_text.specs.Lists.{Has}
 use Rattle.ti_text.proofs.Lists.{item_at}
-use Rattle.ti_slots.specs.Listing.{Placed}
-use Rattle.ti_slots.specs.declared.slots.Slot.{Slot}
-use Rattle.ti_slots.specs.declared.slots.Settled.{Settled}
-use Rattle.ti_slots.specs.declared.slots.Slots.{Slots}
-use Rattle.ti_slots.specs.Slots.{StandsAt, ids_of, slots_of, blocks_of, slot_texts, settled_if, settled_in}
-use Rattle.ti_slots.specs.Settled.{IsSettled}
-use Rattle.ti_slots.proofs.Owners.{mapped, id_there, slot_there, block_of_slot, length_slots, length_blocks}
-use Rattle.ti_slots.proofs.Listings.{neq_false}
-use Rattle.ti_plan.specs.declared.plans.Plan.{Plan}
-use Rattle.ti_plan.specs.Plans.{IsReady, IsPlan, IsPlanOfAll}
-use Rattle.ti_plan.proofs.ItemLists.{drop_item}
+use Rattle.base_slots.specs.Listing.{Placed}
+use Rattle.base_slots.specs.declared.slots.Slot.{Slot}
+use Rattle.base_slots.specs.declared.slots.Settled.{Settled}
+use Rattle.base_slots.specs.declared.slots.Slots.{Slots}
+use Rattle.base_slots.specs.Slots.{StandsAt, ids_of, slots_of, blocks_of, slot_texts, settled_if, settled_in}
+use Rattle.base_slots.specs.Settled.{IsSettled}
+use Rattle.base_slots.proofs.Owners.{mapped, id_there, slot_there, block_of_slot, length_slots, length_blocks}
+use Rattle.base_slots.proofs.Listings.{neq_false}
+use Rattle.base_plan.specs.declared.plans.Plan.{Plan}
+use Rattle.base_plan.specs.Plans.{IsReady, IsPlan, IsPlanOfAll}
+use Rattle.base_plan.proofs.ItemLists.{drop_item}
 use Rattle.ti_base.specs.inside.Texts.{IsBlockText}
 use Rattle.ti_base.specs.inside.Database.{AreKept, AreRead, SlotsAreSettled, SlotsAreSound, reading_seen, text_seen, settled_all}
 use Rattle.ti_base.proofs.Untouched.{settled_as}

@@ -4,11 +4,11 @@ use Rattle.std.proofs.Common.{◌≡◌, ℕ, suc, ◌+◌, ◌≤◌, true, fal
 use Rattle.std.specs.List.{take-map, drop-map}
 use Rattle.std.proofs.lemmas.List.{length-map}
 use Rattle.ti_source.specs.Reading.{Reading}
-use Rattle.ti_meaning.specs.Compiled.{state_of}
-use Rattle.ti_meaning.specs.Faults.{SourceFault, local_fault, local_faults, is_kept, item_faults, entry_faults, block_faults, faults_after}
-use Rattle.ti_meaning.specs.KeptBlocks.{lasting_faults}
-use Rattle.ti_slots.specs.declared.slots.KeptFault.{KeptFault}
-use Rattle.ti_slots.specs.Settled.{fault_at}
+use Rattle.base_meaning.specs.Compiled.{state_of}
+use Rattle.base_meaning.specs.Faults.{SourceFault, local_fault, local_faults, is_kept, item_faults, entry_faults, block_faults, faults_after}
+use Rattle.base_meaning.specs.KeptBlocks.{lasting_faults}
+use Rattle.base_slots.specs.declared.slots.KeptFault.{KeptFault}
+use Rattle.base_slots.specs.Settled.{fault_at}
 use Rattle.ti_base.proofs.Lists.{drop_get}
 
 -- ---- the kept faults in two parts

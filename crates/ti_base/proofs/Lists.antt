@@ -2,7 +2,7 @@
 use Rattle.std.proofs.Common.{◌≡◌, ℕ, ◌+◌, List, [], ◌∷◌, ◌++◌, take, drop, map, Some, slice_get, refl, sym, ◌∙◌, ap}
 use Rattle.std.proofs.lemmas.List.{map-append, take_more}
 use Rattle.std.proofs.lemmas.Option.{slice_get_within, get_or_from_slice_get}
-use Rattle.ti_plan.proofs.ItemLists.{drop_item, map-take_item}
+use Rattle.base_plan.proofs.ItemLists.{drop_item, map-take_item}
 
 pub map-take_get : {X Y : Type 0} (f : X → Y) (xs : List X) (i : ℕ) (x : X) → slice_get xs i ≡ Some x → map f (take (i + 1) xs) ≡ map f (take i xs) ++ f x ∷ []
 map-take_get f xs i x e = map-take_item f xs i x (slice_get_within xs i x e) (sym (get_or_from_slice_get xs i x x e))

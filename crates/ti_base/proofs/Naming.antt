@@ -8,8 +8,8 @@ use Rattle.std.specs.List.{list_any}
 use Rattle.std.specs.BTreeSet.{insert_key}
 use Rattle.std.proofs.lemmas.Map.Text.{is_eq-slice_cmp}
 use Rattle.std.proofs.lemmas.Bool.{false≢true}
-use Rattle.ti_meaning.specs.Owner.{is_among}
-use Rattle.ti_meaning.specs.Faults.{distinct_after}
+use Rattle.base_meaning.specs.Owner.{is_among}
+use Rattle.base_meaning.specs.Faults.{distinct_after}
 
 or_twice : (a b : Bool) → (a || b) ≡ (a || (a || b))
 or_twice true b = refl

@@ -1,7 +1,7 @@
 -- A run of edits, one after another.
 use Rattle.std.proofs.Common.{ℕ, List, [], ◌∷◌, ◌++◌, append_assoc}
-use Rattle.ti_meaning.specs.declared.edits.Outcome.{Outcome}
-use Rattle.ti_meaning.specs.Edits.{Change, EditStep, EditRun}
+use Rattle.base_meaning.specs.declared.edits.Outcome.{Outcome}
+use Rattle.base_meaning.specs.Edits.{Change, EditStep, EditRun}
 
 -- what follows from a list, after these outcomes, is a run of all edits
 abbrev pub RunExtends : List Change → List Outcome → List (List ℕ) → List Change → Type 0

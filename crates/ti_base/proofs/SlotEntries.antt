@@ -3,19 +3,19 @@ use Rattle.std.proofs.Common.{◌≡◌, ℕ, Bool, true, false, cond, List, Opt
 use Rattle.std.proofs.lemmas.Option.{same_Some, slice_get-map}
 use Rattle.ti_source.specs.Reading.{Reading, reading_of}
 use Rattle.ti_layout.specs.Values.{contents, Mention}
-use Rattle.ti_meaning.specs.Owner.{readings}
-use Rattle.ti_meaning.specs.Expansion.{expansion}
-use Rattle.ti_meaning.specs.Compiled.{EntryState, unresolved, oversized, written, image_of, is_too_large, entry, entry_of, state_with, state_of, compiled}
-use Rattle.ti_meaning.specs.ValueTables.{HasTable}
-use Rattle.ti_slots.specs.declared.entries.BlockEntry.{BlockEntry}
-use Rattle.ti_slots.specs.declared.slots.Slot.{Slot}
-use Rattle.ti_slots.specs.declared.slots.Slots.{Slots}
-use Rattle.ti_slots.specs.declared.slots.State.{State}
-use Rattle.ti_slots.specs.declared.slots.State.TheVariants as s
-use Rattle.ti_slots.specs.Slots.{slot_texts, slots_of}
-use Rattle.ti_slots.specs.Settled.{state_seen, table_of}
+use Rattle.base_meaning.specs.Owner.{readings}
+use Rattle.base_meaning.specs.Expansion.{expansion}
+use Rattle.base_meaning.specs.Compiled.{EntryState, unresolved, oversized, written, image_of, is_too_large, entry, entry_of, state_with, state_of, compiled}
+use Rattle.base_meaning.specs.ValueTables.{HasTable}
+use Rattle.base_slots.specs.declared.entries.BlockEntry.{BlockEntry}
+use Rattle.base_slots.specs.declared.slots.Slot.{Slot}
+use Rattle.base_slots.specs.declared.slots.Slots.{Slots}
+use Rattle.base_slots.specs.declared.slots.State.{State}
+use Rattle.base_slots.specs.declared.slots.State.TheVariants as s
+use Rattle.base_slots.specs.Slots.{slot_texts, slots_of}
+use Rattle.base_slots.specs.Settled.{state_seen, table_of}
 use Rattle.ti_base.specs.inside.Database.{AreKept, text_seen}
-use Rattle.ti_slots.proofs.Owners.{block_of_slot}
+use Rattle.base_slots.proofs.Owners.{block_of_slot}
 use Rattle.ti_base.proofs.SlotLists.{blocks_read}
 
 -- the bytes that a state has

@@ -8,16 +8,16 @@ use Rattle.std.proofs.lemmas.List.{length-map}
 use Rattle.std.proofs.lemmas.List.Edits.{length-insert, length-remove}
 use Rattle.std.proofs.lemmas.Option.{same_Some, none-some}
 use Rattle.ti_source.specs.Reading.{Reading, reading_of}
-use Rattle.ti_meaning.proofs.EditedLists.{map-insert, map-remove, insert-remove, remove-insert}
-use Rattle.ti_meaning.proofs.Placing.{get-insert, get-insert_at, split-insert}
+use Rattle.base_meaning.proofs.EditedLists.{map-insert, map-remove, insert-remove, remove-insert}
+use Rattle.base_meaning.proofs.Placing.{get-insert, get-insert_at, split-insert}
 use Rattle.ti_text.proofs.Lists.{item_at}
-use Rattle.ti_slots.specs.Listing.{Placed}
-use Rattle.ti_slots.specs.declared.slots.Slot.{Slot}
-use Rattle.ti_slots.specs.declared.slots.Slots.{Slots}
-use Rattle.ti_slots.specs.Slots.{StandsAt, ids_of, slots_of, slot_texts}
-use Rattle.ti_slots.specs.Changes.{HasRoomFor, PutsIn, TakesOut}
-use Rattle.ti_slots.proofs.Owners.{length_ids, length_slots, slot_there}
-use Rattle.ti_slots.proofs.Undoing.{fits_again}
+use Rattle.base_slots.specs.Listing.{Placed}
+use Rattle.base_slots.specs.declared.slots.Slot.{Slot}
+use Rattle.base_slots.specs.declared.slots.Slots.{Slots}
+use Rattle.base_slots.specs.Slots.{StandsAt, ids_of, slots_of, slot_texts}
+use Rattle.base_slots.specs.Changes.{HasRoomFor, PutsIn, TakesOut}
+use Rattle.base_slots.proofs.Owners.{length_ids, length_slots, slot_there}
+use Rattle.base_slots.proofs.Undoing.{fits_again}
 use Rattle.ti_base.specs.inside.Database.{AreKept, AreRead, SlotsAreSettled, SlotsAreSound, text_seen, with_slot, HasId}
 use Rattle.ti_base.specs.inside.Exchanges.{without, slot_out, slot_put, slot_left, spare_after, placed, placed_put, with_exchange, IsOfSlots, HasRoomThen, CanExchange, IsOut, IsExchanged}
 

@@ -1,14 +1,14 @@
 -- The slots of a list of blocks, in its order, and what they say of the blocks.
 use Rattle.std.proofs.Common.{◌≡◌, ℕ, suc, ◌<◌, ◌≤◌, List, [], ◌∷◌, length, map, Option, Some, None, option_map, slice_get, refl, sym, ◌∙◌, ap, arith}
 use Rattle.std.proofs.lemmas.List.{length-map}
-use Rattle.ti_meaning.specs.Owner.{readings}
-use Rattle.ti_meaning.specs.Exchange.{with_block, HasPlace, shifted_position}
-use Rattle.ti_meaning.proofs.EditedLists.{map-insert}
-use Rattle.ti_meaning.proofs.Placing.{get-insert}
-use Rattle.ti_slots.specs.declared.slots.Slot.{Slot}
-use Rattle.ti_slots.specs.declared.slots.Slots.{Slots}
-use Rattle.ti_slots.specs.Slots.{slots_of, blocks_of, slot_texts}
-use Rattle.ti_slots.proofs.Owners.{length_texts}
+use Rattle.base_meaning.specs.Owner.{readings}
+use Rattle.base_meaning.specs.Exchange.{with_block, HasPlace, shifted_position}
+use Rattle.base_meaning.proofs.EditedLists.{map-insert}
+use Rattle.base_meaning.proofs.Placing.{get-insert}
+use Rattle.base_slots.specs.declared.slots.Slot.{Slot}
+use Rattle.base_slots.specs.declared.slots.Slots.{Slots}
+use Rattle.base_slots.specs.Slots.{slots_of, blocks_of, slot_texts}
+use Rattle.base_slots.proofs.Owners.{length_texts}
 use Rattle.ti_base.specs.inside.Database.{reading_seen, text_seen, AreRead, SlotsAreSound, PlacedSlot, with_slot, block_seen}
 
 -- there are as many as texts

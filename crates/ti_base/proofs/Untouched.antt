@@ -4,18 +4,18 @@ use Rattle.std.proofs.lemmas.Option.{slice_get-map}
 use Rattle.ti_source.specs.Reading.{Reading, reading_of}
 use Rattle.ti_layout.specs.declared.values.Table.{Table}
 use Rattle.ti_layout.specs.Values.{contents}
-use Rattle.ti_meaning.specs.Expansion.{expansion}
-use Rattle.ti_meaning.specs.Compiled.{state_of}
-use Rattle.ti_meaning.specs.ValueTables.{HasTable}
-use Rattle.ti_meaning.specs.KeptBlocks.{lasting_faults, moved_to}
-use Rattle.ti_meaning.specs.Exchange.{IsExchange, new_list, old_list, shifted_position}
-use Rattle.ti_meaning.specs.Dependents.{IsDependent}
-use Rattle.ti_meaning.proofs.Placing.{split-with}
-use Rattle.ti_meaning.proofs.KeptFaults.{kept_block, touched_in_both}
-use Rattle.ti_slots.specs.declared.slots.KeptFault.{KeptFault}
-use Rattle.ti_slots.specs.declared.slots.Settled.{Settled}
-use Rattle.ti_slots.specs.declared.slots.Slot.{Slot}
-use Rattle.ti_slots.specs.Settled.{IsSettled, fault_at, table_of}
+use Rattle.base_meaning.specs.Expansion.{expansion}
+use Rattle.base_meaning.specs.Compiled.{state_of}
+use Rattle.base_meaning.specs.ValueTables.{HasTable}
+use Rattle.base_meaning.specs.KeptBlocks.{lasting_faults, moved_to}
+use Rattle.base_meaning.specs.Exchange.{IsExchange, new_list, old_list, shifted_position}
+use Rattle.base_meaning.specs.Dependents.{IsDependent}
+use Rattle.base_meaning.proofs.Placing.{split-with}
+use Rattle.base_meaning.proofs.KeptFaults.{kept_block, touched_in_both}
+use Rattle.base_slots.specs.declared.slots.KeptFault.{KeptFault}
+use Rattle.base_slots.specs.declared.slots.Settled.{Settled}
+use Rattle.base_slots.specs.declared.slots.Slot.{Slot}
+use Rattle.base_slots.specs.Settled.{IsSettled, fault_at, table_of}
 use Rattle.ti_base.specs.inside.Database.{reading_seen, SlotsAreSettled, PlacedSlot, with_slot, exchange_with}
 use Rattle.ti_base.proofs.SlotLists.{readings_with, get-with_slot}
 

@@ -2,8 +2,8 @@
 ghost use Rattle.std.specs.Prelude.{◌≡◌, ◌<◌, ◌≤◌, [], length, map, slice_get, Some, option_map, vec_capacity, IfOk};
 ghost use Rattle.std.specs.Rc.{rc_slice_items};
 ghost use Rattle.ti_source.specs.Reading.{item_of};
-ghost use Rattle.ti_meaning.specs.Edits.{EditRun, change_of};
-ghost use Rattle.ti_slots.specs.Settled.{table_of};
+ghost use Rattle.base_meaning.specs.Edits.{EditRun, change_of};
+ghost use Rattle.base_slots.specs.Settled.{table_of};
 
 use crate::faults::source_faults;
 use crate::growing::run_at_once;
@@ -11,12 +11,12 @@ use crate::judging::judge;
 use crate::owners::{find_owner, slot_of};
 use crate::report::{line_starts, write_report};
 use crate::slot_edits::edit_sound;
+use base_meaning::{Edit, EditError, Edited, Fault, Outcome};
+use base_slots::{Slots, State};
 use std::alloc::{AllocError, Global};
 use std::marker::Model;
 use std::rc::RcSlice;
 use ti_layout::Table;
-use ti_meaning::{Edit, EditError, Edited, Fault, Outcome};
-use ti_slots::{Slots, State};
 use ti_source::Item;
 
 // The values of a block, if it resolves.
@@ -44,7 +44,7 @@ impl Model for Database {
 
     ghost Value = { List (List ℕ) };
 
-    ghost use Rattle.ti_slots.specs.Slots.{slot_texts};
+    ghost use Rattle.base_slots.specs.Slots.{slot_texts};
     ghost use Rattle.ti_base.specs.inside.Database.{AreKept};
 
     ghost view = { λ d. slot_texts d.slots };
@@ -53,18 +53,18 @@ impl Model for Database {
 }
 
 impl Database {
-    ghost use Rattle.ti_meaning.specs.Owner.{owner, readings};
-    ghost use Rattle.ti_meaning.specs.Compiled.{compiled};
+    ghost use Rattle.base_meaning.specs.Owner.{owner, readings};
+    ghost use Rattle.base_meaning.specs.Compiled.{compiled};
     ghost use Rattle.ti_source.specs.Reading.{Reading};
     ghost use Rattle.ti_layout.specs.Values.{contents};
-    ghost use Rattle.ti_meaning.specs.ValueTables.{HasTable};
-    ghost use Rattle.ti_meaning.specs.Faults.{fault_seen, faults};
-    ghost use Rattle.ti_meaning.specs.Report.{lines_before, report};
+    ghost use Rattle.base_meaning.specs.ValueTables.{HasTable};
+    ghost use Rattle.base_meaning.specs.Faults.{fault_seen, faults};
+    ghost use Rattle.base_meaning.specs.Report.{lines_before, report};
     ghost use Rattle.std.specs.List.{range_with_len};
-    ghost use Rattle.ti_meaning.specs.Usable.{IsPlaced};
+    ghost use Rattle.base_meaning.specs.Usable.{IsPlaced};
     ghost use Rattle.std.specs.Prelude.{All};
-    ghost use Rattle.ti_meaning.specs.Edits.{EditStep, change_of, insertion, removal, relocation, replacement, outcome_of};
-    ghost use Rattle.ti_meaning.specs.Dependents.{Rebuilds};
+    ghost use Rattle.base_meaning.specs.Edits.{EditStep, change_of, insertion, removal, relocation, replacement, outcome_of};
+    ghost use Rattle.base_meaning.specs.Dependents.{Rebuilds};
 
     /// A source with no blocks. It takes no memory.
     pub fn new(alloc: Global) -> Database

@@ -3,17 +3,17 @@
 ghost use Rattle.std.specs.Prelude.{◌≡◌, ◌<◌, IfOk, IfSome, OnErr, OnOk, length, map, option_map};
 ghost use Rattle.std.specs.Rc.{rc_slice_items};
 ghost use Rattle.ti_source.specs.Reading.{reading_of};
-ghost use Rattle.ti_meaning.specs.Edits.{IsSoundEdit, change_of};
-ghost use Rattle.ti_slots.specs.Slots.{slot_texts, slots_of};
-ghost use Rattle.ti_slots.specs.Changes.{HasForgotten, HasRoomFor};
+ghost use Rattle.base_meaning.specs.Edits.{IsSoundEdit, change_of};
+ghost use Rattle.base_slots.specs.Slots.{slot_texts, slots_of};
+ghost use Rattle.base_slots.specs.Changes.{HasForgotten, HasRoomFor};
 ghost use Rattle.ti_base.specs.inside.Database.{AreRead};
 ghost use Rattle.ti_base.specs.inside.Exchanges.{CanExchange, CanUndo, IsEdited, IsExchanged, IsMade, IsNewOf, IsOut, IsUndone, names_seen, new_text, out_position, put_position, slot_left, slot_put};
 
 use crate::texts::read_slot;
+use base_meaning::Edit;
+use base_slots::{BlockEntry, Slot, Slots};
 use std::alloc::{AllocError, Global};
 use std::rc::RcSlice;
-use ti_meaning::Edit;
-use ti_slots::{BlockEntry, Slot, Slots};
 use ti_source::{Parsed, SharedTexts};
 
 // The position from which an edit takes a block out, and the one at which it puts one in.

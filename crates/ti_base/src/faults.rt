@@ -3,17 +3,17 @@ ghost use Rattle.std.specs.Prelude.{◌≡◌, ◌<◌, ◌++◌, ◌∷◌, [],
 ghost use Rattle.std.specs.List.{list_any};
 ghost use Rattle.std.specs.Rc.{rc_slice_items};
 ghost use Rattle.ti_source.specs.Reading.{Reading, fault_of};
-ghost use Rattle.ti_meaning.specs.Faults.{block_faults, fault_seen, faults, is_kept, is_owned_before, name_fault, name_faults};
-ghost use Rattle.ti_slots.specs.Slots.{blocks_of};
-ghost use Rattle.ti_slots.specs.Settled.{fault_at};
+ghost use Rattle.base_meaning.specs.Faults.{block_faults, fault_seen, faults, is_kept, is_owned_before, name_fault, name_faults};
+ghost use Rattle.base_slots.specs.Slots.{blocks_of};
+ghost use Rattle.base_slots.specs.Settled.{fault_at};
 ghost use Rattle.ti_base.specs.inside.Database.{AreKept};
 
 use crate::names::distinct_names;
 use crate::owners::{is_owned_before, slot_of};
+use base_meaning::Fault;
+use base_slots::{KeptFault, Slots, copy_detail};
 use std::alloc::{AllocError, Global};
 use std::rc::RcSlice;
-use ti_meaning::Fault;
-use ti_slots::{KeptFault, Slots, copy_detail};
 use ti_source::{Code, Local};
 
 // How many of the faults that reading gave are of the header.

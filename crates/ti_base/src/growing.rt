@@ -1,16 +1,16 @@
 //! A list that edits make with nothing found out about its blocks in between: all edits change the
 //! list, and then what there is to find out about the last list is found once.
 ghost use Rattle.std.specs.Prelude.{◌≡◌, ◌≤◌, [], IfOk, OnErr, OnOk, length, map, vec_capacity};
-ghost use Rattle.ti_meaning.specs.Edits.{EditRun, EditStep, IsSoundEdit, change_of, list_after};
-ghost use Rattle.ti_slots.specs.Slots.{slot_texts};
+ghost use Rattle.base_meaning.specs.Edits.{EditRun, EditStep, IsSoundEdit, change_of, list_after};
+ghost use Rattle.base_slots.specs.Slots.{slot_texts};
 ghost use Rattle.ti_base.specs.inside.Database.{AreKept, AreRead};
 
 use crate::exchange::{forget, make, read_new};
 use crate::judging::judge;
 use crate::rebuilding::rebuild_all;
+use base_meaning::{Edit, EditError, Outcome};
+use base_slots::Slots;
 use std::alloc::{AllocError, Global};
-use ti_meaning::{Edit, EditError, Outcome};
-use ti_slots::Slots;
 use ti_source::SharedTexts;
 
 // Changes the list as an edit says that nothing is wrong with. At an error it is as before.

@@ -1,11 +1,11 @@
 //! Whether an edit is refused, and why.
 ghost use Rattle.std.specs.Prelude.{IfErr, OnOk};
-ghost use Rattle.ti_slots.specs.Slots.{slot_texts};
-ghost use Rattle.ti_meaning.specs.Edits.{change_of, IsRefusal, IsSoundEdit};
+ghost use Rattle.base_slots.specs.Slots.{slot_texts};
+ghost use Rattle.base_meaning.specs.Edits.{change_of, IsRefusal, IsSoundEdit};
 
 use crate::texts::check_text;
-use ti_meaning::{Edit, EditError};
-use ti_slots::Slots;
+use base_meaning::{Edit, EditError};
+use base_slots::Slots;
 use ti_text::limits::BLOCKS_MAX;
 
 /// Whether nothing is wrong with an edit of the list; if something is, the first cause that holds.

@@ -1,6 +1,6 @@
 //! A source of terminal descriptions that can be edited block by block, and that knows the compiled
 //! entry of every block: at every time what the whole current source gives when it is taken afresh.
-//! What that is, `ti_meaning` says, whose edits and faults are public here again.
+//! What that is, `base_meaning` says, whose edits and faults are public here again.
 //!
 //! An edit is an exchange: at most one block is taken out of the list, and at most one is put in.
 //! The blocks that depend on it are then settled in the closing order of the components of their
@@ -38,7 +38,7 @@ mod report;
 mod slot_edits;
 mod texts;
 
+pub use base_meaning::{Edit, EditError, Edited, Fault, Outcome};
 pub use database::{Database, run};
 pub use names::distinct_names;
 pub use report::{write_detail, write_fault};
-pub use ti_meaning::{Edit, EditError, Edited, Fault, Outcome};

@@ -2,7 +2,7 @@
 ghost use Rattle.std.specs.Prelude.{◌≡◌, ◌++◌, ◌∷◌, ◌||◌, [], List, ℕ, if◌then◌else◌, map, IfOk, OnOk};
 ghost use Rattle.std.specs.Str.{bytes_eq};
 ghost use Rattle.std.specs.Rc.{rc_slice_items};
-ghost use Rattle.ti_meaning.specs.Faults.{distinct};
+ghost use Rattle.base_meaning.specs.Faults.{distinct};
 ghost use Rattle.ti_base.specs.inside.Names.{is_seen};
 
 use std::alloc::{AllocError, Global};

@@ -1,10 +1,10 @@
 //! The slots by position, and whose a name is.
 ghost use Rattle.std.specs.Prelude.{◌≡◌, ◌<◌, Some, length, slice_get};
-ghost use Rattle.ti_meaning.specs.Owner.{owner};
-ghost use Rattle.ti_meaning.specs.Faults.{is_owned_before};
-ghost use Rattle.ti_slots.specs.Slots.{blocks_of, slots_of};
+ghost use Rattle.base_meaning.specs.Owner.{owner};
+ghost use Rattle.base_meaning.specs.Faults.{is_owned_before};
+ghost use Rattle.base_slots.specs.Slots.{blocks_of, slots_of};
 
-use ti_slots::{Slot, Slots};
+use base_slots::{Slot, Slots};
 
 /// The slot of the block at a position.
 pub(crate) fn slot_of(slots: &Slots, at: usize) -> &Slot

@@ -1,20 +1,20 @@
 //! What an edit rebuilds, or a list that is made in one go: the plan of it, and what the plan found
 //! out put into the slots.
 ghost use Rattle.std.specs.Prelude.{◌≡◌, ℕ, Option, Some, All, length, IfOk, OnOk, OnErr};
-ghost use Rattle.ti_meaning.specs.Exchange.{Exchange};
-ghost use Rattle.ti_meaning.specs.Dependents.{AreDependents, work};
+ghost use Rattle.base_meaning.specs.Exchange.{Exchange};
+ghost use Rattle.base_meaning.specs.Dependents.{AreDependents, work};
 ghost use Rattle.ti_text.specs.Lists.{Has};
-ghost use Rattle.ti_slots.specs.Slots.{StandsAt, ids_of, blocks_of, slot_texts};
-ghost use Rattle.ti_dependents.specs.Dependents.{IsExchangeOf};
-ghost use Rattle.ti_plan.specs.Plans.{IsReady};
+ghost use Rattle.base_slots.specs.Slots.{StandsAt, ids_of, blocks_of, slot_texts};
+ghost use Rattle.base_dependents.specs.Dependents.{IsExchangeOf};
+ghost use Rattle.base_plan.specs.Plans.{IsReady};
 ghost use Rattle.ti_base.specs.inside.Database.{AreKept, AreRead, settled_all};
 ghost use Rattle.ti_base.specs.inside.Exchanges.{names_seen};
 
 use crate::exchange::{entry_of, names_of};
+use base_meaning::Edited;
+use base_plan::{Plan, plan, plan_all};
+use base_slots::{Slot, Slots};
 use std::alloc::{AllocError, Global};
-use ti_meaning::Edited;
-use ti_plan::{Plan, plan, plan_all};
-use ti_slots::{Slot, Slots};
 
 // Puts what a plan found out into the slots. It takes no memory.
 fn install(slots: &mut Slots, mut plan: Plan) -> Edited

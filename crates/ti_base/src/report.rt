@@ -3,17 +3,17 @@ ghost use Rattle.std.specs.Prelude.{◌≡◌, ◌≤◌, ◌++◌, length, map,
 ghost use Rattle.std.specs.List.{flat_map, range_with_len};
 ghost use Rattle.std.specs.Rc.{rc_slice_items};
 ghost use Rattle.ti_source.specs.Code.{code_text};
-ghost use Rattle.ti_meaning.specs.Report.{shown_byte, shown_detail, fault_line, lines_before, report_line};
-ghost use Rattle.ti_meaning.specs.Faults.{fault_seen};
-ghost use Rattle.ti_meaning.specs.Usable.{IsPlaced};
-ghost use Rattle.ti_slots.specs.Slots.{slot_texts};
+ghost use Rattle.base_meaning.specs.Report.{shown_byte, shown_detail, fault_line, lines_before, report_line};
+ghost use Rattle.base_meaning.specs.Faults.{fault_seen};
+ghost use Rattle.base_meaning.specs.Usable.{IsPlaced};
+ghost use Rattle.base_slots.specs.Slots.{slot_texts};
 ghost use Rattle.ti_base.specs.inside.Database.{AreKept};
 
 use crate::owners::slot_of;
+use base_meaning::Fault;
+use base_slots::Slots;
 use std::alloc::{AllocError, Global};
 use std::fmt::Write;
-use ti_meaning::Fault;
-use ti_slots::Slots;
 use ti_source::Code;
 use ti_text::count_lines;
 

@@ -1,16 +1,16 @@
 //! Edits of a settled list: the blocks exchanged, what depends on that rebuilt, and all taken back
 //! if memory is refused.
 ghost use Rattle.std.specs.Prelude.{◌≡◌, IfOk, OnErr, OnOk};
-ghost use Rattle.ti_meaning.specs.Edits.{IsSoundEdit, change_of, list_after};
-ghost use Rattle.ti_meaning.specs.Dependents.{Rebuilds};
-ghost use Rattle.ti_slots.specs.Slots.{slot_texts};
+ghost use Rattle.base_meaning.specs.Edits.{IsSoundEdit, change_of, list_after};
+ghost use Rattle.base_meaning.specs.Dependents.{Rebuilds};
+ghost use Rattle.base_slots.specs.Slots.{slot_texts};
 ghost use Rattle.ti_base.specs.inside.Database.{AreKept};
 
 use crate::exchange::{forget, make, read_new, undo};
 use crate::rebuilding::rebuild;
+use base_meaning::{Edit, Edited};
+use base_slots::Slots;
 use std::alloc::{AllocError, Global};
-use ti_meaning::{Edit, Edited};
-use ti_slots::Slots;
 
 /// Makes an edit that nothing is wrong with. At an error the list is as before.
 pub(crate) fn edit_sound(

@@ -6,9 +6,9 @@ ghost use Rattle.ti_source.specs.Parsing.{reading_of_text};
 ghost use Rattle.ti_base.specs.inside.Texts.{IsBlockText, IsTextRefusal};
 ghost use Rattle.ti_base.specs.inside.Database.{IsSoundSlot};
 
+use base_meaning::EditError;
+use base_slots::{Settled, Slot, State};
 use std::alloc::{AllocError, Global};
-use ti_meaning::EditError;
-use ti_slots::{Settled, Slot, State};
 use ti_source::{Parsed, SharedTexts, is_block, parse, parse_sharing};
 use ti_text::limits::BLOCK_BYTES_MAX;
 

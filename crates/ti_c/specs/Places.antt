@@ -1,8 +1,8 @@
 -- The directories in which entries are, as C asks for them: term(5), "Storage location".
 use Rattle.std.specs.Prelude.{◌≡◌, ◌<◌, ◌++◌, ◌∷◌, [], ℕ, Bool, if◌then◌else◌, List, length, Option, Some, None, slice_get}
 use Rattle.ti_text.specs.Ascii as ascii
-use Rattle.ti_devices.specs.Paths.{path_of}
-use Rattle.ti_devices.specs.Searching.{directories_of}
+use Rattle.tools_devices.specs.Paths.{path_of}
+use Rattle.tools_devices.specs.Searching.{directories_of}
 use Rattle.ti_c.specs.Answers.{IsWritten}
 
 -- what a variable of the environment holds, if it is set

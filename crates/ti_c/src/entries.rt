@@ -5,7 +5,7 @@ ghost use Rattle.ti_text.specs.Ascii as ascii;
 ghost use Rattle.ti_layout.specs.Reading as reading;
 ghost use Rattle.ti_layout.specs.Reading.{Reads, FailsToRead};
 ghost use Rattle.ti_layout.specs.View.{names_of, view_contents};
-ghost use Rattle.ti_tput.specs.Results.{long_name};
+ghost use Rattle.tools_tput.specs.Results.{long_name};
 ghost use Rattle.ti_c.specs.Entries as spec;
 ghost use Rattle.ti_c.specs.Entries.{entry_names, entry_contents, ReadAnswer, IsRefusal, CopyAnswer, flag_answer, number_answer, string_at, string_answer};
 

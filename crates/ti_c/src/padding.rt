@@ -1,7 +1,7 @@
 //! Bytes for the terminal with their delays as pad bytes, and the line to the terminal of an entry.
 ghost use Rattle.std.specs.Prelude.{◌≡◌, ◌≢◌, ◌<◌, ◌≤◌, ◌↔◌, ◌⊎◌};
 ghost use Rattle.ti_printing.specs.Padding.{AsksForTooMuch};
-ghost use Rattle.ti_tput.specs.Entries.{line_at_rate};
+ghost use Rattle.tools_tput.specs.Entries.{line_at_rate};
 ghost use Rattle.ti_c.specs.Entries.{entry_of};
 ghost use Rattle.ti_c.specs.Padding.{line_of, WritesPadded, IsTooLong};
 
@@ -10,7 +10,7 @@ use crate::entries::view_of;
 use crate::entry::Entry;
 use std::alloc::Global;
 use ti_printing::{Line, PadError, pad};
-use ti_tput::terminal_line;
+use tools_tput::terminal_line;
 
 /// The line to the terminal: see `ti_printing::Line`.
 #[repr(C)]

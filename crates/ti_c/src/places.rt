@@ -5,8 +5,8 @@ ghost use Rattle.ti_c.specs.Places.{directory_at, path_bytes, IsPathWritten, IsT
 
 use crate::answers::{BAD_NAME, NO_MEMORY, NO_ROOM, OK, Outcome, Text, write_to};
 use std::alloc::{AllocError, Global};
-use ti_devices::directory_at;
 use ti_source::is_lookup_name;
+use tools_devices::directory_at;
 
 /// The directory at a place of the order in which entries are looked for: the value of TERMINFO, if
 /// it is not empty; the parts of TERMINFO_DIRS between colons, if it is set, with

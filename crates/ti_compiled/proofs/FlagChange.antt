@@ -5,7 +5,7 @@ use Rattle.ti_caps.specs.Tables.{capability}
 use Rattle.ti_caps.specs.declared.capability.Kind.TheVariants.{Flag, Number, Text}
 use Rattle.ti_layout.specs.declared.layout.Format.TheVariants.{Legacy}
 use Rattle.ti_layout.specs.declared.header.Header.{Header}
-use Rattle.ti_layout.specs.Image.{image, below, even_gap, flag_value, flags_below, format_of, image_limit, numbers_below, of_kind, offsets_below, texts_below, written_count}
+use Rattle.ti_layout.specs.Image.{image, image_in, below, even_gap, flag_value, flags_below, format_of, image_limit, numbers_below, of_kind, offsets_below, texts_below, written_count}
 use Rattle.ti_layout.specs.Layout.{header, number_section, entry_size, width}
 use Rattle.ti_layout.specs.Laws.{without_cancel}
 use Rattle.ti_layout.specs.inside.Writing.{HasSizes}
@@ -59,7 +59,7 @@ nothing_flagged : (c : Contents) → HoldsNoOther c → (j : ℕ) → written_co
 nothing_flagged c past j le = void_flag (c (capability Flag j)) (nothing_past c past Flag j le)
 
 frame : (names : List ℕ) (c : Contents) → HoldsNoOther c → image names c ≡ head names c ++ ((names ++ 0 ∷ []) ++ (below (bytes_of c) (size names c) ++ behind c))
-unfolding image
+unfolding image image_in
 frame names c past =
     let F = written_count c Flag in
     let region : below (bytes_of c) (size names c) ≡ flags_below c F ++ even_gap names F =

@@ -3,7 +3,7 @@ use Rattle.std.proofs.Common.{◌≡◌, ℕ, suc, ◌+◌, ◌-◌, ◌≤◌, 
 use Rattle.std.proofs.lemmas.List.{length-append, take-take}
 use Rattle.ti_caps.specs.declared.capability.Kind.TheVariants.{Flag, Number, Text}
 use Rattle.ti_layout.specs.declared.header.Header.{Header}
-use Rattle.ti_layout.specs.Image.{image, format_of, sections_of, written_count, texts_below}
+use Rattle.ti_layout.specs.Image.{image, image_in, format_of, sections_of, written_count, texts_below}
 use Rattle.ti_layout.specs.Reading.{IsHeaderAt, names_section, names_size, word_at}
 use Rattle.ti_layout.specs.inside.Writing.{HasSizes, at_most_max}
 use Rattle.ti_layout.specs.Values.{Contents}
@@ -14,7 +14,7 @@ use Rattle.ti_layout.proofs.Sizes.{strings_small}
 use Rattle.ti_compiled.specs.inside.Image.{names_in, contents_in, IsImaged, IsImage}
 
 pub found_image : (names : List ℕ) (c : Contents) → IsImaged names c → Found (image names c) (format_of c) (sections_of (format_of c) names c)
-unfolding image
+unfolding image image_in
 found_image names c is =
     let sound : Sound names c = record { some = is.some; short = is.short; no_nul = is.no_nul; agree = is.agree; small = strings_small names c is.within } in
     found (format_of c) (sections_of (format_of c) names c) (sections-sound names c sound)

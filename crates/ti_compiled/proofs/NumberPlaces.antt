@@ -7,7 +7,7 @@ use Rattle.ti_caps.specs.declared.capability.Kind.TheVariants.{Flag, Number, Tex
 use Rattle.ti_layout.specs.declared.layout.Format.{Format}
 use Rattle.ti_layout.specs.declared.layout.Format.TheVariants.{Legacy, Extended}
 use Rattle.ti_layout.specs.declared.header.Header.{Header}
-use Rattle.ti_layout.specs.Image.{image, below, even_gap, flags_below, format_of, numbers_below, number_value, of_kind, offsets_below, texts_below, written_count}
+use Rattle.ti_layout.specs.Image.{image, image_in, below, even_gap, flags_below, format_of, numbers_below, number_value, of_kind, offsets_below, texts_below, written_count}
 use Rattle.ti_layout.specs.Layout.{absent_mark, first_negative, number_section, width}
 use Rattle.ti_layout.specs.Laws.{without_cancel}
 use Rattle.ti_layout.specs.Reading.{number_at}
@@ -65,7 +65,7 @@ abbrev pub number_in : Format → Contents → ℕ → ℕ
 number_in w c j = number_value (absent_mark w) (of_kind c Number j)
 
 pub number_frame : (names : List ℕ) (c : Contents) → image names c ≡ head_of names c ++ (before_numbers names c ++ (number_section (format_of c) (below (number_in (format_of c) c) (written_count c Number)) ++ after_numbers c))
-unfolding image
+unfolding image image_in
 number_frame names c =
     nine (head_of names c) names (0 ∷ []) (flags_below c (written_count c Flag)) (even_gap names (written_count c Flag))
     (number_section (format_of c) (numbers_below (format_of c) c (written_count c Number))) (number_section Legacy (offsets_below c (written_count c Text)))

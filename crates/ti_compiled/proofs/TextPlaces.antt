@@ -6,7 +6,7 @@ use Rattle.ti_caps.specs.Tables.{capability}
 use Rattle.ti_caps.specs.declared.capability.Kind.TheVariants.{Flag, Number, Text}
 use Rattle.ti_layout.specs.declared.layout.Format.TheVariants.{Legacy}
 use Rattle.ti_layout.specs.declared.header.Header.{Header}
-use Rattle.ti_layout.specs.Image.{image, below, even_gap, flags_below, format_of, is_there, numbers_below, of_kind, offset_value, offsets_below, text_piece, texts_below, written_count}
+use Rattle.ti_layout.specs.Image.{image, image_in, below, even_gap, flags_below, format_of, is_there, numbers_below, of_kind, offset_value, offsets_below, text_piece, texts_below, written_count}
 use Rattle.ti_layout.specs.Layout.{header, number_section, width}
 use Rattle.ti_layout.specs.Laws.{without_cancel}
 use Rattle.ti_layout.specs.Reading.{word_at}
@@ -103,7 +103,7 @@ head_of names c =
     header (format_of c) (suc (length names)) (length (flags_below c (written_count c Flag))) (length (numbers_below (format_of c) c (written_count c Number))) (length (offsets_below c (written_count c Text))) (length (texts_below c (written_count c Text)))
 
 pub text_frame : (names : List ℕ) (c : Contents) → image names c ≡ head_of names c ++ (middle names c ++ (number_section Legacy (offsets_below c (written_count c Text)) ++ (texts_below c (written_count c Text) ++ [])))
-unfolding image
+unfolding image image_in
 text_frame names c =
     nine (head_of names c) names (0 ∷ []) (flags_below c (written_count c Flag)) (even_gap names (written_count c Flag))
     (number_section (format_of c) (numbers_below (format_of c) c (written_count c Number))) (number_section Legacy (offsets_below c (written_count c Text)))

@@ -5,6 +5,7 @@ use Rattle.std.proofs.lemmas.List.{get_or_default, length-map}
 use Rattle.ti_caps.specs.Tables.{Capability, IsCapability, capability}
 use Rattle.ti_caps.specs.declared.capability.Kind.{Kind}
 use Rattle.ti_caps.specs.declared.capability.Kind.TheVariants.{Flag, Number, Text}
+use Rattle.ti_layout.specs.declared.layout.Format.{Format}
 use Rattle.ti_layout.specs.declared.layout.Format.TheVariants.{Legacy, Extended}
 use Rattle.ti_layout.specs.declared.header.Header.{Header}
 use Rattle.ti_layout.specs.declared.values.Value.{Value}
@@ -12,7 +13,7 @@ use Rattle.ti_layout.specs.declared.values.Value.TheVariants.{True, Cancelled}
 use Rattle.ti_layout.specs.declared.values.Value.TheVariants as v
 use Rattle.ti_layout.specs.Values.{Content, content_true, content_number, content_text, content_cancelled, Mention, IsSorted, contents, content_of, entries_of}
 use Rattle.ti_layout.specs.Image.{is_wide, format_of, of_kind, texts_below}
-use Rattle.ti_layout.specs.inside.Writing.{HasSizes, at_most_max}
+use Rattle.ti_layout.specs.inside.Writing.{HasSizesIn, at_most_max}
 use Rattle.ti_layout.proofs.Below.{some_below-true, some_below-false}
 use Rattle.ti_layout.proofs.Texts.{texts-none}
 use Rattle.ti_layout.proofs.Walked.{Walked, is_of, stands, contents_read, kind_at, walked-start, walked-end, next_text, item_read}
@@ -84,8 +85,8 @@ pub record HasCounts (es : List Mention) (k flags numbers texts strings : ℕ) :
   pub strings_are : strings ≡ at_most_max (length (texts_below (contents es) texts))
 
 -- the header so far
-pub record HeaderSoFar (es : List Mention) (field : List ℕ) (k : ℕ) (h : Header) : Type 0 where
-  pub format_is : h.format ≡ format_of (contents es)
+pub record HeaderSoFar (w : Format) (es : List Mention) (field : List ℕ) (k : ℕ) (h : Header) : Type 0 where
+  pub format_is : h.format ≡ w
   pub names_are : h.names ≡ suc (length field)
   pub counts : HasCounts es k h.flags h.numbers h.texts h.strings
 
@@ -142,9 +143,9 @@ module _ (xs : List (Capability × Value)) (sorted : IsSorted (entries_of xs)) (
     strings_are = has.strings_are;
   }
 
-pub counted_all : (xs : List (Capability × Value)) → IsSorted (entries_of xs) → (field : List ℕ) (k : ℕ) (h : Header) → length xs ≤ k → h.format ≡ format_of (contents (entries_of xs)) → h.names ≡ suc (length field)
-    → HasCounts (entries_of xs) k h.flags h.numbers h.texts h.strings → HasSizes field (contents (entries_of xs)) h
-counted_all xs sorted field k h all format names has =
+pub counted_all : (xs : List (Capability × Value)) → IsSorted (entries_of xs) → (field : List ℕ) (k : ℕ) (h : Header) → length xs ≤ k → (w : Format) → h.format ≡ w → h.names ≡ suc (length field)
+    → HasCounts (entries_of xs) k h.flags h.numbers h.texts h.strings → HasSizesIn w field (contents (entries_of xs)) h
+counted_all xs sorted field k h all w format names has =
     let es = entries_of xs in
     let end = all_past xs k all in
     let texts = walked-end es sorted Text k h.texts end has.texts_walked in

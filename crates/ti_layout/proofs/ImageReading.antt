@@ -1,5 +1,5 @@
 -- What is written is read as what was written.
-use Rattle.std.proofs.Common.{◌≡◌, ℕ, suc, ◌+◌, ◌-◌, ◌%◌, ◌<◌, ◌≤◌, Bool, true, false, cond, ltb, eqb, List, [], ◌∷◌, ◌++◌, length, take, drop, get_or, Option, Some, None, refl, sym, ap, ◌∙◌, subst, arith, inl, inr}
+use Rattle.std.proofs.Common.{◌≡◌, ℕ, suc, ◌+◌, ◌-◌, ◌%◌, ◌<◌, ◌≤◌, Bool, true, false, cond, ltb, eqb, List, [], ◌∷◌, ◌++◌, length, take, drop, get_or, Option, Some, None, refl, sym, ap, ◌∙◌, subst, arith, inl, inr, append-nil}
 use Rattle.std.specs.List.{before_first, position_or_len}
 use Rattle.std.specs.Option.{option_and_then}
 use Rattle.std.proofs.lemmas.Bool.{cases_lt, lt-ltb, ne_eqb}
@@ -11,12 +11,12 @@ use Rattle.ti_caps.specs.declared.capability.Kind.TheVariants.{Flag, Number, Tex
 use Rattle.ti_layout.specs.declared.layout.Format.{Format}
 use Rattle.ti_layout.specs.declared.layout.Format.TheVariants.{Legacy, Extended}
 use Rattle.ti_layout.specs.Values.{Content, content_true, content_number, content_text, content_cancelled, Contents, AgreesIfSome, HasNoNul}
-use Rattle.ti_layout.specs.Layout.{absent_mark, first_negative}
-use Rattle.ti_layout.specs.Reading.{AreSound, IsFlagByte, IsStoredNumber, IsOffset, HasEnd, stored_flag, stored_number, stored_text, text_from, says, contents_of}
-use Rattle.ti_layout.specs.Image.{image, is_there, is_wide, format_of, of_kind, written_count, flag_value, number_value, offset_value, texts_below, sections_of, some_below, below}
-use Rattle.ti_layout.specs.Laws.{without_cancel, ImagesAreRead}
+use Rattle.ti_layout.specs.Layout.{Sections, absent_mark, entry_bytes, first_negative}
+use Rattle.ti_layout.specs.Reading.{Reads, AreSound, IsFlagByte, IsStoredNumber, IsOffset, HasEnd, stored_flag, stored_number, stored_text, text_from, says, contents_of}
+use Rattle.ti_layout.specs.Image.{image, image_in, is_there, is_wide, format_of, of_kind, written_count, flag_value, number_value, offset_value, texts_below, sections_of, some_below, below}
+use Rattle.ti_layout.specs.Laws.{without_cancel, HoldsNumbers, ImagesAreRead, ImagesInFormatsAreRead}
 use Rattle.ti_layout.proofs.Below.{length-below, get_or-below, slice_get-below, slice_get-past_below, last_passing-le, last_passing-past, some_below-true}
-use Rattle.ti_layout.proofs.Sizes.{strings_small}
+use Rattle.ti_layout.proofs.Sizes.{image-is, limit-le, strings_small_in}
 use Rattle.ti_layout.proofs.Texts.{text_there}
 
 -- ---- texts
@@ -40,12 +40,12 @@ before_nul t rest no_nul =
     ap (λ (k : ℕ). take k (t ++ 0 ∷ rest)) place ∙ take_at t (0 ∷ rest) (length t) refl
 
 -- a text of the table, found from its offset
-record IsIn (strings : List ℕ) (offset : ℕ) (t : List ℕ) : Type 0 where
-  has_end : HasEnd strings offset
-  within : offset < length strings
-  found : text_from strings offset ≡ t
+pub record IsIn (strings : List ℕ) (offset : ℕ) (t : List ℕ) : Type 0 where
+  pub has_end : HasEnd strings offset
+  pub within : offset < length strings
+  pub found : text_from strings offset ≡ t
 
-text-in : (strings : List ℕ) (offset : ℕ) (t rest : List ℕ) → HasNoNul t → drop offset strings ≡ t ++ 0 ∷ rest → IsIn strings offset t
+pub text-in : (strings : List ℕ) (offset : ℕ) (t rest : List ℕ) → HasNoNul t → drop offset strings ≡ t ++ 0 ∷ rest → IsIn strings offset t
 text-in strings offset t rest no_nul e =
     let size : length strings - offset ≡ length t + suc (length rest) = sym (length-drop offset strings) ∙ ap length e ∙ length-append t (0 ∷ rest) in
     let at : get_or strings (offset + length t) 0 ≡ 0 =
@@ -86,12 +86,12 @@ absent_number : (w : Format) → IsStoredNumber w (absent_mark w)
 absent_number Legacy = inr (omega arith, omega arith)
 absent_number Extended = inr (omega arith, omega arith)
 
-sound_number : (c : Contents) (k : ℕ) → k < 39 → (o : Option Content) → c (capability Number k) ≡ o → AgreesIfSome (capability Number k) o → IsStoredNumber (format_of c) (number_value (absent_mark (format_of c)) o)
-sound_number c k lt None e a = absent_number (format_of c)
-sound_number c k lt (Some content_true) e a = absent_number (format_of c)
-sound_number c k lt (Some (content_number n)) e a = inl (number-plain c k n lt e a.1)
-sound_number c k lt (Some (content_text t)) e a = absent_number (format_of c)
-sound_number c k lt (Some content_cancelled) e a = absent_number (format_of c)
+sound_number : (w : Format) (c : Contents) → HoldsNumbers w c → (k : ℕ) → k < 39 → (o : Option Content) → c (capability Number k) ≡ o → AgreesIfSome (capability Number k) o → IsStoredNumber w (number_value (absent_mark w) o)
+sound_number w c holds k lt None e a = absent_number w
+sound_number w c holds k lt (Some content_true) e a = absent_number w
+sound_number w c holds k lt (Some (content_number n)) e a = inl (holds k n lt e)
+sound_number w c holds k lt (Some (content_text t)) e a = absent_number w
+sound_number w c holds k lt (Some content_cancelled) e a = absent_number w
 
 absent_offset : (strings : List ℕ) → IsOffset strings 65535
 absent_offset strings = inr (omega arith, omega arith)
@@ -132,14 +132,14 @@ all_below f n P each k d lt =
     let within : k < n = omega (arith, length-below f n) in
     subst P (sym (get_or-below f n k d within)) (each k within)
 
-pub sections-sound : (names : List ℕ) (c : Contents) → Sound names c → AreSound (format_of c) (sections_of (format_of c) names c)
-sections-sound names c h =
+pub sections-sound_in : (w : Format) (names rest : List ℕ) (c : Contents) → HoldsNumbers w c → Sound names c → AreSound w (record (sections_of w names c) { rest = rest })
+sections-sound_in w names rest c holds h =
     let n = counts c in
     let F = written_count c Flag in
     let N = written_count c Number in
     let T = written_count c Text in
     let f = length-below (λ i. flag_value (of_kind c Flag i)) F in
-    let m = length-below (λ i. number_value (absent_mark (format_of c)) (of_kind c Number i)) N in
+    let m = length-below (λ i. number_value (absent_mark w) (of_kind c Number i)) N in
     let o = length-below (λ i. offset_value (length (texts_below c i)) (of_kind c Text i)) T in
     record {
       some_names = h.some;
@@ -151,13 +151,20 @@ sections-sound names c h =
       strings_size = h.small;
       gap_size = length-replicate ((suc (length names) + F) % 2) 0 ∙ ap (λ (k : ℕ). (suc (length names) + k) % 2) (sym f);
       flags = all_below (λ i. flag_value (of_kind c Flag i)) F IsFlagByte (λ i lt. sound_flag (of_kind c Flag i));
-      numbers = all_below (λ i. number_value (absent_mark (format_of c)) (of_kind c Number i)) N (IsStoredNumber (format_of c)) (λ i lt.
+      numbers = all_below (λ i. number_value (absent_mark w) (of_kind c Number i)) N (IsStoredNumber w) (λ i lt.
           let within : i < 39 = omega (arith, n.numbers) in
-          sound_number c i within (of_kind c Number i) refl (h.agree (capability Number i) within));
+          sound_number w c holds i within (of_kind c Number i) refl (h.agree (capability Number i) within));
       offsets = all_below (λ i. offset_value (length (texts_below c i)) (of_kind c Text i)) T (IsOffset (texts_below c T)) (λ i lt.
           let within : i < 414 = omega (arith, n.texts) in
           sound_offset c T i lt h.small (of_kind c Text i) refl (h.agree (capability Text i) within));
     }
+
+-- a number may be no greater than the format of its entry holds
+holds_agreed : (c : Contents) → ((k : Capability) → IsCapability k → AgreesIfSome k (c k)) → HoldsNumbers (format_of c) c
+holds_agreed c agree k n lt e = number-plain c k n lt e (subst (AgreesIfSome (capability Number k)) e (agree (capability Number k) lt)).1
+
+pub sections-sound : (names : List ℕ) (c : Contents) → Sound names c → AreSound (format_of c) (sections_of (format_of c) names c)
+sections-sound names c h = sections-sound_in (format_of c) names [] c (holds_agreed c h.agree) h
 
 -- ---- what the sections say is what the contents are
 
@@ -183,14 +190,14 @@ absent-says : (w : Format) → stored_number w (absent_mark w) ≡ None
 absent-says Legacy = refl
 absent-says Extended = refl
 
-number-again : (c : Contents) (k : ℕ) → k < 39 → (o : Option Content) → c (capability Number k) ≡ o → AgreesIfSome (capability Number k) o → stored_number (format_of c) (number_value (absent_mark (format_of c)) o) ≡ without_cancel o
-number-again c k lt None e a = absent-says (format_of c)
-number-again c k lt (Some content_true) e a = absurd (let p : Number ≡ Flag = a in cc)
-number-again c k lt (Some (content_number n)) e a =
-    let small : ltb n (first_negative (format_of c)) ≡ true = lt-ltb _ _ (number-plain c k n lt e a.1) in
+number-again : (w : Format) (c : Contents) → HoldsNumbers w c → (k : ℕ) → k < 39 → (o : Option Content) → c (capability Number k) ≡ o → AgreesIfSome (capability Number k) o → stored_number w (number_value (absent_mark w) o) ≡ without_cancel o
+number-again w c holds k lt None e a = absent-says w
+number-again w c holds k lt (Some content_true) e a = absurd (let p : Number ≡ Flag = a in cc)
+number-again w c holds k lt (Some (content_number n)) e a =
+    let small : ltb n (first_negative w) ≡ true = lt-ltb _ _ (holds k n lt e) in
     ap (λ b. cond b (Some (content_number n)) None) small
-number-again c k lt (Some (content_text t)) e a = absurd (let p = a.0 in cc)
-number-again c k lt (Some content_cancelled) e a = absent-says (format_of c)
+number-again w c holds k lt (Some (content_text t)) e a = absurd (let p = a.0 in cc)
+number-again w c holds k lt (Some content_cancelled) e a = absent-says w
 
 text-again : (c : Contents) (n i : ℕ) → i < n → length (texts_below c n) < 32768 → (o : Option Content) → c (capability Text i) ≡ o
     → AgreesIfSome (capability Text i) o → stored_text (texts_below c n) (offset_value (length (texts_below c i)) o) ≡ without_cancel o
@@ -205,24 +212,23 @@ text-again c n i lt small (Some (content_text t)) e a =
     rw (plain, found) refl
 text-again c n i lt small (Some content_cancelled) e a = refl
 
-section_says : (names : List ℕ) (c : Contents) → Sound names c → (kind : Kind) (i : ℕ) → i < count_of kind → let s = sections_of (format_of c) names c in
-    says (format_of c) s.flags s.numbers s.offsets s.strings kind i ≡ without_cancel (c (capability kind i))
-section_says names c h Flag i lt =
+section_says : (w : Format) (names : List ℕ) (c : Contents) → HoldsNumbers w c → Sound names c → (kind : Kind) (i : ℕ) → i < count_of kind → let s = sections_of w names c in
+    says w s.flags s.numbers s.offsets s.strings kind i ≡ without_cancel (c (capability kind i))
+section_says w names c holds h Flag i lt =
     let f : ℕ → ℕ = λ k. flag_value (of_kind c Flag k) in
     let n = written_count c Flag in
     elim (cases_lt i n) [
       | inl under ↦ ap stored_flag (get_or-below f n i 0 under) ∙ flag-again i (c (capability Flag i)) (h.agree (capability Flag i) lt)
       | inr le ↦ ap stored_flag (get_or_past (below f n) i 0 (omega (arith, length-below f n, le))) ∙ sym (past-written c Flag i le lt)
     ]
-section_says names c h Number i lt =
-    let w = format_of c in
+section_says w names c holds h Number i lt =
     let f : ℕ → ℕ = λ k. number_value (absent_mark w) (of_kind c Number k) in
     let n = written_count c Number in
     elim (cases_lt i n) [
-      | inl under ↦ ap (option_and_then (stored_number w)) (slice_get-below f n i under) ∙ number-again c i lt (c (capability Number i)) refl (h.agree (capability Number i) lt)
+      | inl under ↦ ap (option_and_then (stored_number w)) (slice_get-below f n i under) ∙ number-again w c holds i lt (c (capability Number i)) refl (h.agree (capability Number i) lt)
       | inr le ↦ ap (option_and_then (stored_number w)) (slice_get-past_below f n i le) ∙ sym (past-written c Number i le lt)
     ]
-section_says names c h Text i lt =
+section_says w names c holds h Text i lt =
     let n = written_count c Text in
     let f : ℕ → ℕ = λ k. offset_value (length (texts_below c k)) (of_kind c Text k) in
     elim (cases_lt i n) [
@@ -230,13 +236,30 @@ section_says names c h Text i lt =
       | inr le ↦ ap (option_and_then (stored_text (texts_below c n))) (slice_get-past_below f n i le) ∙ sym (past-written c Text i le lt)
     ]
 
-pub images_are_read : ImagesAreRead
-unfolding image
-images_are_read names c some short no_nul agree limit =
-    let h : Sound names c = record { some = some; short = short; no_nul = no_nul; agree = agree; small = strings_small names c limit } in
-    let w = format_of c in
-    let s = sections_of w names c in (
+with_rest : (x rest : List ℕ) → (x ++ []) ++ rest ≡ x ++ rest
+with_rest x rest = ap (λ y. y ++ rest) (append-nil x)
+
+pub image_in-with : (w : Format) (names rest : List ℕ) (c : Contents) → image_in w names c ++ rest ≡ entry_bytes w (record (sections_of w names c) { rest = rest })
+unfolding image_in
+image_in-with w names rest c = with_rest _ rest
+
+pub images_in_formats_are_read : ImagesInFormatsAreRead
+images_in_formats_are_read w names rest c some short no_nul agree holds limit =
+    let h : Sound names c = record { some = some; short = short; no_nul = no_nul; agree = agree; small = strings_small_in w names c limit } in
+    let s : Sections = record (sections_of w names c) { rest = rest } in (
       contents_of w s.flags s.numbers s.offsets s.strings,
-      record { format = w; sections = s; sound = sections-sound names c h; whole = refl; named = refl; held = refl },
-      λ k valid. section_says names c h k.kind k.index valid,
+      record { format = w; sections = s; sound = sections-sound_in w names rest c holds h; whole = image_in-with w names rest c; named = refl; held = refl },
+      λ k valid. section_says w names c holds h k.kind k.index valid,
+    )
+
+pub images_are_read : ImagesAreRead
+images_are_read names c some short no_nul agree limit =
+    let w = format_of c in
+    let most = limit-le w in
+    let same : image names c ≡ image_in w names c = image-is names c in
+    let long = ap length same in
+    let read = images_in_formats_are_read w names [] c some short no_nul agree (holds_agreed c agree) (omega arith) in (
+      read.0,
+      subst (λ b. Reads b names read.0) (append-nil (image_in w names c) ∙ sym same) read.1,
+      read.2,
     )

@@ -7,7 +7,7 @@ use Rattle.ti_layout.specs.declared.layout.Format.{Format}
 use Rattle.ti_layout.specs.declared.layout.Format.TheVariants.{Legacy, Extended}
 use Rattle.ti_layout.specs.Values.{Content, content_true, content_number, content_text, content_cancelled, Contents}
 use Rattle.ti_layout.specs.Layout.{absent_mark, entry_bytes, limit}
-use Rattle.ti_layout.specs.Image.{image, is_there, is_wide, format_of, of_kind, written_count, flag_value, number_value, offset_value, text_piece, flags_below, numbers_below, offsets_below, texts_below, even_gap}
+use Rattle.ti_layout.specs.Image.{image, image_in, is_there, is_wide, format_of, of_kind, written_count, flag_value, number_value, offset_value, text_piece, flags_below, numbers_below, offsets_below, texts_below, even_gap}
 use Rattle.ti_layout.specs.Laws.{without_cancel, ShowSame, ImagesAreOfValues, LimitsAreOfValues}
 use Rattle.ti_layout.proofs.Below.{below-same, last_passing-le, last_passing-same, some_below-same}
 use Rattle.ti_layout.proofs.Texts.{texts-same}
@@ -91,7 +91,7 @@ module _ (t u : Contents) (h : ShowSame t u) where
       ∙ ap (offsets_below u) (count-same Text)
 
   image-same : (names : List ℕ) → image names t ≡ image names u
-  unfolding image
+  unfolding image image_in
   image-same names =
       alike names _ _ _ _ _ _ _ _ _ _ flags-same (ap (even_gap names) (count-same Flag)) numbers-same offsets-same strings-same (format_of t) (format_of u) format-same
 

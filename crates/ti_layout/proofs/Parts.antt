@@ -7,7 +7,7 @@ use Rattle.ti_layout.specs.Layout.{Sections, header, entry_bytes, magic, number_
 use Rattle.ti_layout.specs.Reading.{word_at, AreSound, format_in, names_size, flag_count, number_count, text_count, strings_size, entry_end, names_section, flags_section, numbers_section, offsets_section, strings_section}
 use Rattle.ti_layout.proofs.Spelled.{length-spelled}
 
-part_at : (b p m r : List ℕ) (x y : ℕ) → b ≡ p ++ (m ++ r) → length p ≡ x → length p + length m ≡ y → slice_range b x y ≡ m
+pub part_at : (b p m r : List ℕ) (x y : ℕ) → b ≡ p ++ (m ++ r) → length p ≡ x → length p + length m ≡ y → slice_range b x y ≡ m
 part_at b p m r x y e from to =
     let n : length m ≡ y - x = omega (arith, from, to) in
     rw (e, drop_at p (m ++ r) x from) (take_at m r (y - x) n)

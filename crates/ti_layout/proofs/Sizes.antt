@@ -1,11 +1,11 @@
 -- How long an entry is.
-use Rattle.std.proofs.Common.{◌≡◌, ℕ, suc, ◌+◌, ◌*◌, ◌%◌, ◌≤◌, ◌<◌, List, [], ◌∷◌, ◌++◌, length, ◌∙◌, arith}
+use Rattle.std.proofs.Common.{◌≡◌, ℕ, suc, ◌+◌, ◌*◌, ◌%◌, ◌≤◌, ◌<◌, List, [], ◌∷◌, ◌++◌, length, refl, ap, ◌∙◌, arith}
 use Rattle.std.proofs.lemmas.List.{length-append, length-replicate}
 use Rattle.ti_caps.specs.declared.capability.Kind.TheVariants.{Flag, Number, Text}
 use Rattle.ti_layout.specs.declared.layout.Format.{Format}
 use Rattle.ti_layout.specs.declared.layout.Format.TheVariants.{Legacy, Extended}
 use Rattle.ti_layout.specs.Layout.{Sections, header, entry_bytes, limit, entry_size, number_section, width}
-use Rattle.ti_layout.specs.Image.{image, even_gap, flags_below, format_of, image_limit, numbers_below, offsets_below, sections_of, texts_below, written_count}
+use Rattle.ti_layout.specs.Image.{image, image_in, even_gap, flags_below, format_of, image_limit, numbers_below, offsets_below, sections_of, texts_below, written_count}
 use Rattle.ti_layout.specs.Values.{Contents}
 use Rattle.ti_layout.proofs.Below.{length-below}
 use Rattle.ti_layout.proofs.Parts.{length-header}
@@ -30,11 +30,10 @@ length-entry_bytes w s =
 whole : (n f g x o s : ℕ) → 13 + n + f + g + x + 2 * o + s + 0 ≡ 12 + suc n + f + g + x + 2 * o + s
 whole n f g x o s = omega arith
 
-pub length-image : (names : List ℕ) (c : Contents)
-    → length (image names c) ≡ entry_size (format_of c) (suc (length names)) (written_count c Flag) (written_count c Number) (written_count c Text) (length (texts_below c (written_count c Text)))
-unfolding image
-length-image names c =
-    let w = format_of c in
+pub length-image_in : (w : Format) (names : List ℕ) (c : Contents)
+    → length (image_in w names c) ≡ entry_size w (suc (length names)) (written_count c Flag) (written_count c Number) (written_count c Text) (length (texts_below c (written_count c Text)))
+unfolding image_in
+length-image_in w names c =
     let F = written_count c Flag in
     let f : length (flags_below c F) ≡ F = length-below _ F in
     let g : length (even_gap names F) ≡ (suc (length names) + F) % 2 = length-replicate ((suc (length names) + F) % 2) 0 in
@@ -49,9 +48,22 @@ limit-le Extended = omega arith
 bounded : (l n f g x o s k : ℕ) → l ≡ 12 + suc n + f + g + x + 2 * o + s → l ≤ k → k ≤ 32768 → s < 32768
 bounded l n f g x o s k e le m = omega arith
 
+-- the entry in the format that its contents need
+pub image-is : (names : List ℕ) (c : Contents) → image names c ≡ image_in (format_of c) names c
+unfolding image
+image-is names c = refl
+
+pub length-image : (names : List ℕ) (c : Contents)
+    → length (image names c) ≡ entry_size (format_of c) (suc (length names)) (written_count c Flag) (written_count c Number) (written_count c Text) (length (texts_below c (written_count c Text)))
+length-image names c = ap length (image-is names c) ∙ length-image_in (format_of c) names c
+
+-- the string table of an entry within the greater limit
+pub strings_small_in : (w : Format) (names : List ℕ) (c : Contents) → length (image_in w names c) ≤ 32768 → length (texts_below c (written_count c Text)) < 32768
+strings_small_in w names c within = bounded _ _ _ _ _ _ _ 32768 (length-image_in w names c) within (omega arith)
+
 -- the string table of an entry within its limit
 pub strings_small : (names : List ℕ) (c : Contents) → length (image names c) ≤ image_limit c → length (texts_below c (written_count c Text)) < 32768
 strings_small names c within =
-    let l = length-image names c in
+    let l = ap length (image-is names c) in
     let m = limit-le (format_of c) in
-    bounded _ _ _ _ _ _ _ _ l within m
+    strings_small_in (format_of c) names c (omega arith)

@@ -121,9 +121,13 @@ sections_of format names contents = record {
   rest = [];
 }
 
--- The compiled entry of a names field and of what the capabilities have.
+-- The compiled entry of a names field and of what the capabilities have, in a format.
+unfoldable pub image_in : Format → List ℕ → Contents → List ℕ
+image_in format names contents = entry_bytes format (sections_of format names contents)
+
+-- The compiled entry of a names field and of what the capabilities have, in the format that they need.
 unfoldable pub image : List ℕ → Contents → List ℕ
-image names contents = entry_bytes (format_of contents) (sections_of (format_of contents) names contents)
+image names contents = image_in (format_of contents) names contents
 
 -- the image of these names and contents is within its limit
 abbrev pub ImageFits : List ℕ → Contents → Type 0

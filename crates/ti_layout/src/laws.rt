@@ -1,5 +1,5 @@
 //! Laws of the definitions on which the contracts of this crate depend. They compute nothing.
-ghost use Rattle.ti_layout.specs.Laws.{ImagesAreOfValues, ImagesAreRead, LimitsAreOfValues};
+ghost use Rattle.ti_layout.specs.Laws.{ImagesAreOfValues, ImagesAreRead, ImagesInFormatsAreRead, LimitsAreOfValues};
 ghost use Rattle.ti_layout.specs.Reading.{EntriesHaveOneReading};
 
 /// Bytes are an entry in at most one way, are refused in at most one way, and never both; so the
@@ -12,6 +12,11 @@ pub fn one_reading()
 /// what was written of each capability, a cancelled value being absent.
 pub fn images_are_read()
     ensures { ImagesAreRead }
+{}
+
+/// An image in a format that has room for its numbers is read again, whatever follows it.
+pub fn images_in_formats_are_read()
+    ensures { ImagesInFormatsAreRead }
 {}
 
 /// An image and its limit depend only on the values of the capabilities: an absent value and a

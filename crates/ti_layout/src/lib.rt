@@ -27,10 +27,11 @@ mod writing;
 
 pub use fault::ReadError;
 pub use header::{HEADER_SIZE, Header};
-pub use laws::{images_are_of_values, images_are_read, one_reading};
+pub use laws::{images_are_of_values, images_are_read, images_in_formats_are_read, one_reading};
 pub use layout::{ABSENT_BYTE, ABSENT_NUMBER, ABSENT_WORD, Format, number, word, word_bytes};
 pub use mentions::Mentions;
+pub use sections::{are_flags, are_numbers, are_offsets};
 pub use values::{Content, Table, Value};
 pub use view::View;
 pub use view_parts::ViewParts;
-pub use writing::{WriteError, format_wanted, write};
+pub use writing::{WriteError, format_wanted, header_in, push_fill, push_number, write, write_in};

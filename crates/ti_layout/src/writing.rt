@@ -4,13 +4,13 @@
 //! over them: what is absent before a value is filled up in one step, and what is absent after the
 //! last value is not written.
 ghost use Rattle.std.specs.Prelude.{◌≡◌, ◌≢◌, ◌<◌, ◌≤◌, ◌↔◌, ◌+◌, ◌*◌, ◌++◌, [], length, replicate, Some, IfOk, IsErrOf, OnOk};
-ghost use Rattle.ti_text.specs.Limits.{names_max};
+ghost use Rattle.ti_text.specs.Limits.{extended_entry_max, names_max};
 ghost use Rattle.ti_caps.specs.declared.capability.Kind.TheVariants.{Flag, Number, Text};
 ghost use Rattle.ti_layout.specs.Image.{is_wide as is_wide_content};
-ghost use Rattle.ti_layout.specs.Image.{image, format_of, image_limit, written_count, flags_below, numbers_below, texts_below, offsets_below, HasNoNul};
+ghost use Rattle.ti_layout.specs.Image.{image, image_in, format_of, image_limit, written_count, flags_below, numbers_below, texts_below, offsets_below, HasNoNul};
 ghost use Rattle.ti_layout.specs.Layout as layout;
 ghost use Rattle.ti_layout.specs.Layout.{FitsTwoBytes, number_section, number_bytes};
-ghost use Rattle.ti_layout.specs.inside.Writing.{HasSizes};
+ghost use Rattle.ti_layout.specs.inside.Writing.{HasSizes, HasSizesIn};
 ghost use Rattle.ti_layout.specs.Values.{contents, content_of, entries_of, IsSorted};
 ghost use Rattle.ti_layout.specs.declared.writing.WriteError.TheVariants.{Memory};
 
@@ -73,7 +73,7 @@ pub fn write(alloc: Global, names: &[u8], table: &Table) -> Result<Vec<u8>, Writ
         return Err(WriteError::NamesTooLong);
     }
     let entries = table.entries();
-    let header = header_of(names, entries);
+    let header = own_header(names, entries);
     if header.size() > header.format.limit() {
         return Err(WriteError::TooLarge);
     }
@@ -101,15 +101,48 @@ pub fn format_wanted(entries: &[(Cap, Value)]) -> Format
     Format::Legacy
 }
 
-// The numbers of the header. A size of the string table that no number holds is the greatest
-// number.
-fn header_of(names: &[u8], entries: &[(Cap, Value)]) -> Header
+// The header in the format that the values need.
+fn own_header(names: &[u8], entries: &[(Cap, Value)]) -> Header
     requires names { length names.now ≤ names_max }
     requires sorted { IsSorted (entries_of entries.now) }
     ensures { HasSizes names.now (contents (entries_of entries.now)) result }
 {
+    header_of(names, entries, format_wanted(entries))
+}
+
+/// The header of an entry in a format, of names that are short.
+pub fn header_in(names: &[u8], table: &Table, format: Format) -> Header
+    requires { length names.now ≤ names_max }
+    ensures { HasSizesIn format names.now (contents table.now) result }
+{
+    header_of(names, table.entries(), format)
+}
+
+/// The entry in the format of its header, whose sizes are known. What does not fit the format is
+/// cut.
+pub fn write_in(
+    alloc: Global,
+    names: &[u8],
+    table: &Table,
+    header: &Header,
+) -> Result<Vec<u8>, AllocError>
+    requires names { length names.now ≤ names_max }
+    requires sizes { HasSizesIn header.now.format names.now (contents table.now) header.now }
+    requires small { length (image_in header.now.format names.now (contents table.now)) ≤ extended_entry_max }
+    ensures { IfOk result (λ v. v.items ≡ image_in header.now.format names.now (contents table.now)) }
+{
+    entry_bytes(alloc, names, table.entries(), header)
+}
+
+// The numbers of the header. A size of the string table that no number holds is the greatest
+// number.
+fn header_of(names: &[u8], entries: &[(Cap, Value)], format: Format) -> Header
+    requires names { length names.now ≤ names_max }
+    requires sorted { IsSorted (entries_of entries.now) }
+    ensures { HasSizesIn format names.now (contents (entries_of entries.now)) result }
+{
     let mut header = Header {
-        format: format_wanted(entries),
+        format,
         names: names.len() + 1,
         flags: 0,
         numbers: 0,
@@ -140,9 +173,9 @@ fn entry_bytes(
 ) -> Result<Vec<u8>, AllocError>
     requires names { length names.now ≤ names_max }
     requires sorted { IsSorted (entries_of entries.now) }
-    requires sizes { HasSizes names.now (contents (entries_of entries.now)) header.now }
-    requires small { length (image names.now (contents (entries_of entries.now))) ≤ image_limit (contents (entries_of entries.now)) }
-    ensures { IfOk result (λ v. v.items ≡ image names.now (contents (entries_of entries.now))) }
+    requires sizes { HasSizesIn header.now.format names.now (contents (entries_of entries.now)) header.now }
+    requires small { length (image_in header.now.format names.now (contents (entries_of entries.now))) ≤ extended_entry_max }
+    ensures { IfOk result (λ v. v.items ≡ image_in header.now.format names.now (contents (entries_of entries.now))) }
 {
     let mut image = Vec::with_capacity(alloc, header.size())?;
     image.extend_from_slice(&header.to_bytes())?;
@@ -156,16 +189,16 @@ fn entry_bytes(
     Ok(image)
 }
 
-// Adds a byte the given number of times.
-fn push_fill(image: &mut Vec<u8>, count: usize, byte: u8) -> Result<(), AllocError>
+/// Adds a byte the given number of times.
+pub fn push_fill(image: &mut Vec<u8>, count: usize, byte: u8) -> Result<(), AllocError>
     ensures { OnOk result (image.new.items ≡ image.old.items ++ replicate count byte) }
 {
     let len = image.len();
     image.resize(len.saturating_add(count), byte)
 }
 
-// Adds a number of a format, its low byte first.
-fn push_number(image: &mut Vec<u8>, number: u32, format: Format) -> Result<(), AllocError>
+/// Adds a number of a format, its low byte first.
+pub fn push_number(image: &mut Vec<u8>, number: u32, format: Format) -> Result<(), AllocError>
     ensures { OnOk result (image.new.items ≡ image.old.items ++ number_bytes format number) }
 {
     let mut bytes = [0; 4];

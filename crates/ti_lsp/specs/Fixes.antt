@@ -4,9 +4,9 @@ use Rattle.serde_json.specs.Data.{Data, array}
 use Rattle.serde_json.specs.View.{items_of}
 use Rattle.ti_caps.specs.declared.capability.Kind.{Kind}
 use Rattle.ti_caps.specs.declared.capability.Kind.TheVariants.{Flag, Number, Text}
-use Rattle.ti_messages.specs.Shapes.{action_data}
-use Rattle.ti_fixes.specs.Edits.{AdviceSeen, advises_name, advises_sign, advises_spelling, advises_caret}
-use Rattle.ti_fixes.specs.Fixes.{FixSeen}
+use Rattle.lsp_messages.specs.Shapes.{action_data}
+use Rattle.lsp_fixes.specs.Edits.{AdviceSeen, advises_name, advises_sign, advises_spelling, advises_caret}
+use Rattle.lsp_fixes.specs.Fixes.{FixSeen}
 
 -- what is said of the sign of a kind
 abbrev pub sign_told : Kind → List ℕ

@@ -3,18 +3,18 @@ use Rattle.std.specs.Prelude.{ℕ, ◌≡◌, Bool, List, [], ◌∷◌, false, 
 use Rattle.serde_json.specs.View.{items_of}
 use Rattle.serde_json.specs.Written.{has_float, items_have_float}
 use Rattle.ti_caps.specs.Tables.{Capability}
-use Rattle.ti_document.specs.Diagnostics.{Shown, diagnostics_of}
-use Rattle.ti_features.specs.Completions.{CompletionSeen, OffersSeen, completion_of, offers_capabilities, offers_names}
-use Rattle.ti_features.specs.Hovers.{HoverSeen, hover_of}
-use Rattle.ti_features.specs.Names.{definition_of, references_of}
-use Rattle.ti_features.specs.Renaming.{RenamingSeen, refuses, renamable_at, renames, renames_nothing, renaming_of}
-use Rattle.ti_features.specs.Symbols.{SymbolSeen, symbols_of}
-use Rattle.ti_fixes.specs.Fixes.{FixSeen, fixes_of}
+use Rattle.lsp_document.specs.Diagnostics.{Shown, diagnostics_of}
+use Rattle.lsp_features.specs.Completions.{CompletionSeen, OffersSeen, completion_of, offers_capabilities, offers_names}
+use Rattle.lsp_features.specs.Hovers.{HoverSeen, hover_of}
+use Rattle.lsp_features.specs.Names.{definition_of, references_of}
+use Rattle.lsp_features.specs.Renaming.{RenamingSeen, refuses, renamable_at, renames, renames_nothing, renaming_of}
+use Rattle.lsp_features.specs.Symbols.{SymbolSeen, symbols_of}
+use Rattle.lsp_fixes.specs.Fixes.{FixSeen, fixes_of}
 use Rattle.ti_lsp.specs.Fixes.{fix_shown, fixes_data}
-use Rattle.ti_messages.specs.Messages.{Query, completion, hover, definition, references, symbols, rename, prepare_rename, fixes}
-use Rattle.ti_messages.specs.Shapes.{location_data, text_edit_data}
-use Rattle.ti_messages.specs.declared.places.Range.{Range}
-use Rattle.ti_server.specs.Sayings.{HasNoFloats, SaidHasNoFloat}
+use Rattle.lsp_messages.specs.Messages.{Query, completion, hover, definition, references, symbols, rename, prepare_rename, fixes}
+use Rattle.lsp_messages.specs.Shapes.{location_data, text_edit_data}
+use Rattle.lsp_types.specs.declared.places.Range.{Range}
+use Rattle.lsp_server.specs.Sayings.{HasNoFloats, SaidHasNoFloat}
 use Rattle.ti_lsp.specs.Answers.{answer_of, completion_data, definition_data, entry_item, offered_items, renamable_data, renamed_said, sayings, symbol_shown}
 use Rattle.ti_lsp.specs.Hovers.{hover_shown}
 use Rattle.ti_lsp.specs.Offers.{all_capabilities, capability_item}

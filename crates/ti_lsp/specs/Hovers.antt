@@ -5,14 +5,14 @@ use Rattle.std.specs.Fmt.{decimal}
 use Rattle.std.specs.Option.{option_map_or}
 use Rattle.serde_json.specs.Data.{Data, null}
 use Rattle.ti_caps.specs.Tables.{Capability, name_of}
-use Rattle.ti_messages.specs.Shapes.{hover_data}
-use Rattle.ti_document.specs.Diagnostics.{Shown, label_of_problem}
-use Rattle.ti_features.specs.Deciding.{SourceSeen}
-use Rattle.ti_features.specs.Holdings.{EntrySeen, entry_missing, entry_faulty, entry_held}
-use Rattle.ti_features.specs.Hovers.{AboutSeen, HoverSeen, about_item, about_name}
-use Rattle.ti_features.specs.Meanings.{MeaningSeen, means_cancelled, means_nothing, means_number, means_set, means_text}
-use Rattle.ti_features.specs.declared.holdings.Holding.{Holding}
-use Rattle.ti_descriptions.specs.Words.{detail_of, documentation_of}
+use Rattle.lsp_messages.specs.Shapes.{hover_data}
+use Rattle.lsp_document.specs.Diagnostics.{Shown, label_of_problem}
+use Rattle.lsp_features.specs.Deciding.{SourceSeen}
+use Rattle.lsp_features.specs.Holdings.{EntrySeen, entry_missing, entry_faulty, entry_held}
+use Rattle.lsp_features.specs.Hovers.{AboutSeen, HoverSeen, about_item, about_name}
+use Rattle.lsp_features.specs.Meanings.{MeaningSeen, means_cancelled, means_nothing, means_number, means_set, means_text}
+use Rattle.lsp_features.specs.declared.holdings.Holding.{Holding}
+use Rattle.lsp_descriptions.specs.Words.{detail_of, documentation_of}
 
 -- how many bytes an entry takes
 abbrev pub size_told : ℕ → List ℕ

@@ -2,8 +2,8 @@
 use Rattle.std.specs.Prelude.{ℕ, List, map}
 use Rattle.serde_json.specs.Data.{Data, Items}
 use Rattle.serde_json.specs.View.{items_of}
-use Rattle.ti_document.specs.Diagnostics.{Shown, diagnostics_of, label_of_problem, severity_of}
-use Rattle.ti_messages.specs.Shapes.{diagnostic_data}
+use Rattle.lsp_document.specs.Diagnostics.{Shown, diagnostics_of, label_of_problem, severity_of}
+use Rattle.lsp_messages.specs.Shapes.{diagnostic_data}
 
 -- a diagnostic
 abbrev pub shown_data : Shown → Data

@@ -2,19 +2,19 @@
 ghost use Rattle.std.specs.Prelude.{◌≡◌, IfOk, map};
 ghost use Rattle.std.specs.String.{string_bytes};
 ghost use Rattle.serde_json.specs.View.{view};
-ghost use Rattle.ti_features.specs.Completions.{completion_of, offers_seen};
-ghost use Rattle.ti_features.specs.Names.{definition_of, references_of};
-ghost use Rattle.ti_features.specs.Symbols.{symbol_seen, symbols_of};
+ghost use Rattle.lsp_features.specs.Completions.{completion_of, offers_seen};
+ghost use Rattle.lsp_features.specs.Names.{definition_of, references_of};
+ghost use Rattle.lsp_features.specs.Symbols.{symbol_seen, symbols_of};
 ghost use Rattle.ti_lsp.specs.Answers.{completion_data, definition_data, entry_item, offered_items, outline_data, references_data, symbol_shown};
-ghost use Rattle.ti_messages.specs.Shapes.{location_data};
+ghost use Rattle.lsp_messages.specs.Shapes.{location_data};
 
 use crate::offers::capability_items;
+use lsp_document::Document;
+use lsp_features::{Offers, Symbol, completion_of, definition_of, references_of, symbols_of};
+use lsp_messages::answers::{item_value, list_value, location_value, symbol_value};
+use lsp_types::{ItemKind, Position, Range};
 use serde_json::Value;
 use std::alloc::{AllocError, Global};
-use ti_document::Document;
-use ti_features::{Offers, Symbol, completion_of, definition_of, references_of, symbols_of};
-use ti_messages::answers::{ItemKind, item_value, list_value, location_value, symbol_value};
-use ti_messages::{Position, Range};
 
 // A block in the outline.
 fn symbol_of(alloc: Global, symbol: &Symbol) -> Result<Value, AllocError>

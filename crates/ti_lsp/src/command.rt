@@ -8,8 +8,8 @@ ghost use Rattle.ti_lsp.specs.declared.command.Task.TheVariants.{Serve};
 
 use clap::Command;
 use clap::error::ErrorKind;
+use lsp_server::VERSION;
 use std::alloc::{AllocError, Global};
-use ti_server::VERSION;
 
 // What the program is, in its help.
 const ABOUT: &str = "ti-lsp 1.0.0: a language server for terminfo source.";

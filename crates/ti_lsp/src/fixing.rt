@@ -2,18 +2,18 @@
 ghost use Rattle.std.specs.Prelude.{◌≡◌, ◌++◌, IfOk, codes, map};
 ghost use Rattle.std.specs.String.{string_bytes};
 ghost use Rattle.serde_json.specs.View.{view};
-ghost use Rattle.ti_fixes.specs.Edits.{advice_seen};
-ghost use Rattle.ti_fixes.specs.Fixes as offered;
-ghost use Rattle.ti_fixes.specs.Fixes.{fix_seen};
+ghost use Rattle.lsp_fixes.specs.Edits.{advice_seen};
+ghost use Rattle.lsp_fixes.specs.Fixes as offered;
+ghost use Rattle.lsp_fixes.specs.Fixes.{fix_seen};
 ghost use Rattle.ti_lsp.specs.Fixes.{advice_told, fix_shown, fixes_data, sign_told};
 
+use lsp_document::Document;
+use lsp_fixes::{Advice, Fix, fixes_of};
+use lsp_messages::answers::action_value;
+use lsp_types::Range;
 use serde_json::Value;
 use std::alloc::{AllocError, Global};
 use ti_caps::Kind;
-use ti_document::Document;
-use ti_fixes::{Advice, Fix, fixes_of};
-use ti_messages::Range;
-use ti_messages::answers::action_value;
 
 // What is said of the sign of a kind.
 fn sign_told(kind: Kind) -> &'static str

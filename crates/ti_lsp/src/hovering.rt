@@ -3,21 +3,21 @@ ghost use Rattle.std.specs.Prelude.{◌≡◌, ◌++◌, IfOk, OnOk, Some, codes
 ghost use Rattle.std.specs.Fmt.{decimal};
 ghost use Rattle.std.specs.String.{string_bytes};
 ghost use Rattle.serde_json.specs.View.{view};
-ghost use Rattle.ti_features.specs.Deciding.{source_seen};
-ghost use Rattle.ti_features.specs.Holdings.{entry_faulty, entry_held, entry_seen};
-ghost use Rattle.ti_features.specs.Hovers.{about_seen, hover_of};
-ghost use Rattle.ti_features.specs.Meanings.{meaning_seen};
-ghost use Rattle.ti_document.specs.Diagnostics.{diagnostic_seen};
+ghost use Rattle.lsp_features.specs.Deciding.{source_seen};
+ghost use Rattle.lsp_features.specs.Holdings.{entry_faulty, entry_held, entry_seen};
+ghost use Rattle.lsp_features.specs.Hovers.{about_seen, hover_of};
+ghost use Rattle.lsp_features.specs.Meanings.{meaning_seen};
+ghost use Rattle.lsp_document.specs.Diagnostics.{diagnostic_seen};
 ghost use Rattle.ti_lsp.specs.Hovers.{about_told, capabilities_told, capability_told, cause_told, count_told, counts_told, entry_told, head_told, hover_shown, item_told, lines_told, meaning_told, more_told, others_told, read_told, size_told, source_told, sources_told};
 
+use lsp_descriptions::{detail_of, documentation_of};
+use lsp_document::{Diagnostic, Document};
+use lsp_features::{About, Entry, Holding, Meaning, Source, hover_of};
+use lsp_messages::answers::hover_value;
+use lsp_types::Position;
 use serde_json::Value;
 use std::alloc::{AllocError, Global};
 use ti_caps::{Cap, name};
-use ti_descriptions::{detail_of, documentation_of};
-use ti_document::{Diagnostic, Document};
-use ti_features::{About, Entry, Holding, Meaning, Source, hover_of};
-use ti_messages::Position;
-use ti_messages::answers::hover_value;
 
 // Two parts, and what is between them.
 fn joined(alloc: Global, first: &str, between: &str, rest: &str) -> Result<String, AllocError>

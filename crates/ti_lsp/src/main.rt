@@ -16,11 +16,11 @@ mod terminfo;
 
 use crate::command::{Task, asked};
 use crate::terminfo::Terminfo;
+use lsp_frames::FrameFault;
+use lsp_server::{Server, serve};
 use std::process::ExitCode;
 use std::rt::Env;
 use std::{env, io};
-use ti_messages::FrameFault;
-use ti_server::{Server, serve};
 
 fn main(rt: HostRuntime) -> ExitCode {
     ExitCode::from(run(&rt))

@@ -5,12 +5,12 @@ ghost use Rattle.ti_caps.specs.NameOrder.{in_name_order};
 ghost use Rattle.ti_caps.specs.Tables.{count_of};
 ghost use Rattle.ti_lsp.specs.Offers.{all_capabilities, capability_item};
 
+use lsp_descriptions::{detail_of, documentation_of};
+use lsp_messages::answers::item_value;
+use lsp_types::{ItemKind, Range};
 use serde_json::Value;
 use std::alloc::{AllocError, Global};
 use ti_caps::{Cap, Kind, by_name, count, name};
-use ti_descriptions::{detail_of, documentation_of};
-use ti_messages::Range;
-use ti_messages::answers::{ItemKind, item_value};
 
 // The item of a capability.
 fn capability_item(alloc: Global, cap: Cap, range: Range) -> Result<Value, AllocError>

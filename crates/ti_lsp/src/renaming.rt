@@ -1,18 +1,19 @@
 //! Answers to requests to rename, as values of the protocol.
 ghost use Rattle.std.specs.Prelude.{◌≡◌, IfOk, map};
 ghost use Rattle.serde_json.specs.View.{view};
-ghost use Rattle.ti_features.specs.Renaming as features;
+ghost use Rattle.lsp_features.specs.Renaming as features;
 ghost use Rattle.ti_lsp.specs.Answers.{renamable_data, renamed_said};
-ghost use Rattle.ti_messages.specs.Shapes.{text_edit_data};
-ghost use Rattle.ti_messages.specs.Views.{reply_view};
+ghost use Rattle.lsp_messages.specs.Shapes.{text_edit_data};
+ghost use Rattle.lsp_messages.specs.Views.{reply_view};
 
+use lsp_document::Document;
+use lsp_features::{Renaming, renamable_at, renaming_of};
+use lsp_messages::Reply;
+use lsp_messages::answers::{text_edit_value, workspace_edit_value};
+use lsp_messages::writing::range_value;
+use lsp_types::{Position, Range};
 use serde_json::Value;
 use std::alloc::{AllocError, Global};
-use ti_document::Document;
-use ti_features::{Renaming, renamable_at, renaming_of};
-use ti_messages::answers::{text_edit_value, workspace_edit_value};
-use ti_messages::writing::range_value;
-use ti_messages::{Position, Range, Reply};
 
 // Edits that put a name in place of parts of a document.
 fn edit_values(alloc: Global, name: &str, parts: &[Range]) -> Result<Vec<Value>, AllocError>

@@ -1,19 +1,20 @@
 //! A terminfo source as the server holds and shows it.
 ghost use Rattle.std.specs.Prelude.{◌≡◌, IfOk, map};
 ghost use Rattle.serde_json.specs.View.{view};
-ghost use Rattle.ti_document.specs.Diagnostics.{diagnostic_seen};
+ghost use Rattle.lsp_document.specs.Diagnostics.{diagnostic_seen};
 ghost use Rattle.ti_lsp.specs.Shown.{shown_data};
 
 use crate::answering::{completion, definition, outline, references};
 use crate::fixing::fixes;
 use crate::hovering::hover;
 use crate::renaming::{renamable, renamed};
+use lsp_document::{Diagnostic, Document, offset_of};
+use lsp_messages::writing::diagnostic_value;
+use lsp_messages::{Question, Reply};
+use lsp_server::Source;
+use lsp_types::Position;
 use serde_json::Value;
 use std::alloc::{AllocError, Global};
-use ti_document::{Diagnostic, Document, offset_of};
-use ti_messages::writing::diagnostic_value;
-use ti_messages::{Position, Question, Reply};
-use ti_server::Source;
 
 /// A terminfo source.
 #[derive(Drop)]
@@ -42,7 +43,7 @@ fn values_of(alloc: Global, all: &[Diagnostic]) -> Result<Vec<Value>, AllocError
 }
 
 impl Source for Terminfo {
-    ghost use Rattle.ti_document.specs.Position.{offset_of as place_of};
+    ghost use Rattle.lsp_document.specs.Position.{offset_of as place_of};
     ghost use Rattle.ti_lsp.specs.Answers.{sayings};
     ghost use Rattle.ti_lsp.specs.Floats.{sayings_have_no_floats};
 

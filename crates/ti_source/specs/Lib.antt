@@ -12,4 +12,5 @@ pub mod Verdicts
 pub mod Judging
 pub mod Parsing
 pub mod Sound
+pub mod Walking
 pub mod inside

@@ -104,13 +104,13 @@ pub(crate) fn read_field(alloc: Global, source: &mut Folded<'_>) -> Result<Vec<u
 
 /// Where an item is, and whether the block ends with it.
 #[derive(Clone, Copy)]
-pub(crate) struct RawItem<'a> {
+pub struct RawItem<'a> {
     /// Its text, if it is part of the block as it is written.
-    pub(crate) whole: Option<&'a [u8]>,
+    pub whole: Option<&'a [u8]>,
     /// The line of its first byte that is not white space.
-    pub(crate) line: usize,
+    pub line: usize,
     /// Whether the block ends with it.
-    pub(crate) last: bool,
+    pub last: bool,
 }
 
 // Adds a byte to the text of an item, but no white space at its front, and gives the line of the
@@ -211,14 +211,14 @@ fn read_runs<'a>(source: &mut Folded<'a>, text: &mut Vec<u8>) -> Result<RawItem<
 
 /// What an item states of the capability of a name.
 #[derive(Clone, Copy)]
-pub(crate) struct Statement<'a> {
-    pub(crate) name: &'a [u8],
-    pub(crate) claim: Claim<'a>,
+pub struct Statement<'a> {
+    pub name: &'a [u8],
+    pub claim: Claim<'a>,
 }
 
 /// What is stated: a boolean, a number or a string by its spelling, or a cancel.
 #[derive(Clone, Copy)]
-pub(crate) enum Claim<'a> {
+pub enum Claim<'a> {
     Flag,
     Number(&'a [u8]),
     Text(&'a [u8]),
@@ -227,7 +227,7 @@ pub(crate) enum Claim<'a> {
 
 /// What an item states, by its text with no white space at its front. An empty item, and a disabled
 /// one, which begins with a dot, state nothing.
-pub(crate) fn statement_of(text: &[u8]) -> Option<Statement<'_>>
+pub fn statement_of(text: &[u8]) -> Option<Statement<'_>>
     ensures { option_map statement_seen result ≡ statement_of text.now }
 {
     let (first, _) = text.split_first()?;
@@ -293,7 +293,7 @@ fn plain_statement(text: &[u8]) -> Statement<'_>
 }
 
 /// A text without the white space at both ends.
-pub(crate) fn strip(text: &[u8]) -> &[u8]
+pub fn strip(text: &[u8]) -> &[u8]
     ensures { result.now ≡ without_outer_space text.now }
 {
     let mut kept = text;

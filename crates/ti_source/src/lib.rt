@@ -26,6 +26,7 @@ mod laws;
 mod numbers;
 mod parsing;
 mod sharing;
+mod statements;
 mod verdicts;
 mod walk;
 mod white_space;
@@ -33,6 +34,7 @@ mod white_space;
 pub use code::Code;
 pub use cutting::{blocks, is_block};
 pub use header::{is_lookup_name, lookup_names};
+pub use items::{Claim, RawItem, Statement, statement_of, strip};
 pub use laws::{
     blocks_are_single, blocks_are_single_once_ended, each_has_cut, each_header_is_read,
     each_is_well_read, each_number_is_read, headers_have_one_reading, numbers_have_one_reading,
@@ -41,5 +43,6 @@ pub use laws::{
 pub use numbers::{NumberError, read_number};
 pub use parsing::{Item, Local, Parsed, What, parse, parse_sharing};
 pub use sharing::SharedTexts;
+pub use statements::ItemWalk;
 pub use ti_spelling::{UnescapeError, Unescaped, escape, one_outcome, unescape, written_spells};
 pub use walk::Blocks;

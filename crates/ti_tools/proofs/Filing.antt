@@ -10,13 +10,13 @@ use Rattle.ti_source.specs.Items.{bytes}
 use Rattle.ti_source.specs.Judging.{names_found}
 use Rattle.ti_source.specs.Parsing.{HasReading, Parses, reading_of_text}
 use Rattle.ti_source.specs.Reading.{Reading}
-use Rattle.ti_meaning.specs.Compiled.{compiled}
-use Rattle.ti_meaning.specs.Owner.{is_among, readings}
-use Rattle.ti_meaning.specs.Faults.{distinct, distinct_after}
-use Rattle.ti_devices.specs.Tree.{FileAt}
+use Rattle.base_meaning.specs.Compiled.{compiled}
+use Rattle.base_meaning.specs.Owner.{is_among, readings}
+use Rattle.base_meaning.specs.Faults.{distinct, distinct_after}
+use Rattle.tools_devices.specs.Tree.{FileAt}
 use Rattle.ti_tools.specs.inside.EntryFiles.{IsAsciiName}
 use Rattle.ti_tools.specs.EntryFiles.{files_at, files_for, files_from, source_files}
-use Rattle.ti_meaning.specs.OwnNames.{own_names}
+use Rattle.base_meaning.specs.OwnNames.{own_names}
 
 -- what holds of all names holds of each of them once
 all_distinct : (P : List ℕ → Type 0) (before names : List (List ℕ)) → All P names → All P (distinct_after before names)

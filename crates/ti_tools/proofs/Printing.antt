@@ -11,8 +11,8 @@ use Rattle.ti_list.specs.Comparison.{comparison}
 use Rattle.ti_list.specs.RelativeSource.{entries_shown, relative}
 use Rattle.ti_layout.specs.View.{Entry, entry_seen}
 use Rattle.ti_layout.specs.declared.view.View.{View}
-use Rattle.ti_commands.specs.declared.jobs.InfocmpMode.{InfocmpMode}
-use Rattle.ti_commands.specs.declared.jobs.InfocmpMode.TheVariants as mode
+use Rattle.tools_commands.specs.declared.jobs.InfocmpMode.{InfocmpMode}
+use Rattle.tools_commands.specs.declared.jobs.InfocmpMode.TheVariants as mode
 use Rattle.ti_tools.specs.declared.listings.InfocmpOptions.{InfocmpOptions}
 use Rattle.ti_tools.specs.Listings.{infocmp_result, listings_text, printed_listing}
 use Rattle.ti_tools.specs.inside.Listings.{comparison_mode}

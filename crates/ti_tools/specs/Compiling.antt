@@ -2,17 +2,17 @@
 use Rattle.std.specs.Prelude.{◌≡◌, ◌⊎◌, ℕ, Bool, List, [], Result, Ok, Err, if◌then◌else◌}
 use Rattle.std.specs.List.{list_any}
 use Rattle.ti_source.specs.Code.{is_error}
-use Rattle.ti_meaning.specs.Owner.{readings}
-use Rattle.ti_meaning.specs.Faults.{SourceFault, faults}
-use Rattle.ti_meaning.specs.Report.{report}
+use Rattle.base_meaning.specs.Owner.{readings}
+use Rattle.base_meaning.specs.Faults.{SourceFault, faults}
+use Rattle.base_meaning.specs.Report.{report}
 use Rattle.ti_tools.specs.EntryFiles.{source_files}
-use Rattle.ti_devices.specs.Placing.{entries}
-use Rattle.ti_sources.specs.Sources.{AreTaken, first_line, source_texts}
+use Rattle.tools_devices.specs.Placing.{entries}
+use Rattle.tools_sources.specs.Sources.{AreTaken, first_line, source_texts}
 use Rattle.ti_tools.specs.Sources.{IsToldRefusal}
-use Rattle.ti_devices.specs.Tree.{FileAt}
+use Rattle.tools_devices.specs.Tree.{FileAt}
 use Rattle.ti_tools.specs.declared.outcome.TicOutcome.{TicOutcome}
-use Rattle.ti_devices.specs.declared.tool_error.ToolError.{ToolError}
-use Rattle.ti_devices.specs.declared.tool_error.ToolError.TheVariants.{Memory}
+use Rattle.tools_devices.specs.declared.tool_error.ToolError.{ToolError}
+use Rattle.tools_devices.specs.declared.tool_error.ToolError.TheVariants.{Memory}
 
 -- what comes of a source, as plain data
 pub record Compilation : Type 0 where

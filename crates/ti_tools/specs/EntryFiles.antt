@@ -4,11 +4,11 @@ use Rattle.std.specs.Prelude.{ℕ, suc, List, [], ◌∷◌, ◌++◌, map, Opti
 use Rattle.ti_text.specs.Ascii as ascii
 use Rattle.ti_source.specs.Reading.{Reading}
 use Rattle.ti_source.specs.Parsing.{reading_of_text}
-use Rattle.ti_meaning.specs.Owner.{readings}
-use Rattle.ti_meaning.specs.Compiled.{compiled}
-use Rattle.ti_meaning.specs.OwnNames.{own_names}
-use Rattle.ti_devices.specs.Paths.{path_of}
-use Rattle.ti_devices.specs.Tree.{FileAt}
+use Rattle.base_meaning.specs.Owner.{readings}
+use Rattle.base_meaning.specs.Compiled.{compiled}
+use Rattle.base_meaning.specs.OwnNames.{own_names}
+use Rattle.tools_devices.specs.Paths.{path_of}
+use Rattle.tools_devices.specs.Tree.{FileAt}
 
 -- a file of an entry for each of the names
 abbrev pub files_for : List ℕ → List ℕ → List (List ℕ) → List FileAt

@@ -7,8 +7,8 @@ use Rattle.ti_list.specs.Comparison.{comparison}
 use Rattle.ti_list.specs.Listing.{listing}
 use Rattle.ti_layout.specs.View.{Entry}
 use Rattle.ti_list.specs.RelativeSource.{relative}
-use Rattle.ti_commands.specs.declared.jobs.InfocmpMode.{InfocmpMode}
-use Rattle.ti_commands.specs.declared.jobs.InfocmpMode.TheVariants as mode
+use Rattle.tools_commands.specs.declared.jobs.InfocmpMode.{InfocmpMode}
+use Rattle.tools_commands.specs.declared.jobs.InfocmpMode.TheVariants as mode
 use Rattle.ti_tools.specs.declared.listings.InfocmpOptions.{InfocmpOptions}
 
 -- the listing of each entry in turn

@@ -1,10 +1,10 @@
 -- Why a source is refused, as an error of the tools.
 use Rattle.std.specs.Prelude.{ℕ, ◌≡◌, List}
-use Rattle.ti_sources.specs.Sources.{IsSourceRefusal}
-use Rattle.ti_sources.specs.declared.source_error.SourceError.{SourceError}
-use Rattle.ti_sources.specs.declared.source_error.SourceError.TheVariants as refusal
-use Rattle.ti_devices.specs.declared.tool_error.ToolError.{ToolError}
-use Rattle.ti_devices.specs.declared.tool_error.ToolError.TheVariants.{BlockTooLong, TooManyBlocks}
+use Rattle.tools_sources.specs.Sources.{IsSourceRefusal}
+use Rattle.tools_sources.specs.declared.source_error.SourceError.{SourceError}
+use Rattle.tools_sources.specs.declared.source_error.SourceError.TheVariants as refusal
+use Rattle.tools_devices.specs.declared.tool_error.ToolError.{ToolError}
+use Rattle.tools_devices.specs.declared.tool_error.ToolError.TheVariants.{BlockTooLong, TooManyBlocks}
 
 -- what the tools call the refusal of a source
 abbrev pub tool_error : SourceError → ToolError

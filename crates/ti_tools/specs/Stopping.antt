@@ -5,12 +5,12 @@ use Rattle.std.specs.List.{concat}
 use Rattle.ti_caps.specs.Tables.{capability_named}
 use Rattle.ti_layout.specs.declared.fault.ReadError.{ReadError}
 use Rattle.ti_layout.specs.declared.fault.ReadError.TheVariants.{Short, Magic, Counts, Truncated, BadNames, BadFlag, BadNumber, BadOffset}
-use Rattle.ti_devices.specs.declared.tool_error.ToolError.{ToolError}
-use Rattle.ti_devices.specs.declared.tool_error.ToolError.TheVariants.{Usage, NoTerminal, BadEntry, ReadFault, WriteFault}
-use Rattle.ti_devices.specs.declared.tool_error.ToolError.TheVariants.{LineTooLong, BlockTooLong, TooManyBlocks, Memory}
-use Rattle.ti_commands.specs.Jobs.{tool_name}
-use Rattle.ti_commands.specs.declared.jobs.Job.{Job}
-use Rattle.ti_commands.specs.declared.jobs.Job.TheVariants.{Infocmp, Session, Tic, Tput}
+use Rattle.tools_devices.specs.declared.tool_error.ToolError.{ToolError}
+use Rattle.tools_devices.specs.declared.tool_error.ToolError.TheVariants.{Usage, NoTerminal, BadEntry, ReadFault, WriteFault}
+use Rattle.tools_devices.specs.declared.tool_error.ToolError.TheVariants.{LineTooLong, BlockTooLong, TooManyBlocks, Memory}
+use Rattle.tools_commands.specs.Jobs.{tool_name}
+use Rattle.tools_commands.specs.declared.jobs.Job.{Job}
+use Rattle.tools_commands.specs.declared.jobs.Job.TheVariants.{Infocmp, Session, Tic, Tput}
 
 -- ---- the exit status
 

@@ -3,7 +3,7 @@ ghost use Rattle.std.specs.Prelude.{◌≡◌, ◌≤◌, ◌^◌, IfOk, map};
 ghost use Rattle.std.specs.List.{list_any};
 ghost use Rattle.std.specs.String.{string_bytes};
 ghost use Rattle.ti_source.specs.Code.{is_error};
-ghost use Rattle.ti_meaning.specs.Faults.{fault_seen};
+ghost use Rattle.base_meaning.specs.Faults.{fault_seen};
 ghost use Rattle.ti_tools.specs.Compiling.{IsCompiled, IsTicAnswer, compilation, compilation_of, fault_status};
 
 use crate::entry_files::entry_files;
@@ -11,8 +11,8 @@ use crate::outcome::{TicOptions, TicOutcome};
 use crate::sources::refusal;
 use std::alloc::{AllocError, Global};
 use ti_base::{Database, EditError, Fault};
-use ti_devices::ToolError;
-use ti_sources::{database_of, first_line};
+use tools_devices::ToolError;
+use tools_sources::{database_of, first_line};
 
 // Whether one of the faults is an error.
 fn has_error(faults: &[Fault]) -> bool

@@ -1,18 +1,18 @@
 //! The files of a source's compiled entries.
 ghost use Rattle.std.specs.Prelude.{◌≡◌, ◌<◌, ◌++◌, ◌∷◌, [], List, ℕ, All, IfOk, OnOk, Some, length, map, slice_get};
 ghost use Rattle.std.specs.Rc.{rc_slice_items};
-ghost use Rattle.ti_meaning.specs.OwnNames.{own_names};
-ghost use Rattle.ti_meaning.specs.Owner.{readings, is_owner};
+ghost use Rattle.base_meaning.specs.OwnNames.{own_names};
+ghost use Rattle.base_meaning.specs.Owner.{readings, is_owner};
 ghost use Rattle.ti_tools.specs.inside.EntryFiles.{IsAsciiName};
 ghost use Rattle.ti_tools.specs.EntryFiles.{files_at, files_for, source_files};
-ghost use Rattle.ti_devices.specs.Paths.{path_of};
-ghost use Rattle.ti_devices.specs.Placing.{entries};
+ghost use Rattle.tools_devices.specs.Paths.{path_of};
+ghost use Rattle.tools_devices.specs.Placing.{entries};
 
 use std::alloc::{AllocError, Global};
 use std::rc::RcSlice;
 use ti_base::{Database, distinct_names};
-use ti_devices::{File, entry_path};
 use ti_source::one_reading;
+use tools_devices::{File, entry_path};
 
 // Whether the name belongs to the block at that position.
 fn owns(database: &Database, name: &[u8], at: usize) -> bool

@@ -3,7 +3,7 @@
 //! after it. They compute nothing: each is the contract of a function whose code only calls other
 //! laws.
 
-pub use ti_relisting::{
+pub use tools_relisting::{
     listings_are_laid_out, listings_compile, listings_compile_back, parts_are_blocks,
     parts_are_read, relative_sources_compile_back, relatives_compile,
     runs_of_listings_compile_back, several_listings_compile_back, sources_have_entries,

@@ -4,15 +4,15 @@ ghost use Rattle.std.specs.List.{flat_map};
 ghost use Rattle.ti_list.specs.Comparison.{comparison};
 ghost use Rattle.ti_layout.specs.View.{entry_seen};
 ghost use Rattle.ti_list.specs.RelativeSource.{relative, entries_shown};
-ghost use Rattle.ti_commands.specs.declared.jobs.InfocmpMode.TheVariants.{List};
+ghost use Rattle.tools_commands.specs.declared.jobs.InfocmpMode.TheVariants.{List};
 ghost use Rattle.ti_tools.specs.Listings.{infocmp_result, listings_text, printed_listing};
 ghost use Rattle.ti_tools.specs.inside.Listings.{comparison_mode};
 
 use std::alloc::{AllocError, Global};
-use ti_commands::InfocmpMode;
-use ti_devices::ToolError;
 use ti_layout::View;
 use ti_list::{Layout, ListError, Mode, Order, compare, list, relative};
+use tools_commands::InfocmpMode;
+use tools_devices::ToolError;
 
 /// The options of [`infocmp`].
 #[derive(Clone, Copy, PartialEq, Eq, Debug)]

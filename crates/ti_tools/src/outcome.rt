@@ -1,5 +1,5 @@
 //! How a source is compiled, and what comes of it.
-use ti_devices::File;
+use tools_devices::File;
 
 /// How a source is compiled.
 #[derive(Debug, PartialEq, Eq, Drop)]

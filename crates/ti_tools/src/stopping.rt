@@ -1,18 +1,18 @@
 //! How a tool that stops ends: its exit status, and the line on standard error.
 ghost use Rattle.std.specs.Prelude.{◌≡◌, [], None, Some, codes, decimal, map, option_map};
 ghost use Rattle.std.specs.List.{concat};
-ghost use Rattle.ti_devices.specs.Counted.{observation};
-ghost use Rattle.ti_devices.specs.Writing.{Wrote};
-ghost use Rattle.ti_commands.specs.Jobs.{tool_name};
+ghost use Rattle.tools_devices.specs.Counted.{observation};
+ghost use Rattle.tools_devices.specs.Writing.{Wrote};
+ghost use Rattle.tools_commands.specs.Jobs.{tool_name};
 ghost use Rattle.ti_tools.specs.Stopping.{plain_status, status_of, tput_status};
 ghost use Rattle.ti_tools.specs.Stopping.{is_known, line_parts, message_parts, message_text, plain_text, refusal_name};
 
 use itoa::Buffer;
 use std::io::Write;
 use ti_caps::find;
-use ti_commands::Job;
-use ti_devices::{Counted, ToolError, write_out};
 use ti_layout::ReadError;
+use tools_commands::Job;
+use tools_devices::{Counted, ToolError, write_out};
 
 // The exit status of `tput`.
 fn tput_status(error: &ToolError, found: bool) -> u8

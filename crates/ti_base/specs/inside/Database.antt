@@ -3,14 +3,14 @@ use Rattle.std.specs.Prelude.{ℕ, ◌≡◌, ◌≤◌, ◌↔◌, List, [], �
 use Rattle.ti_text.specs.Limits.{blocks_max}
 use Rattle.ti_source.specs.Reading.{Reading, reading_of}
 use Rattle.ti_source.specs.Parsing.{reading_of_text}
-use Rattle.ti_meaning.specs.Usable.{IsUsable}
-use Rattle.ti_meaning.specs.Exchange.{PlacedBlock, Exchange}
-use Rattle.ti_meaning.specs.Dependents.{IsPutAt}
-use Rattle.ti_slots.specs.declared.slots.Slot.{Slot}
-use Rattle.ti_slots.specs.declared.slots.Settled.{Settled}
-use Rattle.ti_slots.specs.declared.slots.Slots.{Slots}
-use Rattle.ti_slots.specs.Slots.{StandsAt, slots_of, settled_in}
-use Rattle.ti_slots.specs.Settled.{IsSettled}
+use Rattle.base_meaning.specs.Usable.{IsUsable}
+use Rattle.base_meaning.specs.Exchange.{PlacedBlock, Exchange}
+use Rattle.base_meaning.specs.Dependents.{IsPutAt}
+use Rattle.base_slots.specs.declared.slots.Slot.{Slot}
+use Rattle.base_slots.specs.declared.slots.Settled.{Settled}
+use Rattle.base_slots.specs.declared.slots.Slots.{Slots}
+use Rattle.base_slots.specs.Slots.{StandsAt, slots_of, settled_in}
+use Rattle.base_slots.specs.Settled.{IsSettled}
 use Rattle.ti_base.specs.inside.Texts.{IsBlockText}
 
 -- the block in a slot as it is read, and its text

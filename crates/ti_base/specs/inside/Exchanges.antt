@@ -1,15 +1,15 @@
 -- What an exchange makes of a list of slots (own).
 use Rattle.std.specs.Prelude.{ℕ, ◌≡◌, ◌<◌, ◌≤◌, ⊤, List, [], length, remove, Option, Some, None, option_map, slice_get, IfSome, IsSome}
 use Rattle.ti_source.specs.Reading.{Reading, reading_of}
-use Rattle.ti_meaning.specs.Edits.{Change, insertion, replacement, removal, relocation, list_after}
-use Rattle.ti_meaning.specs.Exchange.{Exchange}
-use Rattle.ti_meaning.specs.Dependents.{AreDependents, Rebuilds, work}
-use Rattle.ti_slots.specs.declared.slots.Slot.{Slot}
-use Rattle.ti_slots.specs.declared.slots.Slots.{Slots}
-use Rattle.ti_slots.specs.Slots.{StandsAt, blocks_of, slot_texts, slots_of}
-use Rattle.ti_slots.specs.Changes.{HasRoomFor, TakesOut}
-use Rattle.ti_dependents.specs.Dependents.{IsExchangeOf}
-use Rattle.ti_plan.specs.Plans.{IsReady}
+use Rattle.base_meaning.specs.Edits.{Change, insertion, replacement, removal, relocation, list_after}
+use Rattle.base_meaning.specs.Exchange.{Exchange}
+use Rattle.base_meaning.specs.Dependents.{AreDependents, Rebuilds, work}
+use Rattle.base_slots.specs.declared.slots.Slot.{Slot}
+use Rattle.base_slots.specs.declared.slots.Slots.{Slots}
+use Rattle.base_slots.specs.Slots.{StandsAt, blocks_of, slot_texts, slots_of}
+use Rattle.base_slots.specs.Changes.{HasRoomFor, TakesOut}
+use Rattle.base_dependents.specs.Dependents.{IsExchangeOf}
+use Rattle.base_plan.specs.Plans.{IsReady}
 use Rattle.ti_base.specs.inside.Database.{AreRead, SlotsAreSettled, IsSoundSlot, PlacedSlot, HasId, with_slot}
 
 -- ---- an edit in its parts

@@ -2,9 +2,9 @@
 use Rattle.std.specs.Prelude.{ℕ, ◌≤◌, List, length}
 use Rattle.ti_text.specs.Limits.{block_bytes_max}
 use Rattle.ti_source.specs.Cutting.{OneBlock}
-use Rattle.ti_meaning.specs.Edits.{Change, insertion}
-use Rattle.ti_meaning.specs.declared.edits.EditError.{EditError}
-use Rattle.ti_meaning.specs.declared.edits.EditError.TheVariants.{TooLong, NotOneBlock}
+use Rattle.base_meaning.specs.Edits.{Change, insertion}
+use Rattle.base_meaning.specs.declared.edits.EditError.{EditError}
+use Rattle.base_meaning.specs.declared.edits.EditError.TheVariants.{TooLong, NotOneBlock}
 
 -- the text of one block, within the limit of 1,048,576 bytes
 pub record IsBlockText (text : List ℕ) : Type 0 where

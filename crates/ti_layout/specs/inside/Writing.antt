@@ -3,6 +3,7 @@ use Rattle.std.specs.Prelude.{◌≡◌, ◌^◌, ◌-◌, ◌≤◌, ℕ, suc, 
 use Rattle.ti_caps.specs.Tables.{count_of}
 use Rattle.ti_caps.specs.declared.capability.Kind.TheVariants.{Flag, Number, Text}
 use Rattle.ti_layout.specs.declared.header.Header.{Header}
+use Rattle.ti_layout.specs.declared.layout.Format.{Format}
 use Rattle.ti_layout.specs.Values.{Contents}
 use Rattle.ti_layout.specs.Image.{format_of, texts_below, written_count}
 
@@ -11,8 +12,8 @@ abbrev pub at_most_max : ℕ → ℕ
 at_most_max n = min n (2 ^ 64 - 1)
 
 -- the header's numbers, of names that are short: the size of the string table as it is counted
-pub record HasSizes (field : List ℕ) (contents : Contents) (h : Header) : Type 0 where
-  pub format : h.format ≡ format_of contents
+pub record HasSizesIn (wanted : Format) (field : List ℕ) (contents : Contents) (h : Header) : Type 0 where
+  pub format : h.format ≡ wanted
   pub names : h.names ≡ suc (length field)
   pub flags : h.flags ≡ written_count contents Flag
   pub numbers : h.numbers ≡ written_count contents Number
@@ -21,3 +22,7 @@ pub record HasSizes (field : List ℕ) (contents : Contents) (h : Header) : Type
   pub flags_fit : h.flags ≤ count_of Flag
   pub numbers_fit : h.numbers ≤ count_of Number
   pub texts_fit : h.texts ≤ count_of Text
+
+-- the same, of the format that the contents need
+abbrev pub HasSizes : List ℕ → Contents → Header → Type 0
+HasSizes field contents h = HasSizesIn (format_of contents) field contents h

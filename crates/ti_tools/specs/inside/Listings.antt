@@ -2,8 +2,8 @@
 use Rattle.std.specs.Prelude.{Option, Some, None}
 use Rattle.ti_list.specs.declared.layout.Mode.{Mode}
 use Rattle.ti_list.specs.declared.layout.Mode.TheVariants as rows
-use Rattle.ti_commands.specs.declared.jobs.InfocmpMode.{InfocmpMode}
-use Rattle.ti_commands.specs.declared.jobs.InfocmpMode.TheVariants as mode
+use Rattle.tools_commands.specs.declared.jobs.InfocmpMode.{InfocmpMode}
+use Rattle.tools_commands.specs.declared.jobs.InfocmpMode.TheVariants as mode
 
 -- how a mode compares entries, if it does
 abbrev pub comparison_mode : InfocmpMode → Option Mode

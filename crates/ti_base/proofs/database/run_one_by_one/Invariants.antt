@@ -1,5 +1,5 @@
 use Rattle.std.proofs.Common.{◌≡◌, map, drop, vec_len, vec_capacity}
-use Rattle.ti_meaning.specs.Edits.{change_of}
+use Rattle.base_meaning.specs.Edits.{change_of}
 use Rattle.ti_base.proofs.Running.{RunExtends}
 use Rattle.ti_base.proofs.database.run_one_by_one.Given as goal
 

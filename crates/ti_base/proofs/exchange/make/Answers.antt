@@ -1,5 +1,5 @@
 use Rattle.std.proofs.Common.{subst}
-use Rattle.ti_meaning.specs.Edits.{change_of}
+use Rattle.base_meaning.specs.Edits.{change_of}
 use Rattle.ti_base.specs.inside.Exchanges.{IsExchanged, out_position}
 use Rattle.ti_base.proofs.EditedSlots.{can_edit, edited}
 use Rattle.ti_base.proofs.exchange.make.Goals as goal

@@ -2,11 +2,11 @@ use Rattle.std.proofs.Common.{◌≡◌, ◌++◌, true, filter, length, map, ta
 use Rattle.std.specs.Rc.{rc_slice_items}
 use Rattle.std.proofs.lemmas.Option.{same_Some}
 use Rattle.ti_source.specs.Reading.{reading_of, fault_of}
-use Rattle.ti_meaning.specs.Faults.{fault_seen, is_kept, local_faults, name_faults}
-use Rattle.ti_slots.specs.Slots.{blocks_of}
-use Rattle.ti_slots.specs.Settled.{fault_at}
+use Rattle.base_meaning.specs.Faults.{fault_seen, is_kept, local_faults, name_faults}
+use Rattle.base_slots.specs.Slots.{blocks_of}
+use Rattle.base_slots.specs.Settled.{fault_at}
 use Rattle.ti_base.proofs.KeptFaults.{after_names, header_within, kept_header, kept_rest, three_added}
-use Rattle.ti_slots.proofs.Owners.{block_of_slot}
+use Rattle.base_slots.proofs.Owners.{block_of_slot}
 use Rattle.ti_base.proofs.SlotFaults.{kept_of_slot}
 use Rattle.ti_base.proofs.faults.add_block_faults.Goals as goal
 

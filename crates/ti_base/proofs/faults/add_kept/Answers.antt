@@ -1,8 +1,8 @@
 use Rattle.std.proofs.Common.{append_assoc, refl}
 use Rattle.std.proofs.lemmas.List.{map-append}
-use Rattle.ti_meaning.specs.Faults.{fault_seen}
-use Rattle.ti_slots.specs.Settled.{fault_at}
-use Rattle.ti_plan.proofs.ItemLists.{map-take_item}
+use Rattle.base_meaning.specs.Faults.{fault_seen}
+use Rattle.base_slots.specs.Settled.{fault_at}
+use Rattle.base_plan.proofs.ItemLists.{map-take_item}
 use Rattle.ti_base.proofs.faults.add_kept.Goals as goal
 
 pub loop-fault-preserved : goal.loop-fault-preserved

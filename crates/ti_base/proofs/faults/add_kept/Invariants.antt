@@ -1,6 +1,6 @@
 use Rattle.std.proofs.Common.{◌≡◌, ◌++◌, map, take}
-use Rattle.ti_meaning.specs.Faults.{fault_seen}
-use Rattle.ti_slots.specs.Settled.{fault_at}
+use Rattle.base_meaning.specs.Faults.{fault_seen}
+use Rattle.base_slots.specs.Settled.{fault_at}
 use Rattle.ti_base.proofs.faults.add_kept.Given as goal
 
 abbrev pub invariant-loop-fault : goal.invariant-loop-fault

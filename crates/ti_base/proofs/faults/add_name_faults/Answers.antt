@@ -1,8 +1,8 @@
 use Rattle.std.proofs.Common.{◌++◌, [], map, sym, ap, ◌∙◌}
 use Rattle.std.specs.Rc.{rc_slice_items}
 use Rattle.std.proofs.lemmas.List.{append-nil}
-use Rattle.ti_meaning.specs.Faults.{fault_seen, is_owned_before, name_fault}
-use Rattle.ti_slots.specs.Slots.{blocks_of}
+use Rattle.base_meaning.specs.Faults.{fault_seen, is_owned_before, name_fault}
+use Rattle.base_slots.specs.Slots.{blocks_of}
 use Rattle.ti_base.proofs.Naming.{none_once}
 use Rattle.ti_base.proofs.faults.add_name_faults.Goals as goal
 

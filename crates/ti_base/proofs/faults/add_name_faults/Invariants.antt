@@ -1,7 +1,7 @@
 use Rattle.std.proofs.Common.{◌≡◌, ◌++◌, map, filter, drop}
 use Rattle.std.specs.Rc.{rc_slice_items}
-use Rattle.ti_meaning.specs.Faults.{fault_seen, is_owned_before, name_fault, name_faults}
-use Rattle.ti_slots.specs.Slots.{blocks_of}
+use Rattle.base_meaning.specs.Faults.{fault_seen, is_owned_before, name_fault, name_faults}
+use Rattle.base_slots.specs.Slots.{blocks_of}
 use Rattle.ti_base.proofs.faults.add_name_faults.Given as goal
 
 -- what was added and what is to be added are the faults of all names

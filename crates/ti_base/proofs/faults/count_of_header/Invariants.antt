@@ -1,6 +1,6 @@
 use Rattle.std.proofs.Common.{◌≡◌, ◌≤◌, true, filter, length, map, take}
 use Rattle.ti_source.specs.Reading.{fault_of}
-use Rattle.ti_meaning.specs.Faults.{is_kept}
+use Rattle.base_meaning.specs.Faults.{is_kept}
 use Rattle.ti_base.proofs.faults.count_of_header.Given as goal
 
 abbrev pub invariant-loop-local : goal.invariant-loop-local

@@ -1,8 +1,8 @@
 use Rattle.std.proofs.Common.{◌≡◌, map, drop}
 use Rattle.std.specs.List.{list_any}
 use Rattle.std.specs.Rc.{rc_slice_items}
-use Rattle.ti_meaning.specs.Faults.{is_owned_before}
-use Rattle.ti_slots.specs.Slots.{blocks_of}
+use Rattle.base_meaning.specs.Faults.{is_owned_before}
+use Rattle.base_slots.specs.Slots.{blocks_of}
 use Rattle.ti_base.proofs.faults.has_duplicate.Given as goal
 
 abbrev pub invariant-loop-name : goal.invariant-loop-name

@@ -1,8 +1,8 @@
 use Rattle.std.proofs.Common.{◌≡◌, suc, ◌+◌, ◌<◌, ◌++◌, length, map, refl, sym, ap, ◌∙◌, arith}
 use Rattle.std.proofs.lemmas.List.{append-nil, drop_all}
-use Rattle.ti_meaning.specs.Faults.{fault_seen, faults, faults_after}
-use Rattle.ti_slots.specs.Slots.{blocks_of}
-use Rattle.ti_slots.proofs.Owners.{length_blocks}
+use Rattle.base_meaning.specs.Faults.{fault_seen, faults, faults_after}
+use Rattle.base_slots.specs.Slots.{blocks_of}
+use Rattle.base_slots.proofs.Owners.{length_blocks}
 use Rattle.ti_text.proofs.Lists.{item_at}
 use Rattle.ti_base.proofs.KeptFaults.{one_more_block}
 use Rattle.ti_base.proofs.faults.source_faults.Goals as goal

@@ -1,6 +1,6 @@
 use Rattle.std.proofs.Common.{◌≡◌, ◌++◌, map, drop}
-use Rattle.ti_meaning.specs.Faults.{fault_seen, faults, faults_after}
-use Rattle.ti_slots.specs.Slots.{blocks_of}
+use Rattle.base_meaning.specs.Faults.{fault_seen, faults, faults_after}
+use Rattle.base_slots.specs.Slots.{blocks_of}
 use Rattle.ti_base.proofs.faults.source_faults.Given as goal
 
 -- what was added and what is to be added are the faults of all blocks

@@ -1,6 +1,6 @@
 use Rattle.std.proofs.Common.{◌≤◌, [], length, refl, arith}
 use Rattle.std.proofs.lemmas.List.{drop_all, append-nil}
-use Rattle.ti_slots.specs.Slots.{slot_texts}
+use Rattle.base_slots.specs.Slots.{slot_texts}
 use Rattle.ti_base.proofs.growing.change_all.Goals as goal
 
 pub returns-clause-run : goal.returns-clause-run

@@ -1,6 +1,6 @@
 use Rattle.std.proofs.Common.{◌≡◌, map, drop, vec_len, vec_capacity}
-use Rattle.ti_meaning.specs.Edits.{change_of}
-use Rattle.ti_slots.specs.Slots.{slot_texts}
+use Rattle.base_meaning.specs.Edits.{change_of}
+use Rattle.base_slots.specs.Slots.{slot_texts}
 use Rattle.ti_base.specs.inside.Database.{AreRead}
 use Rattle.ti_base.proofs.Running.{RunExtends}
 use Rattle.ti_base.proofs.growing.change_all.Given as goal

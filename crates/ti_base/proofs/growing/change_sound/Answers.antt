@@ -1,5 +1,5 @@
 use Rattle.std.proofs.Common.{ap, subst, sym, ◌∙◌}
-use Rattle.ti_meaning.specs.Edits.{IsSoundEdit, change_of, list_after}
+use Rattle.base_meaning.specs.Edits.{IsSoundEdit, change_of, list_after}
 use Rattle.ti_base.proofs.growing.change_sound.Goals as goal
 
 pub make-requires-clause-sound : goal.make-requires-clause-sound

@@ -1,6 +1,6 @@
 use Rattle.std.proofs.Common.{◌≡◌, ◌++◌, map, take, drop}
 use Rattle.std.specs.Rc.{rc_slice_items}
-use Rattle.ti_meaning.specs.Faults.{distinct, distinct_after}
+use Rattle.base_meaning.specs.Faults.{distinct, distinct_after}
 use Rattle.ti_base.specs.inside.Names.{is_seen}
 use Rattle.ti_base.proofs.Naming.{AreSeen}
 use Rattle.ti_base.proofs.names.distinct_names.Given as goal

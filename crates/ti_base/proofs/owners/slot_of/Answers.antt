@@ -1,6 +1,6 @@
 use Rattle.std.proofs.Common.{◌<◌, length, slice_get, ap, sym, ◌∙◌, arith}
 use Rattle.std.proofs.lemmas.Option.{slice_get-get_or}
-use Rattle.ti_slots.proofs.Owners.{length_ids}
+use Rattle.base_slots.proofs.Owners.{length_ids}
 use Rattle.ti_base.proofs.owners.slot_of.Goals as goal
 
 pub bounds-ids-at : goal.bounds-ids-at

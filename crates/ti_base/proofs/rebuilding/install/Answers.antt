@@ -1,7 +1,7 @@
 use Rattle.std.proofs.Common.{◌≡◌, ◌<◌, ◌+◌, length, drop, set, sym, ◌∙◌, ap, subst, arith}
 use Rattle.std.proofs.lemmas.List.{length-set}
 use Rattle.ti_text.specs.Lists.{Has}
-use Rattle.ti_slots.specs.Slots.{ids_of}
+use Rattle.base_slots.specs.Slots.{ids_of}
 use Rattle.ti_base.specs.inside.Database.{settled_all}
 use Rattle.ti_base.proofs.Installing.{one_more_settled, all_stay}
 use Rattle.ti_base.proofs.rebuilding.install.Goals as goal

@@ -1,6 +1,6 @@
 use Rattle.std.proofs.Common.{◌≡◌, All, length, drop}
 use Rattle.ti_text.specs.Lists.{Has}
-use Rattle.ti_slots.specs.Slots.{ids_of}
+use Rattle.base_slots.specs.Slots.{ids_of}
 use Rattle.ti_base.specs.inside.Database.{settled_all}
 use Rattle.ti_base.proofs.rebuilding.install.Given as goal
 

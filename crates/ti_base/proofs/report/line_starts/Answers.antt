@@ -2,10 +2,10 @@ use Rattle.std.proofs.Common.{◌≡◌, ◌≤◌, length, map, ap, ◌∙◌, 
 use Rattle.std.specs.List.{range_with_len}
 use Rattle.std.proofs.lemmas.List.Elements.{All-push}
 use Rattle.ti_text.specs.Lines.{line_count}
-use Rattle.ti_meaning.specs.Report.{lines_before}
-use Rattle.ti_slots.specs.Slots.{slot_texts}
+use Rattle.base_meaning.specs.Report.{lines_before}
+use Rattle.base_slots.specs.Slots.{slot_texts}
 use Rattle.ti_base.proofs.Counting.{lines_more, starts_more}
-use Rattle.ti_slots.proofs.Owners.{length_texts}
+use Rattle.base_slots.proofs.Owners.{length_texts}
 use Rattle.ti_base.proofs.SlotEntries.{text_of_slot}
 use Rattle.ti_base.proofs.report.line_starts.Goals as goal
 

@@ -1,7 +1,7 @@
 use Rattle.std.proofs.Common.{◌≡◌, ◌≤◌, ◌*◌, All, map}
 use Rattle.std.specs.List.{range_with_len}
-use Rattle.ti_meaning.specs.Report.{lines_before}
-use Rattle.ti_slots.specs.Slots.{slot_texts}
+use Rattle.base_meaning.specs.Report.{lines_before}
+use Rattle.base_slots.specs.Slots.{slot_texts}
 use Rattle.ti_base.proofs.report.line_starts.Given as goal
 
 abbrev pub invariant-loop-at : goal.invariant-loop-at

@@ -1,6 +1,6 @@
 use Rattle.std.proofs.Common.{append_assoc, arith, refl}
 use Rattle.std.proofs.lemmas.List.{map_more}
-use Rattle.ti_meaning.specs.Report.{shown_byte}
+use Rattle.base_meaning.specs.Report.{shown_byte}
 use Rattle.ti_base.proofs.report.write_detail.Goals as goal
 
 pub loop-byte-preserved : goal.loop-byte-preserved

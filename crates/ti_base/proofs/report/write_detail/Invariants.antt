@@ -1,5 +1,5 @@
 use Rattle.std.proofs.Common.{◌≡◌, ◌++◌, map, take}
-use Rattle.ti_meaning.specs.Report.{shown_byte}
+use Rattle.base_meaning.specs.Report.{shown_byte}
 use Rattle.ti_base.proofs.report.write_detail.Given as goal
 
 abbrev pub invariant-loop-byte : goal.invariant-loop-byte

@@ -4,7 +4,7 @@ use Rattle.std.specs.Option.{option_map}
 use Rattle.std.specs.Rc.{rc_slice_items}
 use Rattle.std.proofs.lemmas.List.{append-nil}
 use Rattle.ti_source.specs.Code.{code_text}
-use Rattle.ti_meaning.specs.Report.{detail_text}
+use Rattle.base_meaning.specs.Report.{detail_text}
 use Rattle.ti_base.proofs.report.write_fault.Goals as goal
 use Rattle.ti_base.proofs.report.write_fault.Goals.{in-Some+in_ok-push+in_ok-write_detail, in_default}
 

@@ -2,11 +2,11 @@ use Rattle.std.proofs.Common.{rules, ap, ◌∙◌, ◌+◌, ◌<◌, ◌≤◌,
 use Rattle.std.specs.List.{flat_map}
 use Rattle.std.proofs.lemmas.List.{take_all}
 use Rattle.std.proofs.lemmas.Grind.{common_steps}
-use Rattle.ti_meaning.specs.Report.{report_line}
-use Rattle.ti_meaning.specs.Usable.{IsPlaced}
-use Rattle.ti_meaning.specs.Faults.{fault_seen}
-use Rattle.ti_slots.specs.Slots.{slot_texts}
-use Rattle.ti_plan.proofs.ItemLists.{All-map_item, map-take_item}
+use Rattle.base_meaning.specs.Report.{report_line}
+use Rattle.base_meaning.specs.Usable.{IsPlaced}
+use Rattle.base_meaning.specs.Faults.{fault_seen}
+use Rattle.base_slots.specs.Slots.{slot_texts}
+use Rattle.base_plan.proofs.ItemLists.{All-map_item, map-take_item}
 use Rattle.ti_base.proofs.Counting.{start_read, length_starts, one_more_line}
 use Rattle.ti_base.proofs.report.write_report.Goals as goal
 

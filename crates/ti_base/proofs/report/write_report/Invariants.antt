@@ -1,8 +1,8 @@
 use Rattle.std.proofs.Common.{◌≡◌, map, take}
 use Rattle.std.specs.List.{flat_map}
-use Rattle.ti_meaning.specs.Faults.{fault_seen}
-use Rattle.ti_meaning.specs.Report.{report_line}
-use Rattle.ti_slots.specs.Slots.{slot_texts}
+use Rattle.base_meaning.specs.Faults.{fault_seen}
+use Rattle.base_meaning.specs.Report.{report_line}
+use Rattle.base_slots.specs.Slots.{slot_texts}
 use Rattle.ti_base.proofs.report.write_report.Given as goal
 
 abbrev pub invariant-loop-fault : goal.invariant-loop-fault

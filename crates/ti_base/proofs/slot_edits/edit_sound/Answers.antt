@@ -1,6 +1,6 @@
 use Rattle.std.proofs.Common.{ap, subst, sym, ◌∙◌}
-use Rattle.ti_meaning.specs.Edits.{IsSoundEdit, change_of, list_after}
-use Rattle.ti_meaning.specs.Dependents.{Rebuilds}
+use Rattle.base_meaning.specs.Edits.{IsSoundEdit, change_of, list_after}
+use Rattle.base_meaning.specs.Dependents.{Rebuilds}
 use Rattle.ti_base.specs.inside.Database.{SlotsAreSettled}
 use Rattle.ti_base.specs.inside.Exchanges.{CanUndo}
 use Rattle.ti_base.proofs.SlotExchanges.{kept_same, read_same, texts_back}

@@ -3,7 +3,7 @@ use Rattle.std.proofs.lemmas.Grind.{common_steps}
 use Rattle.ti_source.specs.Reading.{Reading, Said, said_flag, said_number, said_text, said_cancel, said_import}
 use Rattle.ti_source.specs.Sound.{IsLineOf, IsWellRead, SetsItsKind}
 use Rattle.ti_text.specs.Limits.{block_bytes_max}
-use Rattle.ti_meaning.specs.Usable.{IsLine, IsUsable, SetsWell}
+use Rattle.base_meaning.specs.Usable.{IsLine, IsUsable, SetsWell}
 use Rattle.ti_base.specs.inside.Texts.{IsBlockText}
 use Rattle.ti_base.proofs.texts.slot_of.Goals as goal
 

@@ -1,4 +1,4 @@
-use Rattle.ti_tput.proofs.LongNames.{long_name-after, long_name-whole}
+use Rattle.tools_tput.proofs.LongNames.{long_name-after, long_name-whole}
 use Rattle.ti_c.proofs.entries.long_name.Goals as goal
 
 pub returns-in-Some : goal.returns-in-Some

@@ -1,6 +1,6 @@
 use Rattle.std.proofs.Common.{◌≡◌, map, take}
 use Rattle.serde_json.specs.View.{view}
-use Rattle.ti_fixes.specs.Fixes.{fix_seen}
+use Rattle.lsp_fixes.specs.Fixes.{fix_seen}
 use Rattle.ti_lsp.specs.Fixes.{fix_shown}
 use Rattle.ti_lsp.proofs.fixing.fix_values.Given as goal
 

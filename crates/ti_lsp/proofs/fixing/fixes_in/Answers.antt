@@ -1,8 +1,8 @@
 use Rattle.std.proofs.Common.{List, ap, map, sym, ◌∙◌}
 use Rattle.std.proofs.lemmas.Result.{IfOk-weaker}
 use Rattle.std.proofs.lemmas.Simd.{map-map}
-use Rattle.ti_fixes.specs.Fixes.{fix_seen}
-use Rattle.ti_fixes.specs.declared.fixes.Fix.{Fix}
+use Rattle.lsp_fixes.specs.Fixes.{fix_seen}
+use Rattle.lsp_fixes.specs.declared.fixes.Fix.{Fix}
 use Rattle.ti_lsp.specs.Fixes.{fix_shown}
 use Rattle.ti_lsp.proofs.fixing.fixes_in.Goals as goal
 

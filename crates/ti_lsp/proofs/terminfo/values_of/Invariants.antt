@@ -1,6 +1,6 @@
 use Rattle.std.proofs.Common.{◌≡◌, map, take}
 use Rattle.serde_json.specs.View.{view}
-use Rattle.ti_document.specs.Diagnostics.{diagnostic_seen}
+use Rattle.lsp_document.specs.Diagnostics.{diagnostic_seen}
 use Rattle.ti_lsp.specs.Shown.{shown_data}
 use Rattle.ti_lsp.proofs.terminfo.values_of.Given as goal
 

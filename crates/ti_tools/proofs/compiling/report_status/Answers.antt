@@ -1,7 +1,7 @@
 use Rattle.std.proofs.Common.{◌∙◌, sym}
 use Rattle.ti_tools.proofs.Reporting.{list_any-map}
 use Rattle.ti_source.specs.Code.{is_error}
-use Rattle.ti_meaning.specs.Faults.{SourceFault, fault_seen}
+use Rattle.base_meaning.specs.Faults.{SourceFault, fault_seen}
 use Rattle.ti_tools.proofs.compiling.report_status.Goals as goal
 
 pub returns-then-has_error : goal.returns-then-has_error

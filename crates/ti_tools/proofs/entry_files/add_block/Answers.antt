@@ -1,6 +1,6 @@
 use Rattle.std.proofs.Common.{◌≡◌, Some, sym}
 use Rattle.std.proofs.lemmas.Result.{on_ok_weaker}
-use Rattle.ti_meaning.specs.Compiled.{compiled}
+use Rattle.base_meaning.specs.Compiled.{compiled}
 use Rattle.ti_tools.proofs.Filing.{files_at-some, names_ascii, names_of_text}
 use Rattle.ti_tools.proofs.entry_files.add_block.Goals as goal
 

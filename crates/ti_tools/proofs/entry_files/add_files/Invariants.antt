@@ -1,8 +1,8 @@
 use Rattle.std.proofs.Common.{ℕ, List, ◌≡◌, ◌++◌, map, filter, drop}
 use Rattle.std.specs.Rc.{rc_slice_items}
-use Rattle.ti_meaning.specs.Owner.{readings, is_owner}
-use Rattle.ti_devices.specs.Placing.{entries}
-use Rattle.ti_meaning.specs.OwnNames.{own_names}
+use Rattle.base_meaning.specs.Owner.{readings, is_owner}
+use Rattle.tools_devices.specs.Placing.{entries}
+use Rattle.base_meaning.specs.OwnNames.{own_names}
 use Rattle.ti_tools.specs.EntryFiles.{files_for}
 use Rattle.ti_tools.proofs.entry_files.add_files.Given as goal
 

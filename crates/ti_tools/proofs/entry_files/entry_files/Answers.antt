@@ -1,5 +1,5 @@
 use Rattle.std.proofs.Common.{◌<◌, ◌≤◌, length, arith}
-use Rattle.ti_devices.specs.Placing.{entries}
+use Rattle.tools_devices.specs.Placing.{entries}
 use Rattle.ti_tools.proofs.Filing.{filed_to_end, filed_to_next, filed_to_start}
 use Rattle.ti_tools.proofs.entry_files.entry_files.Goals as goal
 

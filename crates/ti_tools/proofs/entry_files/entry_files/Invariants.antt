@@ -1,5 +1,5 @@
 use Rattle.ti_tools.proofs.Filing.{IsFiledTo}
-use Rattle.ti_devices.specs.Placing.{entries}
+use Rattle.tools_devices.specs.Placing.{entries}
 use Rattle.ti_tools.proofs.entry_files.entry_files.Given as goal
 
 abbrev pub invariant-loop-at : goal.invariant-loop-at

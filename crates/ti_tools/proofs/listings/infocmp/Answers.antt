@@ -1,6 +1,6 @@
 use Rattle.std.proofs.Common.{◌≡◌, ◌≢◌, [], ◌∷◌, Some, ap, rules, sym, ◌∙◌}
 use Rattle.ti_list.specs.RelativeSource.{entries_shown}
-use Rattle.ti_commands.specs.declared.jobs.InfocmpMode.TheVariants.{List}
+use Rattle.tools_commands.specs.declared.jobs.InfocmpMode.TheVariants.{List}
 use Rattle.ti_tools.specs.Listings.{infocmp_result}
 use Rattle.ti_tools.proofs.Printing.{listing_printed, several_printed}
 use Rattle.ti_tools.proofs.listings.infocmp.Goals as goal

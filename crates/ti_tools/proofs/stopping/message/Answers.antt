@@ -1,7 +1,7 @@
 use Rattle.std.proofs.Common.{List, ℕ, Some, subst}
 use Rattle.std.specs.List.{concat}
-use Rattle.ti_devices.specs.Counted.{observation}
-use Rattle.ti_devices.specs.Writing.{Wrote}
+use Rattle.tools_devices.specs.Counted.{observation}
+use Rattle.tools_devices.specs.Writing.{Wrote}
 use Rattle.ti_tools.specs.Stopping.{message_parts}
 use Rattle.ti_tools.proofs.stopping.message.Goals as goal
 

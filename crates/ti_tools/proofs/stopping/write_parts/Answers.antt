@@ -1,6 +1,6 @@
 use Rattle.std.proofs.Common.{Bor, List, [], ℕ, rules}
 use Rattle.std.proofs.lemmas.Result.{err_from_is_err_and}
-use Rattle.ti_devices.proofs.Written.{TakesAll-then, Wrote-over}
+use Rattle.tools_devices.proofs.Written.{TakesAll-then, Wrote-over}
 use Rattle.ti_tools.proofs.Parts.{parts-more, parts-whole}
 use Rattle.ti_tools.proofs.stopping.write_parts.Goals as goal
 

@@ -1,7 +1,7 @@
 use Rattle.std.proofs.Common.{map, take}
 use Rattle.std.specs.List.{concat}
-use Rattle.ti_devices.specs.Counted.{observation}
-use Rattle.ti_devices.specs.Writing.{TakesAll}
+use Rattle.tools_devices.specs.Counted.{observation}
+use Rattle.tools_devices.specs.Writing.{TakesAll}
 use Rattle.ti_tools.proofs.stopping.write_parts.Given as goal
 
 -- the parts before are written

@@ -1,6 +1,6 @@
 use Rattle.std.proofs.Common.{length, refl, Some, ap, sym, ◌∙◌}
-use Rattle.ti_meaning.specs.Compiled.{compiled}
-use Rattle.ti_slots.specs.Settled.{state_seen}
+use Rattle.base_meaning.specs.Compiled.{compiled}
+use Rattle.base_slots.specs.Settled.{state_seen}
 use Rattle.ti_base.proofs.SlotEntries.{entry_seen, shown_other, entry_of_slot}
 use Rattle.ti_base.proofs.SlotLists.{within_list}
 use Rattle.ti_base.proofs.database.Database.compiled.Goals as goal

@@ -1,6 +1,6 @@
 use Rattle.std.proofs.Common.{length, map, ap, ◌∙◌}
 use Rattle.std.specs.List.{range_with_len}
-use Rattle.ti_meaning.specs.Report.{lines_before}
+use Rattle.base_meaning.specs.Report.{lines_before}
 use Rattle.ti_base.proofs.database.Database.line_starts.Goals as goal
 
 pub returns-clause-starts : goal.returns-clause-starts

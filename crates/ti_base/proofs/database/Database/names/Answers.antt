@@ -1,8 +1,8 @@
 use Rattle.std.proofs.Common.{length, refl, List, Some, map, option_map, slice_get, ap, sym, ◌∙◌}
 use Rattle.std.specs.Rc.{rc_slice_items}
 use Rattle.ti_source.specs.Reading.{Reading}
-use Rattle.ti_meaning.specs.Owner.{readings}
-use Rattle.ti_slots.proofs.Owners.{block_of_slot}
+use Rattle.base_meaning.specs.Owner.{readings}
+use Rattle.base_slots.proofs.Owners.{block_of_slot}
 use Rattle.ti_base.proofs.SlotLists.{within_list, blocks_read}
 use Rattle.ti_base.proofs.database.Database.names.Goals as goal
 

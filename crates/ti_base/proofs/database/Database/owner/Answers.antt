@@ -1,5 +1,5 @@
 use Rattle.std.proofs.Common.{ap, ◌∙◌}
-use Rattle.ti_meaning.specs.Owner.{owner, readings}
+use Rattle.base_meaning.specs.Owner.{owner, readings}
 use Rattle.ti_base.proofs.SlotLists.{blocks_read}
 use Rattle.ti_base.proofs.database.Database.owner.Goals as goal
 

@@ -1,6 +1,6 @@
 use Rattle.std.proofs.Common.{map, ap, ◌∙◌}
-use Rattle.ti_meaning.specs.Owner.{readings}
-use Rattle.ti_meaning.specs.Faults.{fault_seen, faults}
+use Rattle.base_meaning.specs.Owner.{readings}
+use Rattle.base_meaning.specs.Faults.{fault_seen, faults}
 use Rattle.ti_base.proofs.SlotLists.{blocks_read}
 use Rattle.ti_base.proofs.database.Database.report.Goals as goal
 

@@ -1,12 +1,12 @@
 use Rattle.std.proofs.Common.{◌≡◌, ℕ, List, length, map, All, ap, sym, ◌∙◌}
 use Rattle.std.specs.List.{flat_map}
-use Rattle.ti_meaning.specs.Owner.{readings}
-use Rattle.ti_meaning.specs.Usable.{IsPlaced}
-use Rattle.ti_meaning.specs.Faults.{SourceFault, fault_seen, faults}
-use Rattle.ti_meaning.specs.Report.{report, report_line}
-use Rattle.ti_meaning.proofs.Bounding.{faults_placed}
-use Rattle.ti_slots.specs.Slots.{blocks_of, slot_texts}
-use Rattle.ti_slots.proofs.Owners.{length_blocks, length_texts}
+use Rattle.base_meaning.specs.Owner.{readings}
+use Rattle.base_meaning.specs.Usable.{IsPlaced}
+use Rattle.base_meaning.specs.Faults.{SourceFault, fault_seen, faults}
+use Rattle.base_meaning.specs.Report.{report, report_line}
+use Rattle.base_meaning.proofs.Bounding.{faults_placed}
+use Rattle.base_slots.specs.Slots.{blocks_of, slot_texts}
+use Rattle.base_slots.proofs.Owners.{length_blocks, length_texts}
 use Rattle.ti_base.proofs.SlotLists.{blocks_read}
 use Rattle.ti_base.proofs.Installing.{all_usable}
 use Rattle.ti_base.proofs.database.Database.report_of.Goals as goal

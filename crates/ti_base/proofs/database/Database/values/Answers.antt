@@ -1,9 +1,9 @@
 use Rattle.std.proofs.Common.{◌≡◌, List, ℕ, Some, Option, option_map, length, refl, slice_get, sym, subst}
 use Rattle.ti_layout.specs.declared.values.Table.{Table}
 use Rattle.ti_layout.specs.Values.{contents}
-use Rattle.ti_meaning.specs.Owner.{readings}
-use Rattle.ti_meaning.specs.ValueTables.{HasTable}
-use Rattle.ti_slots.specs.Slots.{slot_texts}
+use Rattle.base_meaning.specs.Owner.{readings}
+use Rattle.base_meaning.specs.ValueTables.{HasTable}
+use Rattle.base_slots.specs.Slots.{slot_texts}
 use Rattle.ti_base.proofs.SlotEntries.{table_of_slot}
 use Rattle.ti_base.proofs.SlotLists.{within_list}
 use Rattle.ti_base.proofs.database.Database.values.Goals as goal

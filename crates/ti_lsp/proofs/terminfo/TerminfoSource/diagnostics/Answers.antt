@@ -2,8 +2,8 @@ use Rattle.std.proofs.Common.{List, ap, map, sym, ◌∙◌}
 use Rattle.std.proofs.lemmas.Result.{IfOk-weaker}
 use Rattle.std.proofs.lemmas.Simd.{map-map}
 use Rattle.serde_json.specs.View.{items_of}
-use Rattle.ti_document.specs.Diagnostics.{diagnostic_seen}
-use Rattle.ti_document.specs.declared.diagnostics.Diagnostic.{Diagnostic}
+use Rattle.lsp_document.specs.Diagnostics.{diagnostic_seen}
+use Rattle.lsp_document.specs.declared.diagnostics.Diagnostic.{Diagnostic}
 use Rattle.ti_lsp.specs.Shown.{shown_data}
 use Rattle.ti_lsp.proofs.terminfo.TerminfoSource.diagnostics.Goals as goal
 

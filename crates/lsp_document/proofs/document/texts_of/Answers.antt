@@ -1,0 +1,10 @@
+use Rattle.std.proofs.Common.{List, ℕ, map, sym, ap, ◌++◌, ◌∙◌}
+use Rattle.std.proofs.lemmas.List.{append-nil}
+use Rattle.lsp_document.proofs.HeldTexts.{texts_of-ended}
+use Rattle.lsp_document.proofs.TextLists.{text_of}
+use Rattle.lsp_document.proofs.document.texts_of.Goals as goal
+
+pub returns : goal.returns
+returns c =
+    sym (append-nil (map text_of c.loop-text.texts.items)) ∙ ap (λ (rest : List (List ℕ)). map text_of c.loop-text.texts.items ++ rest) (sym c.in_default.ensures.steps.0.0) ∙ c.loop-text.invariant
+    ∙ sym (texts_of-ended c.args.ended.now c.requires)

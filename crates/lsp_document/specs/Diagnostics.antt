@@ -1,0 +1,85 @@
+-- What is wrong with a source, as an editor shows it (own; Language Server Protocol 3.17,
+-- "Diagnostic"): the faults of its report, each with its line, what of it is shown as faulty, its
+-- code and a message.
+use Rattle.std.specs.Prelude.{ℕ, ◌-◌, List, [], ◌∷◌, ◌++◌, codes, map, Option, Some, None, slice_get, if◌then◌else◌}
+use Rattle.std.specs.Option.{option_map_or}
+use Rattle.std.specs.String.{string_bytes}
+use Rattle.ti_source.specs.declared.code.Code.{Code}
+use Rattle.ti_source.specs.Code.{code_name, is_error, label_of}
+use Rattle.base_meaning.specs.Owner.{readings}
+use Rattle.base_meaning.specs.Faults.{SourceFault, faults}
+use Rattle.base_meaning.specs.Report.{detail_text, line_number}
+use Rattle.tools_sources.specs.Sources.{first_line, source_refusal, source_texts}
+use Rattle.tools_sources.specs.declared.source_error.SourceError.{SourceError}
+use Rattle.tools_sources.specs.declared.source_error.SourceError.TheVariants as refusal
+use Rattle.lsp_document.specs.Advice.{advice, block_too_long, too_many_blocks}
+use Rattle.lsp_document.specs.LineTexts.{indent, line_of, width}
+use Rattle.lsp_document.specs.declared.diagnostics.Diagnostic.{Diagnostic}
+use Rattle.lsp_document.specs.declared.diagnostics.Problem.{Problem}
+use Rattle.lsp_document.specs.declared.diagnostics.Problem.TheVariants.{Fault, BlockTooLong, TooManyBlocks}
+use Rattle.lsp_types.specs.declared.places.Range.{Range}
+use Rattle.lsp_types.specs.declared.severities.Severity.{Severity}
+use Rattle.lsp_types.specs.declared.severities.Severity.TheVariants.{Error, Warning}
+
+-- how bad a problem is
+abbrev pub severity_of : Problem → Severity
+severity_of (Fault code) = if is_error code then Error else Warning
+severity_of BlockTooLong = Error
+severity_of TooManyBlocks = Error
+
+-- the code of a problem
+abbrev pub label_of_problem : Problem → List ℕ
+label_of_problem (Fault code) = label_of code
+label_of_problem BlockTooLong = codes "BlockTooLong"
+label_of_problem TooManyBlocks = codes "TooManyBlocks"
+
+-- a diagnostic as plain data: the part of the text that it is about, what is wrong, and what is
+-- said of it
+pub record Shown : Type 0 where
+  pub range : Range
+  pub problem : Problem
+  pub message : List ℕ
+
+-- a diagnostic that holds its message in memory, as plain data
+abbrev pub diagnostic_seen : Diagnostic → Shown
+diagnostic_seen d = record { range = d.range; problem = d.problem; message = string_bytes d.message }
+
+-- a line of that number from its first byte that is no white space to its end
+abbrev pub marked : ℕ → List ℕ → Range
+marked number line = record {
+  start = record { line = number; column = indent line };
+  end = record { line = number; column = width line };
+}
+
+-- what is shown on a line of that number
+abbrev pub shown_on : ℕ → List ℕ → Problem → List ℕ → Shown
+shown_on number line problem message = record { range = marked number line; problem = problem; message = message }
+
+-- what is said of a fault: its name and the detail as its report shows it, what it means, and a
+-- hint
+abbrev pub fault_message : Code → Option (List ℕ) → List ℕ
+fault_message code detail = code_name code ++ detail_text detail ++ codes ": " ++ advice code
+
+-- the text of the block at that position
+abbrev pub text_at : List (List ℕ) → ℕ → List ℕ
+text_at texts at = option_map_or (λ text. text) (slice_get texts at) []
+
+-- the diagnostic of a fault of a source whose first block begins on the line of that number,
+-- counted from 1
+abbrev pub fault_diagnostic : List (List ℕ) → ℕ → SourceFault → Shown
+fault_diagnostic texts first fault =
+    shown_on (line_number texts first fault - 1) (line_of (text_at texts fault.block) (fault.line - 1)) (Fault fault.code) (fault_message fault.code fault.detail)
+
+-- the diagnostic of a source that is refused, on the line on which the block begins for which it is
+abbrev pub refusal_diagnostic : List ℕ → SourceError → Shown
+refusal_diagnostic text (refusal.BlockTooLong line) = shown_on (line - 1) (line_of text (line - 1)) BlockTooLong block_too_long
+refusal_diagnostic text (refusal.TooManyBlocks line) = shown_on (line - 1) (line_of text (line - 1)) TooManyBlocks too_many_blocks
+
+-- the diagnostics of a source, by its refusal if it has one
+abbrev pub diagnostics_unless : List ℕ → Option SourceError → List Shown
+diagnostics_unless text None = map (fault_diagnostic (source_texts text) (first_line text)) (faults (readings (source_texts text)))
+diagnostics_unless text (Some error) = refusal_diagnostic text error ∷ []
+
+-- the diagnostics of a source
+abbrev pub diagnostics_of : List ℕ → List Shown
+diagnostics_of text = diagnostics_unless text (source_refusal text)

@@ -1,0 +1,43 @@
+//! What each fault means, and what to do about it.
+ghost use Rattle.std.specs.Prelude.{◌≡◌};
+ghost use Rattle.lsp_document.specs.Advice as spec;
+
+use ti_source::Code;
+
+/// A sentence that says what is wrong, and a hint.
+pub(crate) fn advice(code: Code) -> &'static str
+    ensures { result.now ≡ spec.advice code }
+{
+    match code {
+        Code::BadHeader =>
+            "The line of names is not in order. Correct the name that is empty or has a space, a slash or a byte that is not visible ASCII.",
+        Code::NamesTooLong =>
+            "The names are over 127 bytes up to the first comma. Shorten them, or put in the comma that is missing.",
+        Code::BadNumber =>
+            "This is no number. Write it in decimal, in octal after 0, or in hexadecimal after 0x.",
+        Code::NumberTooLarge => "The number is over 2147483647. Write a smaller one.",
+        Code::BadString =>
+            "The string cannot be read. Write octal escapes up to \\377, and \\^ for a caret that means itself.",
+        Code::MissingUse =>
+            "No block has this name. Correct it, or put the block in: installed entries are not looked at.",
+        Code::Circular => "This use leads back to its own block. Take one use of the circle out.",
+        Code::Unresolved =>
+            "The block of this name has an error, or leads to one. Correct that block.",
+        Code::TooLarge =>
+            "The entry is over 4096 bytes, or over 32768 with a number over 32767. Cancel what is not needed.",
+        Code::UnknownCapability =>
+            "No capability has this name, so it is ignored. Upper and lower case differ, and a comma in a string is written \\,.",
+        Code::WrongKind =>
+            "The capability is of another kind, so it is ignored. Booleans have no sign, numbers #, and strings =.",
+        Code::UnknownEscape => "This backslash makes no escape. Leave it out, or double it.",
+        Code::DuplicateName => "An earlier block has this name. Take it out of one of the two.",
+    }
+}
+
+/// What to do about a block that is too long.
+pub(crate) const BLOCK_TOO_LONG: &str =
+    "The block is over 1048576 bytes, so the source is not read. Shorten it.";
+
+/// What to do about a block that is one too many.
+pub(crate) const TOO_MANY_BLOCKS: &str =
+    "The source has over 65535 blocks, so it is not read. Split it.";

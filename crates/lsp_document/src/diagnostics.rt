@@ -1,0 +1,242 @@
+//! The faults of a document, with their places.
+ghost use Rattle.std.specs.Prelude.{◌≡◌, ◌≤◌, ◌++◌, ◌∷◌, ◌+◌, ◌-◌, ◌^◌, [], length, map, option_map, IfOk, OnOk};
+ghost use Rattle.std.specs.Rc.{rc_slice_items};
+ghost use Rattle.std.specs.String.{string_bytes};
+ghost use Rattle.base_meaning.specs.Faults.{fault_seen, faults};
+ghost use Rattle.base_meaning.specs.Owner.{readings};
+ghost use Rattle.base_meaning.specs.Report as report;
+ghost use Rattle.base_meaning.specs.Usable.{IsPlaced};
+ghost use Rattle.lsp_document.specs.Diagnostics as spec;
+ghost use Rattle.lsp_document.specs.Diagnostics.{diagnostic_seen, diagnostics_of, fault_diagnostic, fault_message, text_at};
+ghost use Rattle.lsp_document.specs.Documents.{held};
+ghost use Rattle.lsp_document.specs.LineTexts.{line_of};
+
+use crate::advice::{BLOCK_TOO_LONG, TOO_MANY_BLOCKS, advice};
+use crate::lines::{indent, line_of, width};
+use lsp_types::{Position, Range, Severity};
+use std::alloc::{AllocError, Global};
+use std::rc::RcSlice;
+use ti_base::{Database, Fault, write_detail};
+use ti_source::Code;
+use tools_sources::{SourceError, check, first_line, sources_have_one_refusal};
+
+/// What is wrong.
+#[derive(Clone, Copy, Debug, PartialEq, Eq)]
+pub enum Problem {
+    /// A fault of the report.
+    Fault(Code),
+    /// A block of over 1,048,576 bytes, for which the source is refused.
+    BlockTooLong,
+    /// The 65,536th block, for which the source is refused.
+    TooManyBlocks,
+}
+
+impl Problem {
+    /// How bad it is: a warning for the codes that begin with `W`.
+    pub fn severity(self) -> Severity
+        ensures { result ≡ spec.severity_of self }
+    {
+        match self {
+            Problem::Fault(code) if !code.is_error() => Severity::Warning,
+            _ => Severity::Error,
+        }
+    }
+
+    /// The code: `E1` to `E9`, `W1` to `W4`, `BlockTooLong` or `TooManyBlocks`.
+    pub fn label(self) -> &'static str
+        ensures { result.now ≡ spec.label_of_problem self }
+    {
+        match self {
+            Problem::Fault(code) => code.label(),
+            Problem::BlockTooLong => "BlockTooLong",
+            Problem::TooManyBlocks => "TooManyBlocks",
+        }
+    }
+}
+
+/// One thing that is wrong with a document, and where.
+#[derive(Debug, Drop)]
+pub struct Diagnostic {
+    /// The part of its line that is shown as faulty, from the first byte that is no white space to
+    /// the end.
+    pub range: Range,
+    /// What is wrong.
+    pub problem: Problem,
+    /// What it is about, what it means, and a hint, in ASCII.
+    pub message: String,
+}
+
+/// A detail as a report shows it, in ASCII.
+///
+/// # Errors
+/// Out of memory.
+pub fn shown_detail(alloc: Global, detail: &[u8]) -> Result<String, AllocError>
+    ensures { IfOk result (λ shown. string_bytes shown ≡ report.shown_detail detail.now) }
+{
+    let mut shown = Vec::new(alloc);
+    write_detail(&mut shown, detail)?;
+    match String::from_utf8(shown) {
+        Ok(shown) => Ok(shown),
+        Err(_) => unreachable!(),
+    }
+}
+
+// Appends a detail, if there is one, after a space.
+fn push_subject(
+    alloc: Global,
+    message: &mut String,
+    detail: &Option<RcSlice<u8>>,
+) -> Result<(), AllocError>
+    ensures { OnOk result (string_bytes message.new ≡ string_bytes message.old ++ report.detail_text (option_map rc_slice_items detail.now)) }
+{
+    match detail {
+        None => Ok(()),
+        Some(detail) => {
+            let shown = shown_detail(alloc, detail.as_slice())?;
+            message.push(' ')?;
+            message.push_str(&shown)
+        }
+    }
+}
+
+// What a diagnostic says of a fault.
+fn message_of(alloc: Global, fault: &Fault) -> Result<String, AllocError>
+    ensures { IfOk result (λ message. string_bytes message ≡ fault_message fault.now.code (option_map rc_slice_items fault.now.detail)) }
+{
+    let mut message = String::new(alloc);
+    message.push_str(fault.code.name())?;
+    push_subject(alloc, &mut message, &fault.detail)?;
+    message.push_str(": ")?;
+    message.push_str(advice(fault.code))?;
+    Ok(message)
+}
+
+// The part of a line of that number that is shown as faulty.
+fn marked(number: usize, line: &[u8]) -> Range
+    ensures { result ≡ spec.marked number line.now }
+{
+    Range {
+        start: Position {
+            line: number,
+            column: indent(line),
+        },
+        end: Position {
+            line: number,
+            column: width(line),
+        },
+    }
+}
+
+// The diagnostic of a problem that is shown on a line, of that number.
+fn shown_on(number: usize, line: &[u8], problem: Problem, message: String) -> Diagnostic
+    ensures { diagnostic_seen result ≡ spec.shown_on number line.now problem (string_bytes message) }
+{
+    Diagnostic {
+        range: marked(number, line),
+        problem,
+        message,
+    }
+}
+
+// The diagnostic of a fault, if so many lines are before its block in the source.
+fn diagnostic_of(
+    alloc: Global,
+    database: &Database,
+    before: usize,
+    fault: &Fault,
+) -> Result<Diagnostic, AllocError>
+    requires placed { IsPlaced (length database.now) (fault_seen fault.now) }
+    requires room { before ≤ 2 ^ 63 + 2 ^ 40 }
+    ensures { IfOk result (λ diagnostic. diagnostic_seen diagnostic
+        ≡ spec.shown_on (before + (fault.now.line - 1)) (line_of (text_at database.now fault.now.block) (fault.now.line - 1))
+        (Problem.Fault fault.now.code) (fault_message fault.now.code (option_map rc_slice_items fault.now.detail))) }
+{
+    let row = fault.line - 1;
+    let line = line_of(database.text(fault.block), row);
+    let message = message_of(alloc, fault)?;
+    Ok(shown_on(before + row, line, Problem::Fault(fault.code), message))
+}
+
+// The diagnostics of all faults, if the first block begins on the line of that number, counted from
+// 1.
+fn fault_diagnostics(
+    alloc: Global,
+    database: &Database,
+    first: usize,
+) -> Result<Vec<Diagnostic>, AllocError>
+    requires first { 1 ≤ first }
+    requires room { first ≤ 2 ^ 63 }
+    ensures { IfOk result (λ all. map diagnostic_seen all.items ≡ map (fault_diagnostic database.now first) (faults (readings database.now))) }
+{
+    let faults = database.faults()?;
+    let starts = database.line_starts()?;
+    let mut all = Vec::with_capacity(alloc, faults.len())?;
+    for fault in &faults {
+        let before = first - 1 + starts[fault.block] as usize;
+        all.push(diagnostic_of(alloc, database, before, fault)?)?;
+    }
+    Ok(all)
+}
+
+// The diagnostic of a source that is refused for the block that begins on the line of that number,
+// counted from 1.
+fn own_diagnostic(
+    alloc: Global,
+    text: &[u8],
+    line: usize,
+    problem: Problem,
+    words: &str,
+) -> Result<Diagnostic, AllocError>
+    ensures { IfOk result (λ diagnostic. diagnostic_seen diagnostic ≡ spec.shown_on (line - 1) (line_of text.now (line - 1)) problem words.now) }
+{
+    let row = line.saturating_sub(1);
+    let mut message = String::new(alloc);
+    message.push_str(words)?;
+    Ok(shown_on(row, line_of(text, row), problem, message))
+}
+
+// The diagnostic of a source that is refused.
+fn refusal_diagnostic(
+    alloc: Global,
+    text: &[u8],
+    error: SourceError,
+) -> Result<Diagnostic, AllocError>
+    ensures { IfOk result (λ diagnostic. diagnostic_seen diagnostic ≡ spec.refusal_diagnostic text.now error) }
+{
+    match error {
+        SourceError::BlockTooLong { line } => {
+            own_diagnostic(alloc, text, line, Problem::BlockTooLong, BLOCK_TOO_LONG)
+        }
+        SourceError::TooManyBlocks { line } => {
+            own_diagnostic(alloc, text, line, Problem::TooManyBlocks, TOO_MANY_BLOCKS)
+        }
+    }
+}
+
+// A list of one diagnostic.
+fn alone(alloc: Global, diagnostic: Diagnostic) -> Result<Vec<Diagnostic>, AllocError>
+    ensures { IfOk result (λ all. map diagnostic_seen all.items ≡ diagnostic_seen diagnostic ∷ []) }
+{
+    let mut all = Vec::new(alloc);
+    all.push(diagnostic)?;
+    Ok(all)
+}
+
+/// What is wrong with a source, whose blocks the database holds.
+pub(crate) fn source_diagnostics(
+    alloc: Global,
+    text: &[u8],
+    database: &Database,
+) -> Result<Vec<Diagnostic>, AllocError>
+    requires { database.now ≡ held text.now }
+    ensures { IfOk result (λ all. map diagnostic_seen all.items ≡ diagnostics_of text.now) }
+{
+    sources_have_one_refusal();
+    match check(text) {
+        Ok(()) => fault_diagnostics(alloc, database, first_line(text)),
+        Err(error) => {
+            let diagnostic = refusal_diagnostic(alloc, text, error)?;
+            alone(alloc, diagnostic)
+        }
+    }
+}

@@ -1,0 +1,244 @@
+//! A text with a database of its blocks.
+ghost use Rattle.std.specs.Prelude.{◌≡◌, [], None, map, IfErr, IfOk, OnOk, OnErr};
+ghost use Rattle.ti_text.specs.Ascii as ascii;
+ghost use Rattle.ti_source.specs.Cutting.{last_byte};
+ghost use Rattle.base_meaning.specs.declared.edits.EditError.TheVariants.{Memory};
+ghost use Rattle.tools_sources.specs.Sources.{AreTaken, source_refusal, source_texts};
+ghost use Rattle.lsp_document.specs.Documents.{HeldBlocksFit, held};
+ghost use Rattle.lsp_document.specs.Exchanges.{AtBack, AtFront, Exchanged};
+ghost use Rattle.lsp_document.specs.Diagnostics.{diagnostic_seen, diagnostics_of};
+
+use crate::cut::{common_back, common_front};
+use crate::diagnostics::{Diagnostic, source_diagnostics};
+use crate::exchanging::exchange;
+use std::alloc::{AllocError, Global};
+use std::marker::Model;
+use ti_base::{Database, EditError};
+use ti_source::{blocks, blocks_are_single, each_has_cut};
+use tools_sources::{check, database_of, ended_texts_end, is_ended, sources_have_one_refusal};
+
+// The most blocks that are exchanged one by one; of more the database is loaded anew.
+const EDITS_MAX: usize = 64;
+
+/// A terminfo source as an editor holds it: a text of any bytes, and a database of its blocks, once
+/// a missing newline is put at its end. If the source is refused, the database holds none.
+#[derive(Drop)]
+pub struct Document {
+    alloc: Global,
+    text: Vec<u8>,
+    database: Database,
+}
+
+impl Model for Document {
+    ghost use Rattle.std.specs.Prelude.{◌≡◌, List, ℕ};
+    ghost use Rattle.lsp_document.specs.Documents.{held};
+
+    ghost Value = { List ℕ };
+
+    ghost view = { λ d. d.text.items };
+
+    ghost invariant = { λ d. d.database ≡ held d.text.items };
+}
+
+// The texts of the blocks.
+fn texts_of(alloc: Global, ended: &[u8]) -> Result<Vec<&[u8]>, AllocError>
+    requires { last_byte ascii.newline ended.now ≡ ascii.newline }
+    ensures { IfOk result (λ texts. map (λ text. text.now) texts.items ≡ source_texts ended.now) }
+{
+    let mut texts = Vec::new(alloc);
+    let mut cut = blocks(ended);
+    while let Some(text) = cut.next() {
+        texts.push(text)?;
+    }
+    Ok(texts)
+}
+
+// The texts of the blocks of a database.
+fn held_texts(alloc: Global, database: &Database) -> Result<Vec<&[u8]>, AllocError>
+    ensures { IfOk result (λ texts. map (λ text. text.now) texts.items ≡ database.now) }
+{
+    let mut texts = Vec::with_capacity(alloc, database.len())?;
+    for at in 0..database.len() {
+        texts.push(database.text(at))?;
+    }
+    Ok(texts)
+}
+
+// How many texts are the same at the front of the blocks of a database and of others, and after
+// these at the end.
+fn common_ends(
+    alloc: Global,
+    database: &Database,
+    texts: &[&[u8]],
+) -> Result<(usize, usize), AllocError>
+    ensures { IfOk result (λ ends. AtFront database.now (map (λ text. text.now) texts.now) ends.0
+        × AtBack database.now (map (λ text. text.now) texts.now) ends.0 ends.1) }
+{
+    let held = held_texts(alloc, database)?;
+    let front = common_front(&held, texts);
+    Ok((front, common_back(&held, texts, front)))
+}
+
+// A database of the blocks of a text that is not refused.
+fn load(alloc: Global, ended: &[u8]) -> Result<Database, EditError>
+    requires { AreTaken (source_texts ended.now) }
+    ensures held { IfOk result (λ database. database ≡ source_texts ended.now) }
+    ensures refused { IfErr result (λ error. error ≡ Memory) }
+{
+    sources_have_one_refusal();
+    database_of(alloc, ended)
+}
+
+// Makes the blocks of a database those of a text that is not refused, and gives the number of
+// edits.
+fn exchange_all(alloc: Global, database: &mut Database, ended: &[u8]) -> Result<usize, EditError>
+    requires ended { last_byte ascii.newline ended.now ≡ ascii.newline }
+    requires taken { AreTaken (source_texts ended.now) }
+    ensures held { OnOk result (database.new ≡ source_texts ended.now) }
+    ensures edits { IfOk result (Exchanged database.old (source_texts ended.now)) }
+    ensures refused { IfErr result (λ error. error ≡ Memory) }
+{
+    let texts = texts_of(alloc, ended)?;
+    let (front, back) = common_ends(alloc, database, &texts)?;
+    if database.len().max(texts.len()) - front - back > EDITS_MAX {
+        *database = load(alloc, ended)?;
+        return Ok(0);
+    }
+    exchange(database, &texts, front, back)
+}
+
+// Makes the blocks of a database those of a text whose last line is ended, or none if the source is
+// refused, and gives the number of edits.
+fn change_to(alloc: Global, database: &mut Database, ended: &[u8]) -> Result<usize, EditError>
+    requires { last_byte ascii.newline ended.now ≡ ascii.newline }
+    ensures held { OnOk result (database.new ≡ held ended.now) }
+    ensures edits { IfOk result (λ edits. source_refusal ended.now ≡ None → Exchanged database.old (source_texts ended.now) edits) }
+    ensures refused { IfErr result (λ error. error ≡ Memory) }
+{
+    sources_have_one_refusal();
+    match check(ended) {
+        Ok(()) => exchange_all(alloc, database, ended),
+        Err(_) => {
+            *database = Database::new(alloc);
+            Ok(0)
+        }
+    }
+}
+
+// Makes the blocks of a database those of a text, or none if the source is refused, and gives the
+// number of edits. The text stays as it is.
+fn change_to_text(
+    alloc: Global,
+    database: &mut Database,
+    text: &mut Vec<u8>,
+) -> Result<usize, EditError>
+    ensures held { OnOk result (database.new ≡ held text.old.items) }
+    ensures text { OnOk result (text.new.items ≡ text.old.items) }
+    ensures edits { IfOk result (λ edits. source_refusal text.old.items ≡ None → Exchanged database.old (source_texts text.old.items) edits) }
+    ensures refused { IfErr result (λ error. error ≡ Memory) }
+{
+    ended_texts_end();
+    if is_ended(text) {
+        return change_to(alloc, database, text);
+    }
+    if text.push(b'\n').is_err() {
+        return Err(EditError::Memory);
+    }
+    let edits = change_to(alloc, database, text)?;
+    text.pop();
+    Ok(edits)
+}
+
+// That memory ran out, when there is no other cause.
+fn out_of_memory(error: EditError) -> AllocError
+    requires { error ≡ Memory }
+{
+    match error {
+        EditError::Memory => AllocError,
+        _ => unreachable!(),
+    }
+}
+
+impl Document {
+    /// The empty text. It takes no memory.
+    pub fn new(alloc: Global) -> Document
+        ensures { result ≡ [] }
+    {
+        Document {
+            alloc,
+            text: Vec::new(alloc),
+            database: Database::new(alloc),
+        }
+    }
+
+    /// A document of a text.
+    ///
+    /// # Errors
+    /// Out of memory.
+    pub fn open(alloc: Global, text: Vec<u8>) -> Result<Document, AllocError>
+        ensures { IfOk result (λ document. document ≡ text.items) }
+    {
+        let mut document = Document::new(alloc);
+        document.set(text)?;
+        Ok(document)
+    }
+
+    /// Exchanges the text, and gives the number of edits of the database: one for each block that
+    /// differs, or none if these are more than 64, when it is loaded anew.
+    ///
+    /// # Errors
+    /// Out of memory: the document is then empty.
+    pub fn set(&mut self, text: Vec<u8>) -> Result<usize, AllocError>
+        ensures text { OnOk result (self.new ≡ text.items) }
+        ensures edits { IfOk result (λ edits. source_refusal text.items ≡ None → Exchanged (held self.old) (source_texts text.items) edits) }
+        ensures lost { OnErr result (self.new ≡ []) }
+    {
+        let mut text = text;
+        match change_to_text(self.alloc, &mut self.database, &mut text) {
+            Ok(edits) => {
+                self.text = text;
+                Ok(edits)
+            }
+            Err(error) => {
+                self.text = Vec::new(self.alloc);
+                self.database = Database::new(self.alloc);
+                Err(out_of_memory(error))
+            }
+        }
+    }
+
+    /// The text.
+    pub fn text(&self) -> &[u8]
+        ensures { result.now ≡ self.now }
+    {
+        self.text.as_slice()
+    }
+
+    /// The database of its blocks, which holds none if the source is refused.
+    pub fn database(&self) -> &Database
+        ensures { result.now ≡ held self.now }
+    {
+        &self.database
+    }
+
+    /// What is wrong with the source, in the order of its report, or the one refusal of the whole
+    /// source.
+    ///
+    /// # Errors
+    /// Out of memory.
+    pub fn diagnostics(&self, alloc: Global) -> Result<Vec<Diagnostic>, AllocError>
+        ensures { IfOk result (λ all. map diagnostic_seen all.items ≡ diagnostics_of self.now) }
+    {
+        source_diagnostics(alloc, self.text.as_slice(), &self.database)
+    }
+}
+
+/// A law, with no code: the blocks that a document holds are of at most 1,048,576 bytes each, and
+/// at most 65,535.
+pub fn held_blocks_fit()
+    ensures { HeldBlocksFit }
+{
+    each_has_cut();
+    blocks_are_single();
+    ended_texts_end();
+}

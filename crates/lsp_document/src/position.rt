@@ -1,0 +1,123 @@
+//! Places in a text as the Language Server Protocol 3.17 counts them: lines from 0, and columns in
+//! UTF-16 units. A line ends with LF, or with CR LF, whose CR is no column. A lone CR ends none.
+ghost use Rattle.std.specs.Prelude.{◌≡◌, ◌+◌, ◌*◌, ◌^◌, ◌<◌, ◌≤◌, length};
+ghost use Rattle.lsp_document.specs.Position as spec;
+
+use lsp_types::Position;
+
+// The UTF-16 units of the character that begins with the byte; none for a byte within a character.
+pub(crate) fn units(byte: u8) -> usize
+    ensures units { result ≡ spec.units byte }
+    ensures few { result ≤ 2 }
+{
+    if byte < 128 {
+        1
+    } else if byte < 192 {
+        0
+    } else if byte < 240 {
+        1
+    } else {
+        2
+    }
+}
+
+// Whether a line ends where the text begins.
+pub(crate) fn ends_line(text: &[u8]) -> bool
+    ensures { result ≡ spec.ends_line text.now }
+{
+    matches!(text, [] | [b'\n', ..] | [b'\r', b'\n', ..])
+}
+
+// How many newlines are still to be passed after the byte.
+fn lines_left(left: usize, byte: u8) -> usize
+    ensures { result ≡ spec.lines_left left byte }
+{
+    if byte == b'\n' {
+        left.saturating_sub(1)
+    } else {
+        left
+    }
+}
+
+/// The offset at which the line of that number begins; the length of the text if it has no such
+/// line.
+pub(crate) fn line_start(text: &[u8], line: usize) -> usize
+    ensures start { result ≡ spec.line_start text.now line }
+    ensures within { result ≤ length text.now }
+{
+    let mut left = line;
+    for (at, byte) in text.iter().enumerate() {
+        if left == 0 {
+            return at;
+        }
+        left = lines_left(left, *byte);
+    }
+    text.len()
+}
+
+// The offset in a line, from its start, of a column; that of its end if it is past it.
+fn column_offset(line: &[u8], column: usize) -> usize
+    ensures offset { result ≡ spec.column_offset line.now column }
+    ensures within { result ≤ length line.now }
+{
+    let mut left = column;
+    for (at, byte) in line.iter().enumerate() {
+        let wide = units(*byte);
+        if left < wide || ends_line(&line[at..]) {
+            return at;
+        }
+        left -= wide;
+    }
+    line.len()
+}
+
+/// The offset of a place in the UTF-8 of a text. Past the end of a line it is the line's end, past
+/// the last line the end of the text, and in the middle of a surrogate pair the start of its
+/// character.
+pub fn offset_of(text: &[u8], position: Position) -> usize
+    ensures offset { result ≡ spec.offset_of text.now position }
+    ensures within { result ≤ length text.now }
+{
+    let start = line_start(text, position.line);
+    start + column_offset(&text[start..], position.column)
+}
+
+// The place after the first byte of a text that begins so far into one, from the place before it.
+fn step_over(text: &[u8], at: usize, place: Position) -> Position
+    requires line { place.line ≤ at }
+    requires column { place.column ≤ 2 * at }
+    requires room { at + 1 < 2 ^ 63 }
+    ensures next { result ≡ spec.step_over text.now place }
+    ensures line { result.line ≤ at + 1 }
+    ensures column { result.column ≤ 2 * at + 2 }
+{
+    match text {
+        [b'\n', ..] => Position {
+            line: place.line + 1,
+            column: 0,
+        },
+        [byte, ..] if !ends_line(text) => Position {
+            line: place.line,
+            column: place.column + units(*byte),
+        },
+        _ => place,
+    }
+}
+
+/// The place of an offset of a text, that of its end past the end.
+pub fn position_of(text: &[u8], offset: usize) -> Position
+    ensures place { result ≡ spec.position_of text.now offset }
+    ensures line { result.line ≤ length text.now }
+{
+    let mut place = Position { line: 0, column: 0 };
+    for at in 0..offset.min(text.len()) {
+        place = step_over(&text[at..], at, place);
+    }
+    place
+}
+
+/// A law, with no code: at the start of a character, `offset_of` of `position_of` is the offset
+/// again.
+pub fn positions_are_inverse()
+    ensures { spec.PositionsAreInverse }
+{}

@@ -1,0 +1,377 @@
+-- What is renamed is in the order of the text, and no part of it overlaps another.
+use Rattle.std.proofs.Common.{◌≡◌, ℕ, zero, suc, ◌+◌, ◌-◌, ◌≤◌, ◌==◌, ◌||◌, ◌&&◌, All, Bool, true, false, cond, inl, inr, List, [], ◌∷◌, ◌++◌, drop, filter, flat_map, length, map, take, Option, None, Some, refl, sym, subst, arith}
+use Rattle.std.specs.Option.{option_map_or, option_to_list}
+use Rattle.std.specs.Str.{bytes_eq}
+use Rattle.std.specs.List.{list_all}
+use Rattle.std.specs.Prelude.{codes}
+use Rattle.std.proofs.lemmas.Bool.{eq-eqb}
+use Rattle.std.proofs.lemmas.List.{map-append}
+use Rattle.std.proofs.lemmas.List.Elements.{All-head, All-tail}
+use Rattle.std.proofs.lemmas.List.Sums.{sum_by-cons}
+use Rattle.ti_text.specs.Lines.{line_count}
+use Rattle.ti_text.specs.WhiteSpace.{is_white_space}
+use Rattle.ti_source.specs.Cutting.{last_byte}
+use Rattle.ti_source.specs.Folding.{PlacedByte}
+use Rattle.ti_source.specs.Items.{bytes, takes, without_front}
+use Rattle.lsp_spans.specs.Folding.{bytes_at, folded_of, in_comment, without_breaks, without_comments}
+use Rattle.lsp_spans.specs.Parts.{end_of, field_of, items_after, names_of, rest_of, spanned, with_first}
+use Rattle.lsp_spans.specs.Subjects.{TouchedSeen, UseSeen, begins_with, lookup_parts, own_spans, span_if, use_in, used_name, uses_of, without_end}
+use Rattle.lsp_spans.specs.declared.parts.Part.{Part}
+use Rattle.lsp_types.specs.declared.failures.Failure.{Failure}
+use Rattle.lsp_types.specs.declared.places.Position.{Position}
+use Rattle.lsp_types.specs.declared.places.Range.{Range}
+use Rattle.lsp_document.specs.Documents.{HeldBlocksFit, IsShortBlock, held}
+use Rattle.lsp_document.specs.Position.{ends_line, place_after, step_over, units}
+use Rattle.lsp_features.specs.Names.{is_sought, name_of, one_name, owner_of, parts_in, ranges_from, ranges_in, ranges_of, touched_at, used_parts}
+use Rattle.lsp_features.specs.Renaming.{FollowFrom, RenamedPartsFollow, failure_of, refuses, renamed, renamed_touched, renames, renames_nothing}
+use Rattle.lsp_features.specs.Spots.{head_line, place_in, range_in}
+use Rattle.lsp_features.specs.Symbols.{IsUpTo}
+use Rattle.lsp_features.proofs.Selections.{rises_in, up_up}
+
+-- ---- bytes whose offsets rise, from the first offset to before the last
+
+abbrev Rise : ℕ → ℕ → List PlacedByte → Type 0
+Rise low high [] = low ≤ high
+Rise low high (x ∷ xs) = (low ≤ x.1) × Rise (suc x.1) high xs
+
+rise_up : (low high : ℕ) (text : List PlacedByte) → Rise low high text → low ≤ high
+rise_up low high [] r = r
+rise_up low high (x ∷ xs) r = let more = rise_up (suc x.1) high xs r.1 in omega (arith, r.0, more)
+
+rise_lower : (low less high : ℕ) (text : List PlacedByte) → low ≤ less → Rise less high text → Rise low high text
+rise_lower low less high [] le r = omega (arith, r)
+rise_lower low less high (x ∷ xs) le r = (omega (arith, r.0), r.1)
+
+rise_higher : (low high more : ℕ) (text : List PlacedByte) → high ≤ more → Rise low high text → Rise low more text
+rise_higher low high more [] le r = omega (arith, r)
+rise_higher low high more (x ∷ xs) le r = (r.0, rise_higher (suc x.1) high more xs le r.1)
+
+rise_either : (low high : ℕ) (b : Bool) (x : PlacedByte) (one other : List PlacedByte) → low ≤ x.1 → Rise (suc x.1) high one → Rise (suc x.1) high other
+    → Rise low high (cond b one (x ∷ other))
+rise_either low high true x one other le p q = rise_lower low (suc x.1) high one (omega arith) p
+rise_either low high false x one other le p q = (le, q)
+
+rise_bytes : (low : ℕ) (text : List ℕ) → Rise low (low + length text) (bytes_at low text)
+rise_bytes low [] = omega arith
+rise_bytes low (byte ∷ bytes) =
+    (omega arith, rise_higher (suc low) (suc low + length bytes) (low + length (byte ∷ bytes)) (bytes_at (suc low) bytes) (omega arith) (rise_bytes (suc low) bytes))
+
+rise_comments : (low high : ℕ) (comment : Bool) (before : ℕ) (text : List PlacedByte) → Rise low high text → Rise low high (without_comments comment before text)
+rise_comments low high comment before [] r = r
+rise_comments low high comment before (x ∷ xs) r =
+    rise_either low high (in_comment comment before x.0) x (without_comments true x.0 xs) (without_comments false x.0 xs) r.0
+    (rise_comments (suc x.1) high true x.0 xs r.1) (rise_comments (suc x.1) high false x.0 xs r.1)
+
+rise_breaks : (low high : ℕ) (joining : Bool) (text : List PlacedByte) → Rise low high text → Rise low high (without_breaks joining text)
+rise_breaks low high joining [] r = r
+rise_breaks low high joining (x ∷ xs) r =
+    rise_either low high (x.0 == 10 || (joining && is_white_space x.0)) x (without_breaks true xs) (without_breaks false xs) r.0
+    (rise_breaks (suc x.1) high true xs r.1) (rise_breaks (suc x.1) high false xs r.1)
+
+rise_folded : (block : List ℕ) → Rise 0 (length block) (folded_of block)
+rise_folded block =
+    let all = rise_higher 0 (0 + length block) (length block) (bytes_at 0 block) (omega arith) (rise_bytes 0 block) in
+    rise_breaks 0 (length block) false (without_comments false 10 (bytes_at 0 block)) (rise_comments 0 (length block) false 10 (bytes_at 0 block) all)
+
+-- ---- the field, and what is after it
+
+abbrev Halves : ℕ → ℕ → List PlacedByte → List PlacedByte → Type 0
+Halves low high front back = (middle : ℕ) × (Rise low middle front) × (Rise middle high back)
+
+halves_by : (low high : ℕ) (b : Bool) (x : PlacedByte) (xs : List PlacedByte) → low ≤ x.1 → Rise (suc x.1) high xs → Halves (suc x.1) high (field_of xs) (rest_of xs)
+    → Halves low high (cond b [] (x ∷ field_of xs)) (cond b xs (rest_of xs))
+halves_by low high true x xs le r h = (suc x.1, omega arith, r)
+halves_by low high false x xs le r h = (h.0, (le, h.1), h.2)
+
+halves : (low high : ℕ) (text : List PlacedByte) → Rise low high text → Halves low high (field_of text) (rest_of text)
+halves low high [] r = (low, omega arith, r)
+halves low high (x ∷ xs) r = halves_by low high (x.0 == 44) x xs r.0 r.1 (halves (suc x.1) high xs r.1)
+
+-- ---- parts that rise
+
+abbrev PartsRise : ℕ → ℕ → List (List PlacedByte) → Type 0
+PartsRise low high [] = low ≤ high
+PartsRise low high (part ∷ parts) = (middle : ℕ) × (Rise low middle part) × (PartsRise middle high parts)
+
+parts_up : (low high : ℕ) (parts : List (List PlacedByte)) → PartsRise low high parts → low ≤ high
+parts_up low high [] r = r
+parts_up low high (part ∷ parts) r =
+    let here = rise_up low r.0 part r.1 in
+    let later = parts_up r.0 high parts r.2 in
+    omega (arith, here, later)
+
+parts_take : (n low high : ℕ) (parts : List (List PlacedByte)) → PartsRise low high parts → PartsRise low high (take n parts)
+parts_take zero low high [] r = r
+parts_take zero low high (part ∷ parts) r = parts_up low high (part ∷ parts) r
+parts_take (suc n) low high [] r = r
+parts_take (suc n) low high (part ∷ parts) r = (r.0, r.1, parts_take n r.0 high parts r.2)
+
+looked_up : (low high : ℕ) (b : Bool) (n : ℕ) (parts : List (List PlacedByte)) → PartsRise low high parts → PartsRise low high (cond b parts (take n parts))
+looked_up low high true n parts r = r
+looked_up low high false n parts r = parts_take n low high parts r
+
+with_first_rises : (low high : ℕ) (x : PlacedByte) (parts : List (List PlacedByte)) → low ≤ x.1 → PartsRise (suc x.1) high parts → PartsRise low high (with_first x parts)
+with_first_rises low high x [] le r = (suc x.1, (le, omega arith), r)
+with_first_rises low high x (part ∷ parts) le r = (r.0, (le, r.1), r.2)
+
+names_by : (low high : ℕ) (b : Bool) (x : PlacedByte) (names : List (List PlacedByte)) → low ≤ x.1 → PartsRise (suc x.1) high names
+    → PartsRise low high (cond b ([] ∷ names) (with_first x names))
+names_by low high true x names le r = (suc x.1, omega arith, r)
+names_by low high false x names le r = with_first_rises low high x names le r
+
+names_rise : (low high : ℕ) (field : List PlacedByte) → Rise low high field → PartsRise low high (names_of field)
+names_rise low high [] r = (low, omega arith, r)
+names_rise low high (x ∷ xs) r = names_by low high (x.0 == 124) x (names_of xs) r.0 (names_rise (suc x.1) high xs r.1)
+
+last_by : (low high : ℕ) (b : Bool) (x : PlacedByte) → low ≤ x.1 → suc x.1 ≤ high → PartsRise low high (cond b ([] ∷ [] ∷ []) ((x ∷ []) ∷ []))
+last_by low high true x le less = (suc x.1, omega arith, (suc x.1, omega arith, less))
+last_by low high false x le less = (suc x.1, (le, omega arith), less)
+
+items_by : (low high : ℕ) (ends takes : Bool) (x y : PlacedByte) (rest pair one : List (List PlacedByte)) → low ≤ x.1 → suc x.1 ≤ y.1
+    → PartsRise (suc x.1) high rest → PartsRise (suc y.1) high pair → PartsRise (suc x.1) high one
+    → PartsRise low high (cond ends ([] ∷ rest) (cond takes (with_first x (with_first y pair)) (with_first x one)))
+items_by low high true takes x y rest pair one le less p q r = (suc x.1, omega arith, p)
+items_by low high false true x y rest pair one le less p q r = with_first_rises low high x (with_first y pair) le (with_first_rises (suc x.1) high y pair less q)
+items_by low high false false x y rest pair one le less p q r = with_first_rises low high x one le r
+
+items_rise : (low high before : ℕ) (text : List PlacedByte) → Rise low high text → PartsRise low high (items_after before text)
+items_rise low high before [] r = (low, omega arith, r)
+items_rise low high before (x ∷ []) r = last_by low high (x.0 == 44) x r.0 r.1
+items_rise low high before (x ∷ (y ∷ ys)) r =
+    items_by low high (x.0 == 44) (takes before x.0 y.0) x y (items_after 44 (y ∷ ys)) (items_after y.0 ys) (items_after x.0 (y ∷ ys)) r.0 r.1.0
+    (items_rise (suc x.1) high 44 (y ∷ ys) r.1) (items_rise (suc y.1) high y.0 ys r.1.1) (items_rise (suc x.1) high x.0 (y ∷ ys) r.1)
+
+-- ---- parts of parts
+
+front_by : (low high : ℕ) (b : Bool) (x : PlacedByte) (xs rest : List PlacedByte) → Rise low high (x ∷ xs) → Rise low high rest → Rise low high (cond b rest (x ∷ xs))
+front_by low high true x xs rest r h = h
+front_by low high false x xs rest r h = r
+
+front_rises : (low high : ℕ) (part : List PlacedByte) → Rise low high part → Rise low high (without_front part)
+front_rises low high [] r = r
+front_rises low high (x ∷ xs) r =
+    front_by low high (is_white_space x.0) x xs (without_front xs) r
+    (rise_lower low (suc x.1) high (without_front xs) (omega (arith, r.0)) (front_rises (suc x.1) high xs r.1))
+
+end_by : (low high : ℕ) (b : Bool) (x : PlacedByte) (rest : List PlacedByte) → low ≤ high → Rise low high (x ∷ rest) → Rise low high (cond b [] (x ∷ rest))
+end_by low high true x rest le r = le
+end_by low high false x rest le r = r
+
+end_rises : (low high : ℕ) (part : List PlacedByte) → Rise low high part → Rise low high (without_end part)
+end_rises low high [] r = r
+end_rises low high (x ∷ xs) r =
+    end_by low high (list_all is_white_space (bytes (x ∷ xs))) x (without_end xs) (rise_up low high (x ∷ xs) r) (r.0, end_rises (suc x.1) high xs r.1)
+
+drop_rises : (n low high : ℕ) (part : List PlacedByte) → Rise low high part → Rise low high (drop n part)
+drop_rises zero low high [] r = r
+drop_rises zero low high (x ∷ xs) r = r
+drop_rises (suc n) low high [] r = r
+drop_rises (suc n) low high (x ∷ xs) r = drop_rises n low high xs (rise_lower low (suc x.1) high xs (omega (arith, r.0)) r.1)
+
+fronts_rise : (low high : ℕ) (parts : List (List PlacedByte)) → PartsRise low high parts → PartsRise low high (map without_front parts)
+fronts_rise low high [] r = r
+fronts_rise low high (part ∷ parts) r = (r.0, front_rises low r.0 part r.1, fronts_rise r.0 high parts r.2)
+
+-- ---- spans that rise
+
+abbrev SpansRise : ℕ → ℕ → List Part → Type 0
+SpansRise low high [] = low ≤ high
+SpansRise low high (span ∷ spans) = (low ≤ span.start) × (span.start ≤ span.end) × (SpansRise span.end high spans)
+
+spans_lower : (low less high : ℕ) (spans : List Part) → low ≤ less → SpansRise less high spans → SpansRise low high spans
+spans_lower low less high [] le r = omega (arith, r)
+spans_lower low less high (span ∷ spans) le r = (omega (arith, r.0), r.1, r.2)
+
+spans_append : (low middle high : ℕ) (one other : List Part) → SpansRise low middle one → SpansRise middle high other → SpansRise low high (one ++ other)
+spans_append low middle high [] other p q = spans_lower low middle high other p q
+spans_append low middle high (span ∷ spans) other p q = (p.0, p.1, spans_append span.end middle high spans other p.2 q)
+
+ends_rise : (low high : ℕ) (text : List PlacedByte) → Rise low high text → (low ≤ end_of low text) × (end_of low text ≤ high)
+ends_rise low high [] r = (omega arith, r)
+ends_rise low high (x ∷ xs) r = let h = ends_rise (suc x.1) high xs r.1 in (omega (arith, r.0, h.0), h.1)
+
+span_rises : (low high : ℕ) (part : List PlacedByte) → Rise low high part → SpansRise low high (option_to_list (spanned part))
+span_rises low high [] r = r
+span_rises low high (x ∷ xs) r = let h = ends_rise (suc x.1) high xs r.1 in (r.0, omega (arith, h.0), h.1)
+
+span_by : (low high : ℕ) (b : Bool) (spans : List Part) → low ≤ high → SpansRise low high spans → SpansRise low high (cond b spans [])
+span_by low high true spans le r = r
+span_by low high false spans le r = le
+
+own_rises : (low high : ℕ) (name : List ℕ) (parts : List (List PlacedByte)) → PartsRise low high parts → SpansRise low high (flat_map (span_if name) parts)
+own_rises low high name [] r = r
+own_rises low high name (part ∷ parts) r =
+    let here = span_by low r.0 (bytes_eq (bytes part) name) (option_to_list (spanned part)) (rise_up low r.0 part r.1) (span_rises low r.0 part r.1) in
+    spans_append low r.0 high (span_if name part) (flat_map (span_if name) parts) here (own_rises r.0 high name parts r.2)
+
+-- where uses are
+abbrev places_of : List UseSeen → List Part
+places_of uses = map (λ (found : UseSeen). found.span) uses
+
+use_rises : (low high : ℕ) (name : List PlacedByte) → Rise low high name → SpansRise low high (places_of (use_in (Some name)))
+use_rises low high [] r = r
+use_rises low high (x ∷ xs) r = let h = ends_rise (suc x.1) high xs r.1 in (r.0, omega (arith, h.0), h.1)
+
+use_by : (low high : ℕ) (b : Bool) (name : List PlacedByte) → Rise low high name → SpansRise low high (places_of (use_in (cond b (Some name) None)))
+use_by low high true name r = use_rises low high name r
+use_by low high false name r = rise_up low high name r
+
+item_rises : (low high : ℕ) (item : List PlacedByte) → Rise low high item → SpansRise low high (places_of (use_in (used_name item)))
+item_rises low high item r =
+    let value = without_front (drop 4 item) in
+    use_by low high (begins_with (codes "use=") item) (without_end value) (end_rises low high value (front_rises low high (drop 4 item) (drop_rises 4 low high item r)))
+
+uses_rise : (low high : ℕ) (items : List (List PlacedByte)) → PartsRise low high items
+    → SpansRise low high (places_of (flat_map (λ item. use_in (used_name item)) items))
+uses_rise low high [] r = r
+uses_rise low high (item ∷ items) r =
+    let here = use_in (used_name item) in
+    let later = flat_map (λ item. use_in (used_name item)) items in
+    let joined = spans_append low r.0 high (places_of here) (places_of later) (item_rises low r.0 item r.1) (uses_rise r.0 high items r.2) in
+    subst (SpansRise low high) (sym (map-append (λ (found : UseSeen). found.span) here later)) joined
+
+kept_by : (low high : ℕ) (b : Bool) (found : UseSeen) (rest : List UseSeen) → low ≤ found.span.start → found.span.start ≤ found.span.end
+    → SpansRise found.span.end high (places_of rest) → SpansRise low high (places_of (cond b (found ∷ rest) rest))
+kept_by low high true found rest le less r = (le, less, r)
+kept_by low high false found rest le less r = spans_lower low found.span.end high (places_of rest) (omega arith) r
+
+kept_rise : (low high : ℕ) (test : UseSeen → Bool) (uses : List UseSeen) → SpansRise low high (places_of uses) → SpansRise low high (places_of (filter test uses))
+kept_rise low high test [] r = r
+kept_rise low high test (found ∷ uses) r =
+    kept_by low high (test found) found (filter test uses) r.0 r.1 (kept_rise found.span.end high test uses r.2)
+
+-- ---- the parts of a block
+
+sought_rise : (blocks : List (List ℕ)) (owner at : ℕ) (name block : List ℕ) → SpansRise 0 (length block) (parts_in blocks (one_name owner name) at block)
+sought_rise blocks owner at name block =
+    let text = folded_of block in
+    let end = length block in
+    let cut = halves 0 end text (rise_folded block) in
+    let names = names_of (field_of text) in
+    let named = looked_up 0 cut.0 (length names == 1) (length names - 1) names (names_rise 0 cut.0 (field_of text) cut.1) in
+    let head = span_by 0 cut.0 (owner == at) (own_spans name block) (rise_up 0 cut.0 (field_of text) cut.1) (own_rises 0 cut.0 name (lookup_parts names) named) in
+    let items = fronts_rise cut.0 end (items_after 44 (rest_of text)) (items_rise cut.0 end 44 (rest_of text) cut.2) in
+    let uses = uses_rise cut.0 end (map without_front (items_after 44 (rest_of text))) items in
+    let kept = kept_rise cut.0 end (λ (found : UseSeen). is_sought blocks (one_name owner name) found.name) (uses_of block) uses in
+    spans_append 0 cut.0 end (cond (owner == at) (own_spans name block) []) (used_parts blocks (one_name owner name) block) head kept
+
+-- ---- the ranges of a block
+
+abbrev Follows : Position → Position → List Range → Type 0
+Follows low high [] = IsUpTo low high
+Follows low high (range ∷ ranges) = IsUpTo low range.start × IsUpTo range.start range.end × Follows range.end high ranges
+
+follows_lower : (low less high : Position) (ranges : List Range) → IsUpTo low less → Follows less high ranges → Follows low high ranges
+follows_lower low less high [] le r = up_up low less high le r
+follows_lower low less high (range ∷ ranges) le r = (up_up low less range.start le r.0, r.1, r.2)
+
+follows_append : (low middle high : Position) (one other : List Range) → Follows low middle one → Follows middle high other → Follows low high (one ++ other)
+follows_append low middle high [] other p q = follows_lower low middle high other p q
+follows_append low middle high (range ∷ ranges) other p q = (p.0, p.1, follows_append range.end middle high ranges other p.2 q)
+
+follows_in : (line : ℕ) (block : List ℕ) (low high : ℕ) (spans : List Part) → SpansRise low high spans
+    → Follows (place_in line block low) (place_in line block high) (map (range_in line block) spans)
+follows_in line block low high [] r = rises_in line block low high r
+follows_in line block low high (span ∷ spans) r =
+    (rises_in line block low span.start r.0, rises_in line block span.start span.end r.1, follows_in line block span.end high spans r.2)
+
+-- ---- the end of a block is the start of the next line
+
+-- the start of a line
+abbrev start_of : ℕ → Position
+start_of line = record { line = line; column = 0 }
+
+-- a place after a byte is at the start of a line if the byte ends one
+abbrev IsStart : ℕ → Position → Type 0
+IsStart before place = before ≡ 10 → place.column ≡ 0
+
+step_line : (newline ends : Bool) (place : Position) (n : ℕ)
+    → (cond newline (record { line = place.line + 1; column = 0 }) (cond ends place (record { line = place.line; column = place.column + n }))).line ≡ place.line + cond newline 1 0
+step_line true ends place n = refl
+step_line false true place n = omega arith
+step_line false false place n = omega arith
+
+step_start : (newline ends : Bool) (place : Position) (n : ℕ) → newline ≡ true
+    → (cond newline (record { line = place.line + 1; column = 0 }) (cond ends place (record { line = place.line; column = place.column + n }))).column ≡ 0
+step_start true ends place n e = refl
+step_start false ends place n e = absurd cc
+
+lines_more : (byte : ℕ) (bytes : List ℕ) → line_count (byte ∷ bytes) ≡ cond (byte == 10) 1 0 + line_count bytes
+lines_more byte bytes = sum_by-cons (λ (x : ℕ). cond (x == 10) 1 0) byte bytes
+
+ends_at : (place : Position) (before : ℕ) (text : List ℕ) → last_byte before text ≡ 10 → IsStart before place
+    → ((place_after place text (length text)).line ≡ place.line + line_count text) × ((place_after place text (length text)).column ≡ 0)
+ends_at place before [] last start = (omega arith, start last)
+ends_at place before (byte ∷ bytes) last start =
+    let next = step_over (byte ∷ bytes) place in
+    let begins : IsStart byte next = λ e. step_start (byte == 10) (ends_line (byte ∷ bytes)) place (units byte) (eq-eqb byte 10 e) in
+    let h = ends_at next byte bytes last begins in
+    (omega (arith, h.0, step_line (byte == 10) (ends_line (byte ∷ bytes)) place (units byte), lines_more byte bytes), h.1)
+
+block_end : (line : ℕ) (block : List ℕ) → last_byte 0 block ≡ 10 → IsUpTo (place_in line block (length block)) (start_of (line + line_count block))
+block_end line block last =
+    let h = ends_at (start_of 0) 0 block last (λ e. refl) in
+    inr (omega (arith, h.0), omega (arith, h.1))
+
+block_start : (line : ℕ) (block : List ℕ) → IsUpTo (start_of line) (place_in line block 0)
+block_start line [] = inr (omega arith, omega arith)
+block_start line (byte ∷ bytes) = inr (omega arith, omega arith)
+
+-- ---- all blocks
+
+all_follow : (blocks : List (List ℕ)) (owner : ℕ) (name : List ℕ) (at line : ℕ) (rest : List (List ℕ)) → All IsShortBlock rest
+    → (high : Position) × Follows (start_of line) high (ranges_from blocks (one_name owner name) at line rest)
+all_follow blocks owner name at line [] short = (start_of line, inr (refl, omega arith))
+all_follow blocks owner name at line (block ∷ rest) short =
+    let sought = one_name owner name in
+    let next = line + line_count block in
+    let end = place_in line block (length block) in
+    let later = all_follow blocks owner name (suc at) next rest (All-tail IsShortBlock block rest short) in
+    let here = ranges_in blocks sought at line block in
+    let before = follows_lower (start_of line) (place_in line block 0) end here (block_start line block)
+    (follows_in line block 0 (length block) (parts_in blocks sought at block) (sought_rise blocks owner at name block)) in
+    let after = follows_lower end (start_of next) later.0 (ranges_from blocks sought (suc at) next rest)
+    (block_end line block (All-head IsShortBlock block rest short).1.ends) later.1 in
+    (later.0, follows_append (start_of line) end later.0 here (ranges_from blocks sought (suc at) next rest) before after)
+
+from_start : (low high : Position) (ranges : List Range) → Follows low high ranges → FollowFrom low ranges
+from_start low high [] r = tt
+from_start low high (range ∷ ranges) r = (r.0, r.1, from_start range.end high ranges r.2)
+
+from_first : (low less : Position) (ranges : List Range) → IsUpTo low less → FollowFrom less ranges → FollowFrom low ranges
+from_first low less [] le r = tt
+from_first low less (range ∷ ranges) le r = (up_up low less range.start le r.0, r.1, r.2)
+
+line_up : (line : ℕ) → IsUpTo (start_of 0) (start_of line)
+line_up zero = inr (refl, omega arith)
+line_up (suc line) = inl (omega arith)
+
+-- ---- what is renamed
+
+abbrev IsInOrder : List Range → Type 0
+IsInOrder ranges = FollowFrom (start_of 0) ranges
+
+ranges_follow : HeldBlocksFit → (text : List ℕ) (owner : ℕ) (name : List ℕ) → IsInOrder (ranges_of text (one_name owner name))
+ranges_follow fit text owner name =
+    let line = head_line text in
+    let ranges = ranges_of text (one_name owner name) in
+    let all = all_follow (held text) owner name 0 line (held text) (fit text).1 in
+    from_first (start_of 0) (start_of line) ranges (line_up line) (from_start (start_of line) all.0 ranges all.1)
+
+of_failure : HeldBlocksFit → (text : List ℕ) (at : ℕ) (name : List ℕ) (failure : Option Failure) (parts : List Range)
+    → option_map_or refuses failure (renames (ranges_of text (one_name at name))) ≡ renames parts → IsInOrder parts
+of_failure fit text at name None parts e = let same : ranges_of text (one_name at name) ≡ parts = cc in subst IsInOrder same (ranges_follow fit text at name)
+of_failure fit text at name (Some failure) parts e = absurd cc
+
+of_owner : HeldBlocksFit → (text new name : List ℕ) (owner : Option ℕ) (parts : List Range)
+    → option_map_or (λ at. renamed text at name new) owner renames_nothing ≡ renames parts → IsInOrder parts
+of_owner fit text new name None parts e = absurd cc
+of_owner fit text new name (Some at) parts e = of_failure fit text at name (failure_of (held text) at new) parts e
+
+of_touched : HeldBlocksFit → (text new : List ℕ) (found : Option TouchedSeen) (parts : List Range)
+    → option_map_or (renamed_touched text new) found renames_nothing ≡ renames parts → IsInOrder parts
+of_touched fit text new None parts e = absurd cc
+of_touched fit text new (Some touched) parts e = of_owner fit text new (name_of touched.subject) (owner_of (held text) touched) parts e
+
+pub renamed_follow : HeldBlocksFit → RenamedPartsFollow
+renamed_follow fit text place new parts e = of_touched fit text new (touched_at text place) parts e

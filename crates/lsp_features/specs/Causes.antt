@@ -1,0 +1,31 @@
+-- Why a block has no entry (own).
+use Rattle.std.specs.Prelude.{ℕ, ◌≡◌, ◌↔◌, nat_eq, List, Option, Some, None, IsSome, option_map, slice_get, Bool, ◌&&◌}
+use Rattle.std.specs.List.{find}
+use Rattle.ti_source.specs.Code.{is_error}
+use Rattle.ti_source.specs.Reading.{Reading}
+use Rattle.base_meaning.specs.Compiled.{entry}
+use Rattle.base_meaning.specs.Faults.{SourceFault, faults}
+use Rattle.base_meaning.specs.Owner.{readings}
+use Rattle.tools_sources.specs.Sources.{first_line}
+use Rattle.lsp_document.specs.Diagnostics.{Shown, fault_diagnostic}
+use Rattle.lsp_document.specs.Documents.{held}
+
+-- whether a fault is an error of the block at that position
+abbrev pub is_error_of : ℕ → SourceFault → Bool
+is_error_of at fault = nat_eq fault.block at && is_error fault.code
+
+-- why the block at that position has no entry: the first error that the report has of it
+abbrev pub cause_of : List Reading → ℕ → Option SourceFault
+cause_of blocks at = find (is_error_of at) (faults blocks)
+
+-- the same in a text, as the diagnostic that is published for it
+abbrev pub cause_told : List ℕ → ℕ → Option Shown
+cause_told text at = option_map (fault_diagnostic (held text) (first_line text)) (cause_of (readings (held text)) at)
+
+-- ---- law
+
+-- a block has no entry exactly if the report has an error of it
+abbrev pub MissingEntriesHaveACause : Type 0
+MissingEntriesHaveACause =
+    (blocks : List Reading) (at : ℕ) (block : Reading) → slice_get blocks at ≡ Some block
+    → (entry blocks block ≡ None) ↔ IsSome (cause_of blocks at)

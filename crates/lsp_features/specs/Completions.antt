@@ -1,0 +1,80 @@
+-- What an editor offers to complete a word with (own; Language Server Protocol 3.17, "Completion
+-- Request").
+use Rattle.std.specs.Prelude.{ℕ, suc, List, [], ◌∷◌, ◌++◌, flat_map, map, Option, option_and_then, option_map, if◌then◌else◌}
+use Rattle.std.specs.String.{string_bytes}
+use Rattle.ti_source.specs.Parsing.{reading_of_text}
+use Rattle.ti_source.specs.Reading.{Reading}
+use Rattle.base_meaning.specs.ItemLaws.{IsDistinctOf}
+use Rattle.base_meaning.specs.OwnNames.{own_names}
+use Rattle.base_meaning.specs.Owner.{readings}
+use Rattle.base_meaning.specs.Report.{shown_detail}
+use Rattle.lsp_spans.specs.Words.{word_before}
+use Rattle.lsp_spans.specs.declared.words.Word.{Word}
+use Rattle.lsp_types.specs.declared.places.Position.{Position}
+use Rattle.lsp_types.specs.declared.places.Range.{Range}
+use Rattle.lsp_document.specs.Diagnostics.{text_at}
+use Rattle.lsp_document.specs.Documents.{held}
+use Rattle.lsp_features.specs.Spots.{range_in, spot_at}
+use Rattle.lsp_features.specs.declared.completions.Completion.{Completion}
+use Rattle.lsp_features.specs.declared.completions.Offers.{Offers}
+use Rattle.lsp_features.specs.declared.completions.Offers.TheVariants as offers
+use Rattle.lsp_features.specs.declared.spots.Spot.{Spot}
+
+-- what is offered, as plain data: the names of capabilities, or these
+pub data OffersSeen : Type 0 where
+  offers_capabilities : OffersSeen
+  offers_names : List (List ℕ) → OffersSeen
+
+-- a completion as plain data: the word that is completed, up to the cursor, and what is offered
+pub record CompletionSeen : Type 0 where
+  pub range : Range
+  pub offers : OffersSeen
+
+-- offers that hold their names in memory, as plain data
+abbrev pub offers_seen : Offers → OffersSeen
+offers_seen offers.Capabilities = offers_capabilities
+offers_seen (offers.Names names) = offers_names (map string_bytes names.items)
+
+-- a completion that holds its names in memory, as plain data
+abbrev pub completion_seen : Completion → CompletionSeen
+completion_seen completion = record { range = completion.range; offers = offers_seen completion.offers }
+
+-- the lookup names that these blocks own, of which the first is at that position
+abbrev pub names_from : List (List ℕ) → ℕ → List (List ℕ) → List (List ℕ)
+names_from blocks at [] = []
+names_from blocks at (block ∷ rest) = own_names (readings blocks) at (reading_of_text block).names ++ names_from blocks (suc at) rest
+
+-- the lookup names of all blocks, each once: where its owner is
+abbrev pub all_names : List (List ℕ) → List (List ℕ)
+all_names blocks = names_from blocks 0 blocks
+
+-- the lookup names of all blocks, one block after the other
+abbrev pub lookup_names : List (List ℕ) → List (List ℕ)
+lookup_names blocks = flat_map (λ (block : Reading). block.names) (readings blocks)
+
+-- they are offered each once, in the order of their first places
+abbrev pub NamesAreOfferedOnce : Type 0
+NamesAreOfferedOnce = (blocks : List (List ℕ)) → IsDistinctOf (lookup_names blocks) (all_names blocks)
+
+-- what is offered for a word: names as a report shows them
+abbrev pub offers_for : List (List ℕ) → Word → OffersSeen
+offers_for blocks word = if word.used then offers_names (map shown_detail (all_names blocks)) else offers_capabilities
+
+-- what is offered for a word of a block that begins on that line, which ends at that offset
+abbrev pub completion_for : List (List ℕ) → ℕ → List ℕ → ℕ → Word → CompletionSeen
+completion_for blocks line block offset word = record {
+  range = range_in line block (record { start = word.start; end = offset });
+  offers = offers_for blocks word;
+}
+
+-- what is offered at an offset of a block that begins on that line
+abbrev pub completion_at : List (List ℕ) → ℕ → List ℕ → ℕ → Option CompletionSeen
+completion_at blocks line block offset = option_map (completion_for blocks line block offset) (word_before block offset)
+
+-- what is offered at a place in a block
+abbrev pub completion_in : List (List ℕ) → Spot → Option CompletionSeen
+completion_in blocks spot = completion_at blocks spot.line (text_at blocks spot.at) spot.offset
+
+-- what is offered at a place of a text
+abbrev pub completion_of : List ℕ → Position → Option CompletionSeen
+completion_of text place = option_and_then (completion_in (held text)) (spot_at text place)

@@ -1,0 +1,132 @@
+//! What an editor offers to complete a word with.
+ghost use Rattle.std.specs.Prelude.{◌≡◌, ◌<◌, ◌≤◌, ◌+◌, ◌++◌, ◌^◌, IfOk, OnOk, length, map, option_map};
+ghost use Rattle.std.specs.String.{string_bytes};
+ghost use Rattle.ti_source.specs.Parsing.{reading_of_text};
+ghost use Rattle.base_meaning.specs.OwnNames.{own_names};
+ghost use Rattle.base_meaning.specs.Owner.{readings};
+ghost use Rattle.base_meaning.specs.Report.{shown_detail};
+ghost use Rattle.lsp_features.specs.Completions as spec;
+ghost use Rattle.lsp_features.specs.Completions.{all_names, completion_at, completion_seen, offers_for, offers_seen};
+ghost use Rattle.lsp_document.specs.Diagnostics.{text_at};
+
+use crate::names::is_owner;
+use crate::spots::{range_in, spot_at};
+use base_meaning::names_are_distinct;
+use lsp_document::{Document, shown_detail};
+use lsp_spans::{Part, Word, word_before};
+use lsp_types::{Position, Range};
+use std::alloc::{AllocError, Global};
+use ti_base::{Database, distinct_names};
+
+/// What is offered.
+#[derive(Debug, Drop)]
+pub enum Offers {
+    /// The names of capabilities.
+    Capabilities,
+    /// These names, in ASCII: the lookup names of all blocks, each once, where its owner is.
+    Names(Vec<String>),
+}
+
+/// What completes a word.
+#[derive(Debug, Drop)]
+pub struct Completion {
+    /// The word, as far as it is typed: it ends at the cursor.
+    pub range: Range,
+    /// What is offered.
+    pub offers: Offers,
+}
+
+// Adds the lookup names that a block owns, each once.
+fn push_names(
+    alloc: Global,
+    names: &mut Vec<String>,
+    database: &Database,
+    at: usize,
+) -> Result<(), AllocError>
+    requires { at < length database.now }
+    ensures { OnOk result (map string_bytes names.new.items
+        ≡ map string_bytes names.old.items ++ map shown_detail (own_names (readings database.now) at (reading_of_text (text_at database.now at)).names)) }
+{
+    let once = distinct_names(alloc, database.names(at))?;
+    for name in &once {
+        let name = name.as_slice();
+        if is_owner(database, name, at) {
+            names.push(shown_detail(alloc, name)?)?;
+        }
+    }
+    Ok(())
+}
+
+// The lookup names of all blocks, each once.
+fn all_names(alloc: Global, database: &Database) -> Result<Vec<String>, AllocError>
+    ensures { IfOk result (λ names. map string_bytes names.items ≡ map shown_detail (all_names database.now)) }
+{
+    let mut names = Vec::new(alloc);
+    for at in 0..database.len() {
+        push_names(alloc, &mut names, database, at)?;
+    }
+    Ok(names)
+}
+
+// What is offered for a word.
+fn offers_for(alloc: Global, database: &Database, word: Word) -> Result<Offers, AllocError>
+    ensures { IfOk result (λ offers. offers_seen offers ≡ offers_for database.now word) }
+{
+    if word.used {
+        Ok(Offers::Names(all_names(alloc, database)?))
+    } else {
+        Ok(Offers::Capabilities)
+    }
+}
+
+// What is offered at an offset of a block that begins on that line.
+fn completion_at(
+    alloc: Global,
+    database: &Database,
+    line: usize,
+    block: &[u8],
+    offset: usize,
+) -> Result<Option<Completion>, AllocError>
+    requires { line + length block.now < 2 ^ 64 }
+    ensures { IfOk result (λ found. option_map completion_seen found ≡ completion_at database.now line block.now offset) }
+{
+    let Some(word) = word_before(alloc, block, offset)? else {
+        return Ok(None);
+    };
+    let part = Part {
+        start: word.start,
+        end: offset,
+    };
+    Ok(Some(Completion {
+        range: range_in(line, block, part),
+        offers: offers_for(alloc, database, word)?,
+    }))
+}
+
+/// What completes the word before a place: the name of an item, or the name that an item `use=`
+/// gives; `None` in a comment, a names field and a value.
+///
+/// # Errors
+/// Out of memory.
+pub fn completion_of(
+    alloc: Global,
+    document: &Document,
+    place: Position,
+) -> Result<Option<Completion>, AllocError>
+    ensures { IfOk result (λ found. option_map completion_seen found ≡ spec.completion_of document.now place) }
+{
+    let Some(spot) = spot_at(document, place) else {
+        return Ok(None);
+    };
+    let database = document.database();
+    let block = database.text(spot.at);
+    completion_at(alloc, database, spot.line, block, spot.offset)
+}
+
+/// A law, with no code: the names that are offered are the lookup names of all blocks, each once,
+/// in the order of their first places.
+pub fn names_are_offered_once()
+    ensures { spec.NamesAreOfferedOnce }
+{
+    names_are_distinct();
+}

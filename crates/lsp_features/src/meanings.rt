@@ -1,0 +1,107 @@
+//! What an item says, as it is read.
+ghost use Rattle.std.specs.Prelude.{◌≡◌, IfOk, Some, map, option_map};
+ghost use Rattle.std.specs.String.{string_bytes};
+ghost use Rattle.ti_source.specs.Cutting.{OneBlock};
+ghost use Rattle.ti_source.specs.Reading.{item_of, said_of};
+ghost use Rattle.lsp_features.specs.Meanings as spec;
+ghost use Rattle.lsp_features.specs.Meanings.{meaning_seen, said_at};
+
+use lsp_spans::ordinal_at;
+use std::alloc::{AllocError, Global};
+use ti_source::{Item, What, escape, parse};
+
+/// What an item says of its capability.
+#[derive(Debug, Drop)]
+pub enum Meaning {
+    /// Nothing, since it is not accepted.
+    Nothing,
+    /// The boolean is set.
+    Set,
+    /// The number has this value.
+    Number(u32),
+    /// The string has the bytes that are spelled so, in ASCII.
+    Text(String),
+    /// The capability is cancelled.
+    Cancelled,
+}
+
+// A byte as it is shown.
+fn printed(byte: u8) -> u8
+    ensures { result ≡ spec.printed byte }
+{
+    match byte {
+        b' '..=b'~' => byte,
+        _ => b'?',
+    }
+}
+
+// Bytes as they are shown.
+fn all_printed(alloc: Global, bytes: &[u8]) -> Result<Vec<u8>, AllocError>
+    ensures { IfOk result (λ shown. shown.items ≡ map spec.printed bytes.now) }
+{
+    let mut shown = Vec::with_capacity(alloc, bytes.len())?;
+    for byte in bytes {
+        shown.push(printed(*byte))?;
+    }
+    Ok(shown)
+}
+
+// The bytes of a string as the source spells them.
+fn spelled(alloc: Global, value: &[u8]) -> Result<String, AllocError>
+    ensures { IfOk result (λ text. string_bytes text ≡ spec.spelled value.now) }
+{
+    let spelling = escape(alloc, value)?;
+    let shown = all_printed(alloc, &spelling)?;
+    match String::from_utf8(shown) {
+        Ok(shown) => Ok(shown),
+        Err(_) => unreachable!(),
+    }
+}
+
+// What the accepted item of that place among the items says.
+fn said_at(items: &[Item], ordinal: usize) -> Option<&What>
+    ensures { option_map (λ what. said_of what.now) result ≡ said_at ordinal (map item_of items.now) }
+{
+    for item in items {
+        if item.ordinal == ordinal {
+            return Some(&item.what);
+        }
+    }
+    None
+}
+
+// What an accepted item means.
+fn meaning_of(alloc: Global, what: &What) -> Result<Meaning, AllocError>
+    ensures { IfOk result (λ found. meaning_seen found ≡ spec.meaning_of (Some (said_of what.now))) }
+{
+    match what {
+        What::Flag(_) => Ok(Meaning::Set),
+        What::Number(_, number) => Ok(Meaning::Number(*number)),
+        What::Text(_, value) => Ok(Meaning::Text(spelled(alloc, value.as_slice())?)),
+        What::Cancel(_) => Ok(Meaning::Cancelled),
+        What::Import(_) => Ok(Meaning::Nothing),
+    }
+}
+
+// What the item of that place in a block means.
+fn meaning_in(alloc: Global, block: &[u8], ordinal: usize) -> Result<Meaning, AllocError>
+    requires { OneBlock block.now }
+    ensures { IfOk result (λ found. meaning_seen found ≡ spec.meaning_of (spec.saying_of block.now ordinal)) }
+{
+    let parsed = parse(alloc, block)?;
+    match said_at(&parsed.items, ordinal) {
+        Some(what) => meaning_of(alloc, what),
+        None => Ok(Meaning::Nothing),
+    }
+}
+
+/// What the item that an offset of a block is on means.
+pub(crate) fn meaning_at(alloc: Global, block: &[u8], offset: usize) -> Result<Meaning, AllocError>
+    requires { OneBlock block.now }
+    ensures { IfOk result (λ found. meaning_seen found ≡ spec.meaning_at block.now offset) }
+{
+    match ordinal_at(alloc, block, offset)? {
+        Some(ordinal) => meaning_in(alloc, block, ordinal),
+        None => Ok(Meaning::Nothing),
+    }
+}

@@ -1,0 +1,146 @@
+//! What an editor renames: a name of an entry, with its uses.
+ghost use Rattle.std.specs.Prelude.{◌≡◌, ◌^◌, ◌+◌, ◌<◌, IfOk, length, option_map};
+ghost use Rattle.base_meaning.specs.Owner.{owner, readings};
+ghost use Rattle.lsp_document.specs.Documents.{held};
+ghost use Rattle.lsp_features.specs.Renaming as spec;
+ghost use Rattle.lsp_features.specs.Renaming.{block_with, can_be_given, failure_of, renamed, renaming_seen};
+
+use crate::names::{Sought, name_of, owner_of, push_all, touched_at};
+use crate::spots::{head_line, range_in, spot_at};
+use lsp_document::{Document, held_blocks_fit};
+use lsp_spans::{subject_at, uses_of};
+use lsp_types::{Failure, Position, Range};
+use std::alloc::{AllocError, Global};
+use ti_base::Database;
+use ti_source::is_lookup_name;
+
+/// What comes of a rename.
+#[derive(Drop)]
+pub enum Renaming {
+    /// Nothing is renamed: the place is on no name, or no block has the name.
+    Nothing,
+    /// The new name is refused.
+    Refused(Failure),
+    /// These parts of the document get the new name, in the order of the text.
+    Parts(Vec<Range>),
+}
+
+// A block that has a name and uses it.
+fn block_with(alloc: Global, name: &[u8]) -> Result<Vec<u8>, AllocError>
+    ensures { IfOk result (λ block. block.items ≡ block_with name.now) }
+{
+    let mut block = Vec::from_slice(alloc, name)?;
+    block.extend_from_slice(b",use=")?;
+    block.extend_from_slice(name)?;
+    block.extend_from_slice(b",")?;
+    Ok(block)
+}
+
+// Whether a block can have a name and another can use it, as the source is written.
+fn can_be_given(alloc: Global, name: &[u8]) -> Result<bool, AllocError>
+    ensures { IfOk result (λ can. can ≡ can_be_given name.now) }
+{
+    if !is_lookup_name(name) {
+        return Ok(false);
+    }
+    let block = block_with(alloc, name)?;
+    let uses = uses_of(alloc, &block)?;
+    for found in &uses {
+        if found.name.as_slice() == name {
+            return Ok(true);
+        }
+    }
+    Ok(false)
+}
+
+// Why a name of the block at a position cannot be this one instead, if it cannot.
+fn failure_of(
+    alloc: Global,
+    database: &Database,
+    owner: usize,
+    name: &[u8],
+) -> Result<Option<Failure>, AllocError>
+    ensures { IfOk result (λ failure. failure ≡ failure_of database.now owner name.now) }
+{
+    if !can_be_given(alloc, name)? {
+        return Ok(Some(Failure::NoName));
+    }
+    match database.owner(name) {
+        Some(other) if other != owner => Ok(Some(Failure::NameTaken)),
+        _ => Ok(None),
+    }
+}
+
+// What comes of a rename of a name that the block at a position owns.
+fn renamed(
+    alloc: Global,
+    document: &Document,
+    owner: usize,
+    name: &[u8],
+    new: &[u8],
+) -> Result<Renaming, AllocError>
+    ensures { IfOk result (λ renaming. renaming_seen renaming ≡ renamed document.now owner name.now new.now) }
+{
+    let database = document.database();
+    if let Some(failure) = failure_of(alloc, database, owner, new)? {
+        return Ok(Renaming::Refused(failure));
+    }
+    let mut parts = Vec::new(alloc);
+    let sought = Sought::Name { owner, name };
+    push_all(alloc, &mut parts, database, sought, head_line(document))?;
+    Ok(Renaming::Parts(parts))
+}
+
+/// What comes of a rename at a place: the name that it is on, in a head or in an item `use=`, gets
+/// another name in the head of the block that owns it, and in all items `use=` of that name. The
+/// new name is refused if a source cannot give it, or if another block owns it.
+///
+/// # Errors
+/// Out of memory.
+pub fn renaming_of(
+    alloc: Global,
+    document: &Document,
+    place: Position,
+    new: &[u8],
+) -> Result<Renaming, AllocError>
+    ensures { IfOk result (λ renaming. renaming_seen renaming ≡ spec.renaming_of document.now place new.now) }
+{
+    let Some(touched) = touched_at(alloc, document, place)? else {
+        return Ok(Renaming::Nothing);
+    };
+    match owner_of(document.database(), &touched.subject) {
+        Some(owner) => renamed(alloc, document, owner, name_of(&touched.subject), new),
+        None => Ok(Renaming::Nothing),
+    }
+}
+
+/// The name that a rename at a place is of; `None` if nothing is renamed there.
+///
+/// # Errors
+/// Out of memory.
+pub fn renamable_at(
+    alloc: Global,
+    document: &Document,
+    place: Position,
+) -> Result<Option<Range>, AllocError>
+    ensures { IfOk result (λ found. found ≡ spec.renamable_at document.now place) }
+{
+    let Some(spot) = spot_at(document, place) else {
+        return Ok(None);
+    };
+    let block = document.database().text(spot.at);
+    let Some(touched) = subject_at(alloc, block, spot.offset)? else {
+        return Ok(None);
+    };
+    if owner_of(document.database(), &touched.subject).is_none() {
+        return Ok(None);
+    }
+    Ok(Some(range_in(spot.line, block, touched.name)))
+}
+
+/// A law, with no code: what is renamed is in the order of the text, and no two parts of it overlap.
+pub fn renamed_parts_follow()
+    ensures { spec.RenamedPartsFollow }
+{
+    held_blocks_fit();
+}

@@ -1,0 +1,133 @@
+-- A string with an odd escape, as it is spelled.
+use Rattle.std.proofs.Common.{◌≡◌, ℕ, suc, ◌<◌, ◌==◌, ◌||◌, Bool, true, false, Contains, List, [], ◌∷◌, ◌++◌, Some, append_assoc, refl, sym, ap, subst, inl, inr, arith, ◌∙◌}
+use Rattle.std.specs.Str.{bytes_eq}
+use Rattle.std.proofs.lemmas.Bool.{agree_below_at, cases_Bool, eqb-true}
+use Rattle.std.proofs.lemmas.List.{append-nil, map-append}
+use Rattle.std.proofs.lemmas.List.Elements.{All-tail}
+use Rattle.std.proofs.lemmas.Slice.Eq.{bytes_eq-Decides}
+use Rattle.ti_text.specs.Texts.{AreBytes, is_empty, last_byte}
+use Rattle.ti_caps.specs.Tables.{Capability, capability_named}
+use Rattle.ti_caps.specs.declared.capability.Kind.TheVariants.{Text}
+use Rattle.ti_spelling.specs.Spelling.{Spells, ValuesAreSound, WrittenSpells, byte_text, is_percent, spelling_of, written_from}
+use Rattle.ti_source.specs.Folding.{PlacedByte}
+use Rattle.ti_source.specs.Items.{HasNoMark, IsEnabled, Statement, bytes, claims_text, is_mark, text_item}
+use Rattle.ti_source.specs.Reading.{said_text}
+use Rattle.ti_source.specs.Verdicts.{accepted, accepted_odd, is_import}
+use Rattle.ti_source.specs.WhiteSpace.{without_trailing_space}
+use Rattle.ti_source.specs.inside.Items.{plain_statement, statement_by_mark, statement_with_value}
+use Rattle.ti_source.proofs.JudgingLaws.{judged_text}
+use Rattle.lsp_spans.specs.Parts.{end_of, spanned}
+use Rattle.lsp_fixes.specs.Edits.{EditSeen, advises_spelling, spelling_in, spellings}
+use Rattle.lsp_fixes.specs.Laws.{IsInOrder, IsRead, SpellingsReadBack, edited}
+use Rattle.lsp_fixes.specs.Shown.{shown, shown_byte}
+use Rattle.lsp_fixes.proofs.Exchanging.{all_left, edited_cut, no_edit, only_edit}
+use Rattle.lsp_fixes.proofs.Marks.{MarkSays, bytes_cut, cut_at_mark, has_mark, has_none, mark_enabled, mark_says, no_mark_left, value_cut}
+use Rattle.lsp_fixes.proofs.Verdicts.{odd_text, read_states}
+
+-- ---- a spelling prints, so it is shown as it is
+
+prints : (percent edge : Bool) (byte : ℕ) → Bool
+prints percent edge byte = bytes_eq (shown (byte_text percent edge byte)) (byte_text percent edge byte)
+
+prints_each : (percent edge : Bool) (byte : ℕ) → byte < 256 → prints percent edge byte ≡ true
+unfolding prints byte_text
+prints_each true true byte below = agree_below_at (prints true true) (λ b. true) 256 byte refl below
+prints_each true false byte below = agree_below_at (prints true false) (λ b. true) 256 byte refl below
+prints_each false true byte below = agree_below_at (prints false true) (λ b. true) 256 byte refl below
+prints_each false false byte below = agree_below_at (prints false false) (λ b. true) 256 byte refl below
+
+text_shown : (percent edge : Bool) (byte : ℕ) → byte < 256 → shown (byte_text percent edge byte) ≡ byte_text percent edge byte
+unfolding prints
+text_shown percent edge byte below = (bytes_eq-Decides (shown (byte_text percent edge byte)) (byte_text percent edge byte)).0 (prints_each percent edge byte below)
+
+written_shown : (first : Bool) (before : ℕ) (value : List ℕ) → AreBytes value → shown (written_from first before value) ≡ written_from first before value
+written_shown first before [] are = refl
+written_shown first before (x ∷ xs) are =
+    let text = byte_text (is_percent before) (first || is_empty xs) x in
+    map-append shown_byte text (written_from false x xs)
+    ∙ (rw (text_shown (is_percent before) (first || is_empty xs) x (are 0 0 (omega arith)), written_shown false x xs (All-tail (λ b. b < 256) x xs are)) refl)
+
+-- ---- the value in the item
+
+bytes_after : (front rest : List ℕ) → AreBytes (front ++ rest) → AreBytes rest
+bytes_after [] rest are = are
+bytes_after (x ∷ xs) rest are = bytes_after xs rest (All-tail (λ b. b < 256) x (xs ++ rest) are)
+
+-- the new text is all of the value
+spelled_in : (name : List PlacedByte) (mark v : PlacedByte) (vs : List PlacedByte) (value : List ℕ) (edit : EditSeen) → IsInOrder (name ++ mark ∷ v ∷ vs)
+    → Contains (spelling_in value (spanned (v ∷ vs))) edit → edited (name ++ mark ∷ v ∷ vs) edit ≡ bytes name ++ mark.0 ∷ shown (spelling_of value)
+spelled_in name mark v vs value edit order has =
+    let one : EditSeen = record { advice = advises_spelling; part = record { start = v.1; end = end_of (suc v.1) vs }; text = shown (spelling_of value) } in
+    let front = name ++ mark ∷ [] in
+    let joined : name ++ mark ∷ v ∷ vs ≡ front ++ (v ∷ vs) = sym (append_assoc name (mark ∷ []) (v ∷ vs)) in
+    let cut : name ++ mark ∷ v ∷ vs ≡ front ++ ((v ∷ vs) ++ []) = joined ∙ ap (λ (t : List PlacedByte). front ++ t) (sym (append-nil (v ∷ vs))) in
+    ap (edited (name ++ mark ∷ v ∷ vs)) (sym (only_edit one edit has)) ∙ ap (λ (t : List PlacedByte). edited t one) cut
+    ∙ edited_cut one front (v ∷ vs) [] (all_left front v vs (subst IsInOrder joined order)) ∙ append-nil (bytes front ++ one.text)
+    ∙ ap (λ (t : List ℕ). t ++ one.text) (bytes_cut name [] mark) ∙ append_assoc (bytes name) (mark.0 ∷ []) one.text
+
+Reads : Capability → List ℕ → List ℕ → Type 0
+Reads c value text = IsRead text (accepted (said_text c value))
+
+read_back : ValuesAreSound → WrittenSpells → (name raw rest value : List ℕ) (c : Capability) → HasNoMark name → IsEnabled (name ++ rest) → is_import name (claims_text raw) ≡ false
+    → capability_named name ≡ Some c → c.kind ≡ Text → AreBytes raw → Spells raw value true → Reads c value (name ++ 61 ∷ shown (spelling_of value))
+unfolding Reads
+read_back sound writes name raw rest value c none on other named kind are spells =
+    let known = sound raw value true spells in
+    let value_bytes = known.bytes are in
+    let is_shown : shown (spelling_of value) ≡ spelling_of value = written_shown true 0 value value_bytes in
+    subst (λ (t : List ℕ). IsRead (name ++ 61 ∷ t) (accepted (said_text c value))) (sym is_shown) (record {
+      statement = record { name = name; claim = claims_text (spelling_of value) };
+      states = text_item name (spelling_of value) none (mark_enabled name rest (spelling_of value) 61 refl on);
+      judges = judged_text name (spelling_of value) value c other named kind (writes value value_bytes known.no_nul);
+    })
+
+-- ---- each item
+
+plain_claim : (text raw : List ℕ) → (plain_statement text).claim ≡ claims_text raw → ⊥
+plain_claim text raw e = elim (cases_Bool (last_byte 0 text == 64)) [ inl t ↦ let no = rw t at e in cc | inr f ↦ let no = rw f at e in cc ]
+
+text_claim : (name value raw : List ℕ) (mark : ℕ) → is_mark mark ≡ true → (statement_with_value name mark value).claim ≡ claims_text raw → (mark ≡ 61) × (value ≡ raw)
+text_claim name value raw mark is e =
+    elim (cases_Bool (mark == 35)) [
+      | inl t ↦ let no = rw t at e in cc
+      | inr f ↦ (eqb-true mark 61 (rw f at is), let same = rw f at e in cc)
+    ]
+
+in_value : ValuesAreSound → WrittenSpells → (name raw : List PlacedByte) (mark : PlacedByte) (c : Capability) (value : List ℕ) (edit : EditSeen) → HasNoMark (bytes name)
+    → mark.0 ≡ 61 → IsInOrder (name ++ mark ∷ raw) → IsEnabled (bytes name ++ mark.0 ∷ bytes raw) → AreBytes (bytes raw) → is_import (bytes name) (claims_text (bytes raw)) ≡ false
+    → capability_named (bytes name) ≡ Some c → c.kind ≡ Text → Spells (bytes raw) value true → Contains (spelling_in value (spanned raw)) edit
+    → Reads c value (edited (name ++ mark ∷ raw) edit)
+in_value sound writes name [] mark c value edit none is order on are other named kind spells has = absurd (no_edit edit has)
+in_value sound writes name (v ∷ vs) mark c value edit none is order on are other named kind spells has =
+    let text = shown (spelling_of value) in
+    subst (Reads c value) (sym (spelled_in name mark v vs value edit order has ∙ ap (λ (m : ℕ). bytes name ++ m ∷ text) is))
+    (read_back sound writes (bytes name) (bytes (v ∷ vs)) (mark.0 ∷ bytes (v ∷ vs)) value c none on other named kind are spells)
+
+by_marks : ValuesAreSound → WrittenSpells → (item : List PlacedByte) (c : Capability) (value : List ℕ) (edit : EditSeen) → MarkSays item → IsInOrder item → AreBytes (bytes item)
+    → IsRead (bytes item) (accepted_odd (said_text c value)) → Contains (spellings item value) edit → Reads c value (edited item edit)
+by_marks sound writes _ c value edit (has_mark name raw mark none is) order are read has =
+    let text = bytes name ++ mark.0 ∷ bytes raw in
+    let joined : bytes (name ++ mark ∷ raw) ≡ text = bytes_cut name raw mark in
+    let moved : IsRead text (accepted_odd (said_text c value)) = subst (λ (t : List ℕ). IsRead t (accepted_odd (said_text c value))) joined read in
+    let odd = odd_text moved.statement.name moved.statement.claim c value moved.judges in
+    let stated = read_states text (accepted_odd (said_text c value)) moved in
+    let cut = cut_at_mark (bytes name) (bytes raw) mark.0 none is in
+    let states : moved.statement ≡ statement_with_value (bytes name) mark.0 (bytes raw) =
+    stated.1 ∙ ap (statement_by_mark text) cut.1 ∙ ap (λ (n : List ℕ). statement_with_value n mark.0 (bytes raw)) cut.0 in
+    let named : moved.statement.name ≡ bytes name = ap (λ (s : Statement). s.name) states in
+    let claim = text_claim (bytes name) (bytes raw) odd.raw mark.0 is (ap (λ (s : Statement). s.claim) (sym states) ∙ odd.claims) in
+    in_value sound writes name raw mark c value edit none claim.0 order stated.0
+    (All-tail (λ b. b < 256) mark.0 (bytes raw) (bytes_after (bytes name) (mark.0 ∷ bytes raw) (subst AreBytes joined are)))
+    (ap (λ (n : List ℕ). is_import n (claims_text odd.raw)) (sym named) ∙ odd.other) (ap capability_named (sym named) ∙ odd.named) odd.kind
+    (subst (λ (r : List ℕ). Spells r value true) (sym claim.1) odd.spells)
+    (subst (λ (r : List PlacedByte). Contains (spelling_in value (spanned r)) edit) (value_cut name raw mark none is) has)
+by_marks sound writes _ c value edit (has_none item none) order are read has =
+    let odd = odd_text read.statement.name read.statement.claim c value read.judges in
+    let core = without_trailing_space (bytes item) in
+    let states : read.statement ≡ plain_statement core =
+    (read_states (bytes item) (accepted_odd (said_text c value)) read).1 ∙ ap (statement_by_mark (bytes item)) (no_mark_left (bytes item) none) in
+    absurd (plain_claim core odd.raw (ap (λ (s : Statement). s.claim) (sym states) ∙ odd.claims))
+
+pub spellings_read : ValuesAreSound → WrittenSpells → SpellingsReadBack
+unfolding Reads
+spellings_read sound writes item c value edit order are read has = by_marks sound writes item c value edit (mark_says item) order are read has

@@ -1,0 +1,236 @@
+//! What is offered against the fault of an item, as edits of its block.
+ghost use Rattle.std.specs.Prelude.{◌≡◌, ◌<◌, ◌++◌, ◌^◌, All, IfOk, OnOk, map, option_map};
+ghost use Rattle.std.specs.List.{list_all};
+ghost use Rattle.lsp_fixes.specs.Edits as spec;
+ghost use Rattle.lsp_fixes.specs.Edits.{carets, edit_seen, edits_for, is_digit, kind_signs, known_names, rename, renames, sign_for, signs, spellings};
+
+use crate::candidates::names_for;
+use crate::carets::caret_at_end;
+use crate::distances::nearest;
+use crate::pieces::{after_name, bytes_of, span, value_of, written_name};
+use crate::texts::shown;
+use lsp_spans::Part;
+use std::alloc::{AllocError, Global};
+use ti_caps::{Kind, find};
+use ti_source::{Code, escape};
+
+/// What is advised.
+#[derive(Debug, Drop)]
+pub enum Advice {
+    /// Another name in place of this one, in ASCII.
+    Name(String),
+    /// The sign of a kind: none of a boolean, `#` of a number, `=` of a string.
+    Sign(Kind),
+    /// The string as it is read.
+    Spelling,
+    /// A backslash before the `^` at the end of a string, which takes nothing.
+    Caret,
+}
+
+/// An edit of a block.
+#[derive(Debug, Drop)]
+pub struct Edit {
+    /// What it does.
+    pub advice: Advice,
+    /// The part of the block that is exchanged.
+    pub part: Part,
+    /// Its new text, in ASCII.
+    pub text: String,
+}
+
+// Another name in place of one that is in that part.
+fn rename(alloc: Global, name: &[u8], part: Part, other: &[u8]) -> Result<Edit, AllocError>
+    ensures { IfOk result (λ edit. edit_seen edit ≡ rename name.now part other.now) }
+{
+    Ok(Edit {
+        advice: Advice::Name(shown(alloc, name)?),
+        part,
+        text: shown(alloc, other)?,
+    })
+}
+
+// Adds an edit for each of some names in place of one that is in that part.
+fn push_renames(
+    alloc: Global,
+    edits: &mut Vec<Edit>,
+    name: &[u8],
+    part: Part,
+    others: &[&[u8]],
+) -> Result<(), AllocError>
+    ensures { OnOk result (map edit_seen edits.new.items ≡ map edit_seen edits.old.items ++ map (rename name.now part) (map (λ other. other.now) others.now)) }
+{
+    for other in others {
+        edits.push(rename(alloc, name, part, other)?)?;
+    }
+    Ok(())
+}
+
+/// Adds the nearest of some names in place of one.
+pub(crate) fn push_nearest(
+    alloc: Global,
+    edits: &mut Vec<Edit>,
+    name: &[(u8, usize)],
+    others: &[&[u8]],
+) -> Result<(), AllocError>
+    requires { All (λ x. x.1 < 2 ^ 63) name.now }
+    ensures { OnOk result (map edit_seen edits.new.items ≡ map edit_seen edits.old.items ++ renames name.now (map (λ other. other.now) others.now)) }
+{
+    let Some(part) = span(name) else {
+        return Ok(());
+    };
+    let bytes = bytes_of(alloc, name)?;
+    let found = nearest(alloc, &bytes, others)?;
+    push_renames(alloc, edits, &bytes, part, &found)
+}
+
+// Adds the nearest names of capabilities in place of that of an item.
+fn push_known(alloc: Global, edits: &mut Vec<Edit>, item: &[(u8, usize)]) -> Result<(), AllocError>
+    requires { All (λ x. x.1 < 2 ^ 63) item.now }
+    ensures { OnOk result (map edit_seen edits.new.items ≡ map edit_seen edits.old.items ++ known_names item.now) }
+{
+    let names = names_for(alloc, after_name(item))?;
+    push_nearest(alloc, edits, written_name(item), &names)
+}
+
+// Whether a byte is a decimal digit.
+fn is_digit(byte: u8) -> bool
+    ensures { result ≡ is_digit byte }
+{
+    matches!(byte, b'0'..=b'9')
+}
+
+// Whether each byte is a decimal digit.
+fn are_digits(value: &[u8]) -> bool
+    ensures { result ≡ list_all is_digit value.now }
+{
+    value.iter().all(|byte| is_digit(*byte))
+}
+
+// What takes the place of the sign before a value so that a capability of a kind is read.
+fn sign_for(kind: Kind, value: &[u8]) -> Option<&'static str>
+    ensures { option_map (λ sign. sign.now) result ≡ sign_for kind value.now }
+{
+    match kind {
+        Kind::Flag if value.is_empty() => Some(""),
+        Kind::Number if !value.is_empty() && are_digits(value) => Some("#"),
+        Kind::Text if !value.is_empty() => Some("="),
+        _ => None,
+    }
+}
+
+// Adds a sign in place of the byte at that offset.
+fn push_sign(
+    alloc: Global,
+    edits: &mut Vec<Edit>,
+    kind: Kind,
+    at: usize,
+    sign: &str,
+) -> Result<(), AllocError>
+    requires { at < 2 ^ 63 }
+    ensures { OnOk result (map edit_seen edits.new.items ≡ map edit_seen edits.old.items ++ spec.sign_at kind at (Some sign.now)) }
+{
+    let mut text = String::new(alloc);
+    text.push_str(sign)?;
+    edits.push(Edit {
+        advice: Advice::Sign(kind),
+        part: Part {
+            start: at,
+            end: at + 1,
+        },
+        text,
+    })?;
+    Ok(())
+}
+
+// Adds the sign of a kind in place of the first byte after the name.
+fn push_signs(
+    alloc: Global,
+    edits: &mut Vec<Edit>,
+    kind: Kind,
+    rest: &[(u8, usize)],
+) -> Result<(), AllocError>
+    requires { All (λ x. x.1 < 2 ^ 63) rest.now }
+    ensures { OnOk result (map edit_seen edits.new.items ≡ map edit_seen edits.old.items ++ signs kind rest.now) }
+{
+    let Some((first, value)) = rest.split_first() else {
+        return Ok(());
+    };
+    let value = bytes_of(alloc, value)?;
+    match sign_for(kind, &value) {
+        Some(sign) => push_sign(alloc, edits, kind, first.1, sign),
+        None => Ok(()),
+    }
+}
+
+// Adds the sign of the kind of an item's capability in place of its own.
+fn push_kind(alloc: Global, edits: &mut Vec<Edit>, item: &[(u8, usize)]) -> Result<(), AllocError>
+    requires { All (λ x. x.1 < 2 ^ 63) item.now }
+    ensures { OnOk result (map edit_seen edits.new.items ≡ map edit_seen edits.old.items ++ kind_signs item.now) }
+{
+    let name = bytes_of(alloc, written_name(item))?;
+    match find(&name) {
+        Some(capability) => push_signs(alloc, edits, capability.kind(), after_name(item)),
+        None => Ok(()),
+    }
+}
+
+// Adds the value of an item as it is spelled, in place of how it is written.
+fn push_spelling(
+    alloc: Global,
+    edits: &mut Vec<Edit>,
+    item: &[(u8, usize)],
+    value: &[u8],
+) -> Result<(), AllocError>
+    requires { All (λ x. x.1 < 2 ^ 63) item.now }
+    ensures { OnOk result (map edit_seen edits.new.items ≡ map edit_seen edits.old.items ++ spellings item.now value.now) }
+{
+    let Some(part) = span(value_of(item)) else {
+        return Ok(());
+    };
+    let spelling = escape(alloc, value)?;
+    let text = shown(alloc, &spelling)?;
+    edits.push(Edit {
+        advice: Advice::Spelling,
+        part,
+        text,
+    })?;
+    Ok(())
+}
+
+// Adds `\^` in place of the `^` at the end of an item's value that takes nothing, if there is one.
+fn push_caret(alloc: Global, edits: &mut Vec<Edit>, item: &[(u8, usize)]) -> Result<(), AllocError>
+    requires { All (λ x. x.1 < 2 ^ 63) item.now }
+    ensures { OnOk result (map edit_seen edits.new.items ≡ map edit_seen edits.old.items ++ carets item.now) }
+{
+    let Some(part) = caret_at_end(value_of(item)) else {
+        return Ok(());
+    };
+    let mut text = String::new(alloc);
+    text.push_str("\\^")?;
+    edits.push(Edit {
+        advice: Advice::Caret,
+        part,
+        text,
+    })?;
+    Ok(())
+}
+
+/// Adds what is offered for an item that has a string, if it has one, by its fault, if it has one.
+pub(crate) fn push_edits(
+    alloc: Global,
+    edits: &mut Vec<Edit>,
+    item: &[(u8, usize)],
+    code: Option<Code>,
+    value: Option<&[u8]>,
+) -> Result<(), AllocError>
+    requires { All (λ x. x.1 < 2 ^ 63) item.now }
+    ensures { OnOk result (map edit_seen edits.new.items ≡ map edit_seen edits.old.items ++ edits_for item.now code (option_map (λ value. value.now) value.entry)) }
+{
+    match (code, value) {
+        (Some(Code::UnknownCapability), _) => push_known(alloc, edits, item),
+        (Some(Code::WrongKind), _) => push_kind(alloc, edits, item),
+        (Some(Code::UnknownEscape), Some(value)) => push_spelling(alloc, edits, item, value),
+        (Some(Code::BadString), _) => push_caret(alloc, edits, item),
+        _ => Ok(()),
+    }
+}

@@ -1,0 +1,211 @@
+//! What is offered for the items that a range touches.
+ghost use Rattle.std.specs.Prelude.{◌≡◌, ◌<◌, ◌+◌, ◌++◌, ◌^◌, All, IfOk, OnOk, Some, length, map, option_map};
+ghost use Rattle.ti_source.specs.Reading.{fault_of, item_of, reading_of, said_of};
+ghost use Rattle.ti_source.specs.Cutting.{OneBlock};
+ghost use Rattle.lsp_spans.specs.Parts.{IsWithin, part_of};
+ghost use Rattle.lsp_document.specs.Diagnostics.{text_at};
+ghost use Rattle.lsp_document.specs.Documents.{IsShortBlock};
+ghost use Rattle.lsp_fixes.specs.Edits.{edit_seen};
+ghost use Rattle.lsp_fixes.specs.Fixes as spec;
+ghost use Rattle.lsp_fixes.specs.Fixes.{fix_of, fix_seen, stretch_to, text_said, touched_edits};
+
+use crate::edits::{Advice, Edit, push_edits};
+use crate::pieces::span;
+use crate::uses::push_used;
+use lsp_document::{Document, held_blocks_fit};
+use lsp_features::{Spot, offset_in, range_in, spot_at};
+use lsp_spans::{Part, folded, visible_items};
+use lsp_types::{Position, Range};
+use std::alloc::{AllocError, Global};
+use ti_base::Database;
+use ti_source::{Code, Item, Local, Parsed, What, parse};
+
+/// What is offered against a fault.
+#[derive(Debug, Drop)]
+pub struct Fix {
+    /// What it does.
+    pub advice: Advice,
+    /// The part of the text that is exchanged.
+    pub range: Range,
+    /// Its new text, in ASCII.
+    pub text: String,
+}
+
+// A part of a block of a database.
+#[derive(Clone, Copy)]
+pub(crate) struct Stretch {
+    // The position of the block.
+    at: usize,
+    // The offset in the block of the first place.
+    start: usize,
+    // The offset in the block of the last place.
+    end: usize,
+}
+
+// The fault of the item of that place among the items of its block.
+fn code_at(faults: &[Local], ordinal: usize) -> Option<Code>
+    ensures { result ≡ spec.code_at ordinal (map fault_of faults.now) }
+{
+    for fault in faults {
+        if fault.ordinal == ordinal && !fault.code.is_of_header() {
+            return Some(fault.code);
+        }
+    }
+    None
+}
+
+// The string that an item says, if it says one.
+fn text_said(what: &What) -> Option<&[u8]>
+    ensures { option_map (λ value. value.now) result ≡ text_said (said_of what.now) }
+{
+    match what {
+        What::Text(_, value) => Some(value.as_slice()),
+        _ => None,
+    }
+}
+
+// The string that the item of that place says, if it is accepted and says one.
+fn value_at(items: &[Item], ordinal: usize) -> Option<&[u8]>
+    ensures { option_map (λ value. value.now) result ≡ spec.value_at ordinal (map item_of items.now) }
+{
+    for item in items {
+        if item.ordinal == ordinal {
+            return text_said(&item.what);
+        }
+    }
+    None
+}
+
+// Whether a stretch touches an item of its block.
+fn touches(stretch: Stretch, item: &[(u8, usize)]) -> bool
+    requires { All (λ x. x.1 < 2 ^ 63) item.now }
+    ensures { result ≡ spec.touches stretch item.now }
+{
+    match span(item) {
+        Some(span) => span.start <= stretch.end && stretch.start <= span.end,
+        None => false,
+    }
+}
+
+// Adds what is offered for the item of that place, if the stretch touches it.
+fn push_item(
+    alloc: Global,
+    edits: &mut Vec<Edit>,
+    database: &Database,
+    stretch: Stretch,
+    ordinal: usize,
+    parsed: &Parsed,
+    item: &[(u8, usize)],
+) -> Result<(), AllocError>
+    requires { All (λ x. x.1 < 2 ^ 63) item.now }
+    ensures { OnOk result (map edit_seen edits.new.items
+        ≡ map edit_seen edits.old.items ++ touched_edits database.now stretch (reading_of parsed.now) (ordinal, item.now)) }
+{
+    if !touches(stretch, item) {
+        return Ok(());
+    }
+    let code = code_at(&parsed.faults, ordinal);
+    let value = value_at(&parsed.items, ordinal);
+    push_edits(alloc, edits, item, code, value)?;
+    push_used(alloc, edits, database, stretch.at, item)
+}
+
+// What is offered for the items of a block that a stretch of it touches.
+fn edits_of(
+    alloc: Global,
+    database: &Database,
+    stretch: Stretch,
+    parsed: &Parsed,
+    text: &[(u8, usize)],
+    items: &[Part],
+) -> Result<Vec<Edit>, AllocError>
+    requires within { All (IsWithin text.now) items.now }
+    requires offsets { All (λ x. x.1 < 2 ^ 63) text.now }
+    ensures { IfOk result (λ edits. map edit_seen edits.items
+        ≡ spec.edits_of database.now stretch (reading_of parsed.now) (map (part_of text.now) items.now)) }
+{
+    let mut edits = Vec::new(alloc);
+    for ordinal in 0..items.len() {
+        let item = items[ordinal];
+        let bytes = &text[item.start..item.end];
+        push_item(alloc, &mut edits, database, stretch, ordinal, parsed, bytes)?;
+    }
+    Ok(edits)
+}
+
+// What is offered for the items that a stretch touches.
+fn edits_in(alloc: Global, database: &Database, stretch: Stretch) -> Result<Vec<Edit>, AllocError>
+    requires short { All IsShortBlock database.now }
+    requires within { stretch.at < length database.now }
+    ensures { IfOk result (λ edits. map edit_seen edits.items ≡ spec.edits_in database.now stretch) }
+{
+    let block = database.text(stretch.at);
+    let parsed = parse(alloc, block)?;
+    let text = folded(alloc, block)?;
+    let items = visible_items(alloc, &text)?;
+    edits_of(alloc, database, stretch, &parsed, &text, &items)
+}
+
+// Edits of a block that begins on that line, as fixes of the text.
+fn fixes_of_edits(
+    alloc: Global,
+    line: usize,
+    block: &[u8],
+    edits: Vec<Edit>,
+) -> Result<Vec<Fix>, AllocError>
+    requires { line + length block.now < 2 ^ 64 }
+    ensures { IfOk result (λ fixes. map fix_seen fixes.items ≡ map (λ edit. fix_of line block.now (edit_seen edit)) edits.items) }
+{
+    let mut fixes = Vec::new(alloc);
+    for edit in edits {
+        fixes.push(Fix {
+            advice: edit.advice,
+            range: range_in(line, block, edit.part),
+            text: edit.text,
+        })?;
+    }
+    Ok(fixes)
+}
+
+// The stretch of a block from a place in it to another place.
+fn stretch_to(block: &[u8], end: Position, spot: Spot) -> Stretch
+    ensures { result ≡ stretch_to block.now end spot }
+{
+    Stretch {
+        at: spot.at,
+        start: spot.offset,
+        end: offset_in(spot.line, block, end),
+    }
+}
+
+// What is offered from a place in a block on to another place.
+fn fixes_from(
+    alloc: Global,
+    database: &Database,
+    end: Position,
+    spot: Spot,
+) -> Result<Vec<Fix>, AllocError>
+    requires short { All IsShortBlock database.now }
+    requires within { spot.at < length database.now }
+    requires room { spot.line + length (text_at database.now spot.at) < 2 ^ 64 }
+    ensures { IfOk result (λ fixes. map fix_seen fixes.items ≡ spec.fixes_from database.now end spot) }
+{
+    let block = database.text(spot.at);
+    let edits = edits_in(alloc, database, stretch_to(block, end, spot))?;
+    fixes_of_edits(alloc, spot.line, block, edits)
+}
+
+/// What is offered against the faults of the items that a range touches, of the block in which it
+/// begins, in their order. A range touches an item also just after its last byte.
+///
+/// # Errors
+/// Out of memory.
+pub fn fixes_of(alloc: Global, document: &Document, range: Range) -> Result<Vec<Fix>, AllocError>
+    ensures { IfOk result (λ fixes. map fix_seen fixes.items ≡ spec.fixes_of document.now range) }
+{
+    held_blocks_fit();
+    match spot_at(document, range.start) {
+        Some(spot) => fixes_from(alloc, document.database(), range.end, spot),
+        None => Ok(Vec::new(alloc)),
+    }
+}

@@ -1,0 +1,40 @@
+//! Laws of the definitions on which the contracts of this crate depend. They compute nothing.
+ghost use Rattle.lsp_fixes.specs.Laws.{ItemsAreInOrder, ItemsHaveOneVerdict, NamesAreOfCapabilities, NamesAreOfOtherBlocks, SignsFitTheKind, SpellingsReadBack};
+
+use ti_source::{each_is_well_read, one_outcome, written_spells};
+
+/// An item is of a capability of its kind with a name that is offered for its own.
+pub fn names_are_of_capabilities()
+    ensures { NamesAreOfCapabilities }
+{}
+
+/// A name that is offered for one that a block uses is that of another block.
+pub fn names_are_of_other_blocks()
+    ensures { NamesAreOfOtherBlocks }
+{
+    each_is_well_read();
+}
+
+/// An item of the wrong kind is of the right one with the sign that is offered for it.
+pub fn signs_fit_the_kind()
+    ensures { SignsFitTheKind }
+{}
+
+/// A string with an odd escape says the same with the spelling that is offered for it, and no
+/// escape is odd.
+pub fn spellings_read_back()
+    ensures { SpellingsReadBack }
+{
+    one_outcome();
+    written_spells();
+}
+
+/// There is one verdict on an item.
+pub fn items_have_one_verdict()
+    ensures { ItemsHaveOneVerdict }
+{}
+
+/// The bytes of each item of a block are in the order of the block.
+pub fn items_are_in_order()
+    ensures { ItemsAreInOrder }
+{}

@@ -1,0 +1,41 @@
+//! Bytes as an editor is sent them.
+ghost use Rattle.std.specs.Prelude.{◌≡◌, IfOk, map};
+ghost use Rattle.std.specs.String.{string_bytes};
+ghost use Rattle.lsp_fixes.specs.Shown as spec;
+
+use std::alloc::{AllocError, Global};
+
+// A byte as it is shown.
+fn shown_byte(byte: u8) -> u8
+    ensures { result ≡ spec.shown_byte byte }
+{
+    match byte {
+        b' '..=b'~' => byte,
+        _ => b'?',
+    }
+}
+
+// Bytes as they are shown.
+fn shown_bytes(alloc: Global, bytes: &[u8]) -> Result<Vec<u8>, AllocError>
+    ensures { IfOk result (λ all. all.items ≡ spec.shown bytes.now) }
+{
+    let mut all = Vec::with_capacity(alloc, bytes.len())?;
+    for byte in bytes {
+        all.push(shown_byte(*byte))?;
+    }
+    Ok(all)
+}
+
+/// Bytes as they are shown, in ASCII.
+///
+/// # Errors
+/// Out of memory.
+pub(crate) fn shown(alloc: Global, bytes: &[u8]) -> Result<String, AllocError>
+    ensures { IfOk result (λ text. string_bytes text ≡ spec.shown bytes.now) }
+{
+    let all = shown_bytes(alloc, bytes)?;
+    match String::from_utf8(all) {
+        Ok(text) => Ok(text),
+        Err(_) => unreachable!(),
+    }
+}

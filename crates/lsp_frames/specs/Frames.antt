@@ -1,0 +1,99 @@
+-- Frames: a header, an empty line, and the body (LSP 3.17, "Base Protocol").
+use Rattle.std.specs.Prelude.{ℕ, ◌≡◌, ◌≢◌, ◌+◌, ◌*◌, ◌-◌, ◌^◌, ◌<◌, ◌≤◌, ◌==◌, ◌&&◌, ◌||◌, List, [], ◌∷◌, ◌++◌, All, Bool, true, Option, None, Some, length, take, drop, map, codes, decimal, nat_lt, nat_le, if◌then◌else◌}
+use Rattle.std.specs.Io.KnownBytes.{Consumes}
+use Rattle.std.specs.Char.{to_ascii_lowercase}
+use Rattle.lsp_frames.specs.declared.frames.Frame.{Frame}
+use Rattle.lsp_frames.specs.declared.frames.Frame.TheVariants.{Body, TooLong}
+
+-- the end of a line: CR LF
+abbrev pub line_end : List ℕ
+line_end = 13 ∷ 10 ∷ []
+
+-- what is written for a body
+abbrev pub framed : List ℕ → List ℕ
+framed body = codes "Content-Length: " ++ decimal (length body) ++ codes "\r\n\r\n" ++ body
+
+-- the most bytes of a header (own)
+abbrev pub header_bytes_max : ℕ
+header_bytes_max = 4096
+
+-- the most bytes of a body (own)
+abbrev pub body_bytes_max : ℕ
+body_bytes_max = 67108864
+
+-- ---- lines of a header ("Header Part")
+
+-- a line of a header has no LF
+abbrev pub IsHeaderLine : List ℕ → Type 0
+IsHeaderLine line = All (λ byte. byte ≢ 10) line
+
+-- the lines, each with its end
+abbrev pub lines_text : List (List ℕ) → List ℕ
+lines_text [] = []
+lines_text (line ∷ lines) = (line ++ line_end) ++ lines_text lines
+
+-- the name is `Content-Length`, in any case
+abbrev pub IsLengthLine : List ℕ → Type 0
+IsLengthLine line = map to_ascii_lowercase (take 15 line) ≡ codes "content-length:"
+
+-- the value of the first such line
+pub record GivesLength (lines : List (List ℕ)) (value : List ℕ) : Type 0 where
+  pub front : List (List ℕ)
+  pub line : List ℕ
+  pub back : List (List ℕ)
+  pub whole : lines ≡ front ++ line ∷ back
+  pub before : All (λ other. ¬ IsLengthLine other) front
+  pub here : IsLengthLine line
+  pub value_is : value ≡ drop 15 line
+
+-- ---- the value: a number between blanks
+
+-- a space or a tab
+abbrev pub is_blank : ℕ → Bool
+is_blank byte = byte == 32 || byte == 9
+
+abbrev pub are_blank : List ℕ → Bool
+are_blank [] = true
+are_blank (byte ∷ bytes) = is_blank byte && are_blank bytes
+
+abbrev pub is_digit : ℕ → Bool
+is_digit byte = nat_le 48 byte && nat_le byte 57
+
+-- the digits go on after a number that was read, which has at most 16 of them
+abbrev pub number_after : ℕ → List ℕ → Option ℕ
+number_after n [] = Some n
+number_after n (byte ∷ bytes) =
+    if is_digit byte then (if nat_lt n (10 ^ 15) then number_after (10 * n + (byte - 48)) bytes else None)
+    else (if are_blank (byte ∷ bytes) then Some n else None)
+
+-- at least one digit
+abbrev pub digits_number : List ℕ → Option ℕ
+digits_number [] = None
+digits_number (byte ∷ bytes) = if is_digit byte then number_after 0 (byte ∷ bytes) else None
+
+abbrev pub number_of : List ℕ → Option ℕ
+number_of [] = None
+number_of (byte ∷ bytes) = if is_blank byte then number_of bytes else digits_number (byte ∷ bytes)
+
+-- ---- headers and frames
+
+-- a header of these bytes announces a body of this length
+pub record IsHeader (bytes : List ℕ) (len : ℕ) : Type 0 where
+  pub lines : List (List ℕ)
+  pub value : List ℕ
+  pub whole : bytes ≡ lines_text lines ++ line_end
+  pub each : All IsHeaderLine lines
+  pub gives : GivesLength lines value
+  pub announced : number_of value ≡ Some len
+  pub short : length bytes ≤ header_bytes_max
+
+-- a header and its body were read
+pub record ReadsFrame (given left : Option (List ℕ)) (body : List ℕ) : Type 0 where
+  pub header : List ℕ
+  pub announces : IsHeader header (length body)
+  pub read : Consumes given left (header ++ body)
+
+-- a frame was read; the body of a frame that is too long is dropped
+abbrev pub Reads : Option (List ℕ) → Option (List ℕ) → Frame → Type 0
+Reads given left (Body body) = ReadsFrame given left body.items × (length body.items ≤ body_bytes_max)
+Reads given left TooLong = (body : List ℕ) × ReadsFrame given left body × (body_bytes_max < length body)

@@ -1,0 +1,302 @@
+//! Frames: a header that announces how long the body is, and the body ("Base Protocol").
+ghost use Rattle.std.specs.Prelude.{◌≡◌, ◌+◌, ◌<◌, ◌≤◌, ◌++◌, ◌∷◌, [], ℕ, List, IfOk, MatchOption, OnOk, Some, drop, length, option_map};
+ghost use Rattle.std.specs.Io.KnownBytes.{Appends, Consumes};
+ghost use Rattle.lsp_frames.specs.Frames.{IsHeader, IsHeaderLine, IsLengthLine, Reads, are_blank, digits_number, framed, line_end, number_of};
+ghost use Rattle.lsp_frames.specs.inside.Headers.{FirstLength};
+
+use std::alloc::{AllocError, Global};
+use std::io;
+use std::io::{Read, Write};
+
+/// The most bytes of a header, with the empty line.
+pub const HEADER_BYTES_MAX: usize = 4_096;
+
+/// The most bytes of a body that is read.
+pub const BODY_BYTES_MAX: u64 = 67_108_864;
+
+// How many bytes of a body are read at a time.
+const PIECE_BYTES: usize = 4_096;
+
+// The name of the field that gives the length.
+const LENGTH_NAME: &[u8; 15] = b"content-length:";
+
+/// What came in a frame.
+#[derive(Drop)]
+pub enum Frame {
+    /// The body.
+    Body(Vec<u8>),
+    /// A body of over 67,108,864 bytes. It was read and dropped.
+    TooLong,
+}
+
+/// Why no frame was read or written.
+#[derive(Clone, Copy, Debug, PartialEq, Eq)]
+pub enum FrameFault {
+    /// Memory ran out.
+    Memory,
+    /// The input failed, ended or has no frame here, or the output takes no more.
+    Broken,
+}
+
+impl From<AllocError> for FrameFault {
+    ghost use Rattle.lsp_frames.specs.declared.frames.FrameFault.TheVariants.{Memory};
+
+    ghost from_gives = { λ _ fault. fault ≡ Memory };
+
+    fn from(_: AllocError) -> FrameFault {
+        FrameFault::Memory
+    }
+}
+
+impl From<io::Error> for FrameFault {
+    ghost use Rattle.lsp_frames.specs.declared.frames.FrameFault.TheVariants.{Broken};
+
+    ghost from_gives = { λ _ fault. fault ≡ Broken };
+
+    fn from(_: io::Error) -> FrameFault {
+        FrameFault::Broken
+    }
+}
+
+// The next byte.
+fn read_byte<R: Read>(reader: &mut R) -> Result<u8, FrameFault>
+    ensures { IfOk result (λ byte. Consumes (R.remaining reader.old) (R.remaining reader.new) (byte ∷ [])) }
+{
+    let mut byte = [0_u8];
+    reader.read_exact(&mut byte)?;
+    Ok(byte[0])
+}
+
+// Puts a byte at the end.
+fn push(line: &mut Vec<u8>, byte: u8) -> Result<(), AllocError>
+    ensures { OnOk result (line.new.items ≡ line.old.items ++ byte ∷ []) }
+{
+    Ok(line.push(byte)?)
+}
+
+// A line without the CR at its end, which it must have.
+fn without_return(mut line: Vec<u8>) -> Result<Vec<u8>, FrameFault>
+    ensures { IfOk result (λ rest. line.items ≡ rest.items ++ 13 ∷ []) }
+{
+    match line.pop() {
+        Some(b'\r') => Ok(line),
+        _ => Err(FrameFault::Broken),
+    }
+}
+
+// Reads a line of a header, without its end, which is counted in the room.
+fn read_line<R: Read>(alloc: Global, reader: &mut R, room: usize) -> Result<Vec<u8>, FrameFault>
+    ensures read { IfOk result (λ line. Consumes (R.remaining reader.old) (R.remaining reader.new)
+        (line.items ++ line_end)) }
+    ensures line { IfOk result (λ line. IsHeaderLine line.items) }
+    ensures short { IfOk result (λ line. length line.items + 2 ≤ room) }
+{
+    let mut line = Vec::new(alloc);
+    while line.len() < room {
+        let byte = read_byte(reader)?;
+        if byte == b'\n' {
+            return without_return(line);
+        }
+        push(&mut line, byte)?;
+    }
+    Err(FrameFault::Broken)
+}
+
+// What a line says of the length, if its name is `Content-Length`.
+fn length_value(line: &[u8]) -> Option<&[u8]>
+    ensures { MatchOption result (¬ IsLengthLine line.now)
+        (λ value. IsLengthLine line.now × (value.now ≡ drop 15 line.now)) }
+{
+    if line.len() < LENGTH_NAME.len() {
+        return None;
+    }
+    let (name, value) = line.split_at(LENGTH_NAME.len());
+    if name.eq_ignore_ascii_case(LENGTH_NAME) {
+        Some(value)
+    } else {
+        None
+    }
+}
+
+// Whether these are spaces and tabs.
+fn are_blank(bytes: &[u8]) -> bool
+    ensures { result ≡ are_blank bytes.now }
+{
+    for byte in bytes {
+        if *byte != b' ' && *byte != b'\t' {
+            return false;
+        }
+    }
+    true
+}
+
+// The number that begins with these digits. Blanks may follow.
+fn digits_number(digits: &[u8]) -> Option<u64>
+    requires { 0 < length digits.now }
+    ensures { result ≡ digits_number digits.now }
+{
+    if !digits[0].is_ascii_digit() {
+        return None;
+    }
+    let mut number = 0_u64;
+    for (at, byte) in digits.iter().enumerate() {
+        if !byte.is_ascii_digit() {
+            return are_blank(&digits[at..]).then_some(number);
+        }
+        if number >= 1_000_000_000_000_000 {
+            return None;
+        }
+        number = 10 * number + u64::from(*byte - b'0');
+    }
+    Some(number)
+}
+
+// The number of a value, between blanks.
+fn number(value: &[u8]) -> Option<u64>
+    ensures { result ≡ number_of value.now }
+{
+    for (at, byte) in value.iter().enumerate() {
+        if *byte != b' ' && *byte != b'\t' {
+            return digits_number(&value[at..]);
+        }
+    }
+    None
+}
+
+// The value of the first line that gives a length, once one more line came.
+fn first_value(
+    alloc: Global,
+    value: Option<Vec<u8>>,
+    line: &[u8],
+) -> Result<Option<Vec<u8>>, AllocError>
+    ensures { IfOk result (λ found. (lines : List (List ℕ))
+        → FirstLength lines (option_map (λ v. v.items) value)
+        → FirstLength (lines ++ line.now ∷ []) (option_map (λ v. v.items) found)) }
+{
+    if let Some(value) = value {
+        return Ok(Some(value));
+    }
+    match length_value(line) {
+        Some(value) => Ok(Some(Vec::from_slice(alloc, value)?)),
+        None => Ok(None),
+    }
+}
+
+// The length that a value gives.
+fn announced(value: Option<Vec<u8>>) -> Result<u64, FrameFault>
+    ensures { IfOk result (λ len. (bytes : List ℕ) × (option_map (λ v. v.items) value ≡ Some bytes)
+        × (number_of bytes ≡ Some len)) }
+{
+    let Some(value) = value else {
+        return Err(FrameFault::Broken);
+    };
+    match number(&value) {
+        Some(len) => Ok(len),
+        None => Err(FrameFault::Broken),
+    }
+}
+
+// Reads a header. The answer is the length that it announces.
+fn read_header<R: Read>(alloc: Global, reader: &mut R) -> Result<u64, FrameFault>
+    ensures { IfOk result (λ len. (header : List ℕ) × IsHeader header len
+        × Consumes (R.remaining reader.old) (R.remaining reader.new) header) }
+{
+    let mut room = HEADER_BYTES_MAX;
+    let mut value = None;
+    while room > 0 {
+        let line = read_line(alloc, reader, room)?;
+        if line.is_empty() {
+            return announced(value);
+        }
+        room -= line.len() + 2;
+        value = first_value(alloc, value, &line)?;
+    }
+    Err(FrameFault::Broken)
+}
+
+// Reads a piece of a body, and puts it at the end of what came before.
+fn read_piece<R: Read>(
+    reader: &mut R,
+    piece: &mut [u8],
+    body: &mut Vec<u8>,
+) -> Result<(), FrameFault>
+    ensures read { OnOk result (Consumes (R.remaining reader.old) (R.remaining reader.new) piece.new) }
+    ensures body { OnOk result (body.new.items ≡ body.old.items ++ piece.new) }
+{
+    reader.read_exact(piece)?;
+    body.extend_from_slice(piece)?;
+    Ok(())
+}
+
+// Reads a body of this length. Memory grows with what comes.
+fn read_body<R: Read>(alloc: Global, reader: &mut R, len: usize) -> Result<Vec<u8>, FrameFault>
+    ensures read { IfOk result (λ body. Consumes (R.remaining reader.old) (R.remaining reader.new) body.items) }
+    ensures len { IfOk result (λ body. length body.items ≡ len) }
+{
+    let mut body = Vec::new(alloc);
+    let mut piece = [0_u8; PIECE_BYTES];
+    while body.len() < len {
+        let count = PIECE_BYTES.min(len - body.len());
+        read_piece(reader, &mut piece[..count], &mut body)?;
+    }
+    Ok(body)
+}
+
+// Reads this number of bytes, and drops them.
+fn skip_body<R: Read>(reader: &mut R, len: u64) -> Result<(), FrameFault>
+    ensures { OnOk result ((bytes : List ℕ) × Consumes (R.remaining reader.old) (R.remaining reader.new) bytes
+        × (length bytes ≡ len)) }
+{
+    let mut left = len;
+    let mut piece = [0_u8; PIECE_BYTES];
+    while left > 0 {
+        let count = left.min(PIECE_BYTES as u64);
+        reader.read_exact(&mut piece[..count as usize])?;
+        left -= count;
+    }
+    Ok(())
+}
+
+/// Reads a frame: a header of at most 4,096 bytes and its body. A field's name may be in any case;
+/// fields other than `Content-Length` are skipped, and the first of that name counts. Memory grows
+/// with what comes, not with what is announced. After an error nothing is known of the reader.
+///
+/// # Errors
+/// `Broken` if the reader fails or ends, if a line does not end with CR LF, and if the header is
+/// longer or gives no length; `Memory`.
+pub fn read_frame<R: Read>(alloc: Global, reader: &mut R) -> Result<Frame, FrameFault>
+    ensures { IfOk result (λ frame. Reads (R.remaining reader.old) (R.remaining reader.new) frame) }
+{
+    let len = read_header(alloc, reader)?;
+    if len > BODY_BYTES_MAX {
+        skip_body(reader, len)?;
+        return Ok(Frame::TooLong);
+    }
+    Ok(Frame::Body(read_body(alloc, reader, len as usize)?))
+}
+
+/// The frame of a body.
+///
+/// # Errors
+/// `AllocError` if memory ran out.
+pub fn make_frame(alloc: Global, body: &[u8]) -> Result<Vec<u8>, AllocError>
+    ensures { IfOk result (λ bytes. bytes.items ≡ framed body.now) }
+{
+    let len = body.len();
+    let mut bytes = format!(in alloc; "Content-Length: {len}\r\n\r\n")?.into_bytes();
+    bytes.extend_from_slice(body)?;
+    Ok(bytes)
+}
+
+/// Writes the frame of a body at once, and flushes.
+///
+/// # Errors
+/// `Broken` if the writer fails; `Memory`.
+pub fn write_frame<W: Write>(alloc: Global, writer: &mut W, body: &[u8]) -> Result<(), FrameFault>
+    ensures { OnOk result (Appends (W.contents writer.old) (W.contents writer.new) (framed body.now)) }
+{
+    let bytes = make_frame(alloc, body)?;
+    writer.write_all(&bytes)?;
+    writer.flush()?;
+    Ok(())
+}

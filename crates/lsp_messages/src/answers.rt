@@ -1,0 +1,160 @@
+//! The values that answer questions about a document. Each call writes one object of the protocol.
+ghost use Rattle.std.specs.Prelude.{◌≡◌, IfOk, option_map};
+ghost use Rattle.serde_json.specs.Data.{item, no_items};
+ghost use Rattle.serde_json.specs.View.{items_view, view};
+ghost use Rattle.lsp_messages.specs.Shapes.{action_data, hover_data, item_data, list_data, location_data, plain_data, symbol_data, text_edit_data, workspace_edit_data};
+
+use crate::objects::{with_number, with_text, with_value};
+use crate::writing::range_value;
+use lsp_types::{ItemKind, Range};
+use serde_json::{Map, Value, json};
+use std::alloc::{AllocError, Global};
+
+/// A place in a document ("Location").
+///
+/// # Errors
+/// `AllocError` if memory ran out.
+pub fn location_value(alloc: Global, uri: &str, range: Range) -> Result<Value, AllocError>
+    ensures { IfOk result (λ v. view v ≡ location_data uri.now range) }
+{
+    let range = range_value(alloc, range)?;
+    json!(in alloc; {"range": range, "uri": uri})
+}
+
+/// An entry that a document defines ("DocumentSymbol"), as a struct: its name, its range, and that
+/// of its names in it.
+///
+/// # Errors
+/// `AllocError` if memory ran out.
+pub fn symbol_value(
+    alloc: Global,
+    name: &str,
+    range: Range,
+    selection: Range,
+) -> Result<Value, AllocError>
+    ensures { IfOk result (λ v. view v ≡ symbol_data name.now range selection) }
+{
+    let members = with_number(alloc, Map::new(alloc), "kind", 23)?;
+    let members = with_text(alloc, members, "name", name)?;
+    let range = range_value(alloc, range)?;
+    let members = with_value(alloc, members, "range", range)?;
+    let selection = range_value(alloc, selection)?;
+    let members = with_value(alloc, members, "selectionRange", selection)?;
+    Ok(Value::Object(members))
+}
+
+// A text without markup ("MarkupContent").
+fn plain_value(alloc: Global, text: &str) -> Result<Value, AllocError>
+    ensures { IfOk result (λ v. view v ≡ plain_data text.now) }
+{
+    json!(in alloc; {"kind": "plaintext", "value": text})
+}
+
+/// What is said of a part of a document ("Hover"), in plain text.
+///
+/// # Errors
+/// `AllocError` if memory ran out.
+pub fn hover_value(alloc: Global, text: &str, range: Range) -> Result<Value, AllocError>
+    ensures { IfOk result (λ v. view v ≡ hover_data text.now range) }
+{
+    let contents = plain_value(alloc, text)?;
+    let range = range_value(alloc, range)?;
+    json!(in alloc; {"contents": contents, "range": range})
+}
+
+/// A text in place of a part of a document ("TextEdit").
+///
+/// # Errors
+/// `AllocError` if memory ran out.
+pub fn text_edit_value(alloc: Global, text: &str, range: Range) -> Result<Value, AllocError>
+    ensures { IfOk result (λ v. view v ≡ text_edit_data text.now range) }
+{
+    let range = range_value(alloc, range)?;
+    json!(in alloc; {"newText": text, "range": range})
+}
+
+/// Edits of one document ("WorkspaceEdit").
+///
+/// # Errors
+/// `AllocError` if memory ran out.
+pub fn workspace_edit_value(
+    alloc: Global,
+    uri: &str,
+    edits: Vec<Value>,
+) -> Result<Value, AllocError>
+    ensures { IfOk result (λ v. view v ≡ workspace_edit_data uri.now (items_view edits.items)) }
+{
+    let edits = Value::Array(edits);
+    json!(in alloc; {"changes": {uri: edits}})
+}
+
+// One edit of a document ("WorkspaceEdit").
+fn one_edit_value(alloc: Global, uri: &str, range: Range, text: &str) -> Result<Value, AllocError>
+    ensures { IfOk result (λ v. view v ≡ workspace_edit_data uri.now (item (text_edit_data text.now range) no_items)) }
+{
+    let mut edits = Vec::new(alloc);
+    edits.push(text_edit_value(alloc, text, range)?)?;
+    workspace_edit_value(alloc, uri, edits)
+}
+
+/// What is offered against a fault ("CodeAction"): a title, and a text that is put in the place of a
+/// range.
+///
+/// # Errors
+/// `AllocError` if memory ran out.
+pub fn action_value(
+    alloc: Global,
+    uri: &str,
+    title: &str,
+    range: Range,
+    text: &str,
+) -> Result<Value, AllocError>
+    ensures { IfOk result (λ v. view v ≡ action_data uri.now title.now range text.now) }
+{
+    let edit = one_edit_value(alloc, uri, range, text)?;
+    let members = with_value(alloc, Map::new(alloc), "edit", edit)?;
+    let members = with_text(alloc, members, "kind", "quickfix")?;
+    let members = with_text(alloc, members, "title", title)?;
+    Ok(Value::Object(members))
+}
+
+/// An item of a completion ("CompletionItem"): its label is the text that it puts in place of the
+/// range.
+///
+/// # Errors
+/// `AllocError` if memory ran out.
+pub fn item_value(
+    alloc: Global,
+    kind: ItemKind,
+    label: &str,
+    detail: &str,
+    documentation: Option<&str>,
+    range: Range,
+) -> Result<Value, AllocError>
+    ensures { IfOk result (λ v. view v ≡ item_data kind label.now detail.now (option_map (λ text. text.now) documentation.entry) range) }
+{
+    let members = with_text(alloc, Map::new(alloc), "detail", detail)?;
+    let members = with_text(alloc, members, "filterText", label)?;
+    let members = with_number(alloc, members, "kind", kind.number())?;
+    let members = with_text(alloc, members, "label", label)?;
+    let edit = text_edit_value(alloc, label, range)?;
+    let members = with_value(alloc, members, "textEdit", edit)?;
+    match documentation {
+        None => Ok(Value::Object(members)),
+        Some(text) => {
+            let members = with_text(alloc, members, "documentation", text)?;
+            Ok(Value::Object(members))
+        }
+    }
+}
+
+/// The items of a completion ("CompletionList"), which are all that there are.
+///
+/// # Errors
+/// `AllocError` if memory ran out.
+pub fn list_value(alloc: Global, items: Vec<Value>) -> Result<Value, AllocError>
+    ensures { IfOk result (λ v. view v ≡ list_data (items_view items.items)) }
+{
+    let items = Value::Array(items);
+    json!(in alloc; {"isIncomplete": false, "items": items})
+}

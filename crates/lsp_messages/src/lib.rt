@@ -1,0 +1,21 @@
+//! The messages of the Language Server Protocol, version 3.17, as JSON.
+//!
+//! - `writing`: the values that a server sends; `answers` has those that answer questions about a
+//!   document, and `objects` makes the larger ones
+//! - `messages`: what a client asks for or tells; `reading` reads it from values, with `members`
+//!   and `asking`
+//! - `clients`: what a client can do
+#![tactic(auto)]
+
+pub mod answers;
+mod asking;
+pub mod clients;
+mod members;
+pub mod messages;
+mod objects;
+pub mod reading;
+pub mod writing;
+
+pub use clients::Client;
+pub use messages::{Call, Change, Message, Notice, Question, Reply};
+pub use reading::{parse, read_message};

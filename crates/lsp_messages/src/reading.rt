@@ -1,0 +1,222 @@
+//! The messages of a client, read from JSON values.
+ghost use Rattle.std.specs.Prelude.{◌≡◌, IfOk, MatchOption, None, Option, Some, codes, map, option_and_then, option_map};
+ghost use Rattle.serde_json.specs.Find.{get};
+ghost use Rattle.serde_json.specs.Read.{read};
+ghost use Rattle.serde_json.specs.View.{items_view, view};
+ghost use Rattle.std.specs.Str.{IsUtf8};
+ghost use Rattle.lsp_messages.specs.Messages.{asked_of, called_of, changed, changed_of, closed_of, edit_of, edits_of, id_in, is_id, message_of, opened_of, optional_range, response_or_fault, told_by, told_of};
+ghost use Rattle.lsp_messages.specs.Views.{asked_view, edit_view, message_view, told_view};
+
+use crate::asking::{read_asked, topic_of};
+use crate::clients::read_client;
+use crate::members::{number_at, read_range, text_at};
+use crate::messages::{Call, Change, Message, Notice};
+use lsp_types::Range;
+use serde_json::Value;
+use std::alloc::{AllocError, Global};
+
+// The range of a change, which may be left out.
+fn optional_range(change: &Value) -> Option<Option<Range>>
+    ensures { result ≡ optional_range (get (codes "range") (view change.now)) }
+{
+    match change.get("range") {
+        None => Some(None),
+        Some(range) => Some(Some(read_range(range)?)),
+    }
+}
+
+// A change ("TextDocumentContentChangeEvent").
+fn read_change(value: &Value) -> Option<Change<'_>>
+    ensures { option_map edit_view result ≡ edit_of (view value.now) }
+{
+    let text = text_at(value, "text")?;
+    let range = optional_range(value)?;
+    Some(Change { range, text })
+}
+
+// All changes of a message, or `None` if one is faulty.
+fn read_changes<'a>(
+    alloc: Global,
+    values: &'a Vec<Value>,
+) -> Result<Option<Vec<Change<'a>>>, AllocError>
+    ensures { IfOk result (λ changes. option_map (λ v. map edit_view v.items) changes
+        ≡ edits_of (items_view values.now.items)) }
+{
+    let mut changes = Vec::new(alloc);
+    for value in values {
+        match read_change(value) {
+            Some(change) => changes.push(change)?,
+            None => return Ok(None),
+        }
+    }
+    Ok(Some(changes))
+}
+
+// A document that was opened ("DidOpenTextDocumentParams").
+fn read_opened(params: &Value) -> Option<Notice<'_>>
+    ensures { option_map told_view result ≡ opened_of (view params.now) }
+{
+    let document = params.get("textDocument")?;
+    let uri = text_at(document, "uri")?;
+    let version = number_at(document, "version")?;
+    let text = text_at(document, "text")?;
+    Some(Notice::Opened { uri, version, text })
+}
+
+// The URI, the version and the changes of a document that was changed, before the changes are read.
+fn changed_parts(params: &Value) -> Option<(&str, u32, &Vec<Value>)>
+    ensures { MatchOption result (changed_of (view params.now) ≡ None)
+        (λ parts. changed_of (view params.now)
+        ≡ option_and_then (λ edits. Some (changed parts.0.now parts.1 edits)) (edits_of (items_view parts.2.now.items))) }
+{
+    let document = params.get("textDocument")?;
+    let uri = text_at(document, "uri")?;
+    let version = number_at(document, "version")?;
+    let values = params.get("contentChanges")?.as_array()?;
+    Some((uri, version, values))
+}
+
+// A document that was changed ("DidChangeTextDocumentParams").
+fn read_changed(alloc: Global, params: &Value) -> Result<Option<Notice<'_>>, AllocError>
+    ensures { IfOk result (λ notice. option_map told_view notice ≡ changed_of (view params.now)) }
+{
+    let Some((uri, version, values)) = changed_parts(params) else {
+        return Ok(None);
+    };
+    match read_changes(alloc, values)? {
+        None => Ok(None),
+        Some(changes) => Ok(Some(Notice::Changed {
+            uri,
+            version,
+            changes,
+        })),
+    }
+}
+
+// A document that was closed ("DidCloseTextDocumentParams").
+fn read_closed(params: &Value) -> Option<Notice<'_>>
+    ensures { option_map told_view result ≡ closed_of (view params.now) }
+{
+    let uri = text_at(params.get("textDocument")?, "uri")?;
+    Some(Notice::Closed { uri })
+}
+
+// What parameters tell, if they are those of the method.
+fn read_params<'a>(
+    alloc: Global,
+    method: &str,
+    params: &'a Value,
+) -> Result<Option<Notice<'a>>, AllocError>
+    ensures { IfOk result (λ notice. option_map told_view notice ≡ told_by method.now (view params.now)) }
+{
+    match method {
+        "textDocument/didOpen" => Ok(read_opened(params)),
+        "textDocument/didChange" => read_changed(alloc, params),
+        "textDocument/didClose" => Ok(read_closed(params)),
+        _ => Ok(None),
+    }
+}
+
+// What a notification tells.
+fn read_notice<'a>(alloc: Global, method: &str, value: &'a Value) -> Result<Notice<'a>, AllocError>
+    ensures { IfOk result (λ notice. told_view notice ≡ told_of method.now (view value.now)) }
+{
+    if method == "exit" {
+        return Ok(Notice::Exited);
+    }
+    let Some(params) = value.get("params") else {
+        return Ok(Notice::Nothing);
+    };
+    match read_params(alloc, method, params)? {
+        None => Ok(Notice::Nothing),
+        Some(notice) => Ok(notice),
+    }
+}
+
+// What a request asks for.
+fn read_call<'a>(method: &str, value: &'a Value) -> Call<'a>
+    ensures { asked_view result ≡ asked_of method.now (view value.now) }
+{
+    match method {
+        "initialize" => Call::Initialize(read_client(value)),
+        "shutdown" => Call::Shutdown,
+        _ => match topic_of(method) {
+            None => Call::Unknown,
+            Some(topic) => read_asked(topic, value),
+        },
+    }
+}
+
+// Whether a value may be an id: a string or an integer.
+fn is_id(value: &Value) -> bool
+    ensures { result ≡ is_id (view value.now) }
+{
+    value.is_string() || (value.is_number() && !value.is_f64())
+}
+
+// The id of a message.
+fn read_id(value: &Value) -> Option<&Value>
+    ensures { option_map (λ d. view d.now) result ≡ id_in (view value.now) }
+{
+    let id = value.get("id")?;
+    if is_id(id) { Some(id) } else { None }
+}
+
+// A message without a method.
+fn read_response(value: &Value) -> Message<'_>
+    ensures { message_view result ≡ response_or_fault (view value.now) }
+{
+    if value.get("result").is_some() || value.get("error").is_some() {
+        Message::Response
+    } else {
+        Message::Faulty(read_id(value))
+    }
+}
+
+// A message with a method.
+fn read_called<'a>(alloc: Global, method: &str, value: &'a Value) -> Result<Message<'a>, AllocError>
+    ensures { IfOk result (λ message. message_view message ≡ called_of method.now (view value.now)) }
+{
+    if value.get("id").is_none() {
+        return Ok(Message::Notification(read_notice(alloc, method, value)?));
+    }
+    match read_id(value) {
+        None => Ok(Message::Faulty(None)),
+        Some(id) => Ok(Message::Request {
+            id,
+            call: read_call(method, value),
+        }),
+    }
+}
+
+/// What a value is as a message. `jsonrpc`, the language of a document and `rangeLength` are not
+/// read.
+///
+/// # Errors
+/// `AllocError` if memory ran out.
+pub fn read_message(alloc: Global, value: &Value) -> Result<Message<'_>, AllocError>
+    ensures { IfOk result (λ message. message_view message ≡ message_of (view value.now)) }
+{
+    let Some(method) = value.get("method") else {
+        return Ok(read_response(value));
+    };
+    match method.as_str() {
+        None => Ok(Message::Faulty(read_id(value))),
+        Some(method) => read_called(alloc, method, value),
+    }
+}
+
+/// The value that a body is. `None` if it is no JSON in UTF-8, or nests deeper than 127.
+///
+/// # Errors
+/// `AllocError` if memory ran out.
+pub fn parse(alloc: Global, body: &[u8]) -> Result<Option<Value>, AllocError>
+    ensures { IfOk result (λ value. MatchOption value (IsUtf8 body.now → read body.now ≡ None)
+        (λ v. IsUtf8 body.now × (read body.now ≡ Some (view v)))) }
+{
+    match Value::from_slice(alloc, body) {
+        Ok(value) => Ok(Some(value)),
+        Err(error) if error.is_memory() => Err(AllocError),
+        Err(_) => Ok(None),
+    }
+}

@@ -1,0 +1,9 @@
+use Rattle.std.proofs.Common.{◌≡◌, drop, map}
+use Rattle.lsp_messages.specs.Views.{edit_view}
+use Rattle.lsp_server.specs.Steps.{edited}
+use Rattle.lsp_server.proofs.editing.edited.Given as goal
+
+-- the changes that are left make the text
+abbrev pub invariant-loop-change : goal.invariant-loop-change
+invariant-loop-change g l =
+    edited g.D.Source.place_in l.all.items (map edit_view (drop l.change-index l.changes)) ≡ edited g.D.Source.place_in l.text (map edit_view l.changes)

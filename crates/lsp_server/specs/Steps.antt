@@ -1,0 +1,178 @@
+-- What the server does with a message (LSP 3.17, "Server lifecycle" and "Text Document
+-- Synchronization").
+use Rattle.std.specs.Prelude.{ℕ, ◌++◌, List, [], ◌∷◌, not, Option, None, Some, drop, max, option_map, take, if◌then◌else◌}
+use Rattle.std.specs.List.{filter}
+use Rattle.std.specs.Str.{bytes_eq}
+use Rattle.serde_json.specs.Data.{Data}
+use Rattle.lsp_messages.specs.Messages.{Asked, initialize, shutdown, about, unreadable, unknown, Edit, Meaning, message_of, Query, request, notification, response, faulty, Told, exited, opened, changed, closed, nothing}
+use Rattle.lsp_types.specs.declared.failures.Failure.{Failure}
+use Rattle.lsp_types.specs.declared.failures.Failure.TheVariants.{BadParameters, NoJson, NoMethod, NoRequest, NotInitialized}
+use Rattle.lsp_messages.specs.declared.clients.Client.{Client}
+use Rattle.lsp_types.specs.declared.places.Position.{Position}
+use Rattle.lsp_types.specs.declared.places.Range.{Range}
+use Rattle.lsp_server.specs.declared.phase.Phase.{Phase}
+use Rattle.lsp_server.specs.declared.phase.Phase.TheVariants.{Fresh, Running, Finished, Ended}
+
+-- an open document
+pub record Open : Type 0 where
+  pub uri : List ℕ
+  pub version : ℕ
+  pub text : List ℕ
+
+-- where the server is in its life, and the documents that are open
+pub record State : Type 0 where
+  pub phase : Phase
+  pub documents : List Open
+
+-- what is sent: that the server is ready for a client, or will end, or why a request is refused;
+-- what comes of a question about a document; the diagnostics of a document, or none of one that was
+-- closed
+pub data Answer : Type 0 where
+  ready : Data → Client → Answer
+  done : Data → Answer
+  refused : Option Data → Failure → Answer
+  answered : Data → Open → Query → Answer
+  shown : Open → Answer
+  cleared : List ℕ → Answer
+
+-- the state before the first message: no document is open
+abbrev pub at_start : State
+at_start = record { phase = Fresh; documents = [] }
+
+-- the document of that URI
+abbrev pub open_at : List ℕ → List Open → Option Open
+open_at uri [] = None
+open_at uri (document ∷ documents) = if bytes_eq document.uri uri then Some document else open_at uri documents
+
+-- ---- requests
+
+abbrev pub requested_fresh : Data → Asked → Phase × Answer
+requested_fresh id (initialize client) = (Running, ready id client)
+requested_fresh id shutdown = (Fresh, refused (Some id) NotInitialized)
+requested_fresh id (about uri query) = (Fresh, refused (Some id) NotInitialized)
+requested_fresh id unreadable = (Fresh, refused (Some id) NotInitialized)
+requested_fresh id unknown = (Fresh, refused (Some id) NotInitialized)
+
+-- a question about a document is answered if it is open
+abbrev pub answered_of : Data → Query → Option Open → Answer
+answered_of id query None = refused (Some id) BadParameters
+answered_of id query (Some document) = answered id document query
+
+abbrev pub requested_running : List Open → Data → Asked → Phase × Answer
+requested_running documents id (initialize client) = (Running, refused (Some id) NoRequest)
+requested_running documents id shutdown = (Finished, done id)
+requested_running documents id (about uri query) = (Running, answered_of id query (open_at uri documents))
+requested_running documents id unreadable = (Running, refused (Some id) BadParameters)
+requested_running documents id unknown = (Running, refused (Some id) NoMethod)
+
+-- what becomes of the phase, and the answer
+abbrev pub requested : List Open → Phase → Data → Asked → Phase × Answer
+requested documents Fresh id asked = requested_fresh id asked
+requested documents Running id asked = requested_running documents id asked
+requested documents Finished id asked = (Finished, refused (Some id) NoRequest)
+requested documents (Ended status) id asked = (Ended status, refused (Some id) NoRequest)
+
+-- ---- the text of a document
+
+-- where a place is in a text
+abbrev pub Places : Type 0
+Places = List ℕ → Position → ℕ
+
+-- a text whose bytes from `start` to before `end` are exchanged; an end before the start is the
+-- start
+abbrev pub with_part : List ℕ → ℕ → ℕ → List ℕ → List ℕ
+with_part text start end new = take start text ++ new ++ drop (max start end) text
+
+abbrev pub with_range : Places → List ℕ → Option Range → List ℕ → List ℕ
+with_range places text None new = new
+with_range places text (Some range) new = with_part text (places text range.start) (places text range.end) new
+
+-- the edits in order, each in the text that the ones before made
+abbrev pub edited : Places → List ℕ → List Edit → List ℕ
+edited places text [] = text
+edited places text (edit ∷ edits) = edited places (with_range places text edit.range edit.text) edits
+
+-- ---- the documents
+
+-- the documents, the one of that URI changed
+abbrev pub with_change : List ℕ → (Open → Open) → List Open → List Open
+with_change uri change [] = []
+with_change uri change (document ∷ documents) =
+    if bytes_eq document.uri uri then change document ∷ documents else document ∷ with_change uri change documents
+
+-- with this document, in place of one of its URI
+abbrev pub with_document : Open → List Open → List Open
+with_document new [] = new ∷ []
+with_document new (document ∷ documents) =
+    if bytes_eq document.uri new.uri then new ∷ documents else document ∷ with_document new documents
+
+-- without that of the URI
+abbrev pub without : List ℕ → List Open → List Open
+without uri documents = filter (λ document. not (bytes_eq document.uri uri)) documents
+
+-- a document whose text is edited
+abbrev pub with_edits : Places → ℕ → List Edit → Open → Open
+with_edits places version edits document =
+    record { uri = document.uri; version = version; text = edited places document.text edits }
+
+-- what becomes of the documents, and what is sent
+abbrev pub changed_at : Places → List ℕ → ℕ → List Edit → List Open → List Open × Option Answer
+changed_at places uri version edits documents = (
+  with_change uri (with_edits places version edits) documents,
+  option_map (λ document. shown (with_edits places version edits document)) (open_at uri documents),
+)
+
+abbrev pub closed_at : List ℕ → List Open → List Open × Option Answer
+closed_at uri documents = (without uri documents, option_map (λ document. cleared uri) (open_at uri documents))
+
+abbrev pub told : Places → Told → List Open → List Open × Option Answer
+told places exited documents = (documents, None)
+told places (opened uri version text) documents = (
+  with_document (record { uri = uri; version = version; text = text }) documents,
+  Some (shown (record { uri = uri; version = version; text = text })),
+)
+told places (changed uri version edits) documents = changed_at places uri version edits documents
+told places (closed uri) documents = closed_at uri documents
+told places nothing documents = (documents, None)
+
+-- ---- messages
+
+-- `exit` ends the server, well after `shutdown` alone
+abbrev pub ended_by : Phase → Phase
+ended_by Fresh = Ended 1
+ended_by Running = Ended 1
+ended_by Finished = Ended 0
+ended_by (Ended status) = Ended status
+
+-- where the server is after it was told this
+abbrev pub phase_told : Phase → Told → Phase
+phase_told phase exited = ended_by phase
+phase_told phase (opened uri version text) = phase
+phase_told phase (changed uri version edits) = phase
+phase_told phase (closed uri) = phase
+phase_told phase nothing = phase
+
+-- documents are told of while the server runs
+abbrev pub told_in : Places → Phase → Told → List Open → List Open × Option Answer
+told_in places Fresh notice documents = (documents, None)
+told_in places Running notice documents = told places notice documents
+told_in places Finished notice documents = (documents, None)
+told_in places (Ended status) notice documents = (documents, None)
+
+-- the state after a message, and what is sent
+abbrev pub step : Places → State → Meaning → State × Option Answer
+step places state (request id asked) = (
+  record { phase = (requested state.documents state.phase id asked).0; documents = state.documents },
+  Some ((requested state.documents state.phase id asked).1),
+)
+step places state (notification notice) = (
+  record { phase = phase_told state.phase notice; documents = (told_in places state.phase notice state.documents).0 },
+  (told_in places state.phase notice state.documents).1,
+)
+step places state response = (state, None)
+step places state (faulty id) = (state, Some (refused id NoRequest))
+
+-- the same after a body that is this value, or none: no JSON, or too long
+abbrev pub replied : Places → State → Option Data → State × Option Answer
+replied places state None = (state, Some (refused None NoJson))
+replied places state (Some value) = step places state (message_of value)

@@ -1,0 +1,113 @@
+//! Requests, answered by how far the server has come.
+ghost use Rattle.std.specs.Prelude.{◌≡◌, IfOk};
+ghost use Rattle.serde_json.specs.View.{view};
+ghost use Rattle.lsp_messages.specs.Views.{asked_view, question_view};
+ghost use Rattle.lsp_server.specs.Answers.{answer_data};
+ghost use Rattle.lsp_server.specs.Sayings.{Sayings};
+ghost use Rattle.lsp_server.specs.States.{documents_view};
+ghost use Rattle.lsp_server.specs.Steps.{answered_of, open_at, ready, requested, requested_fresh, requested_running};
+ghost use Rattle.lsp_server.specs.inside.Views.{IsAnswer};
+
+use crate::documents::{self, Opened};
+use crate::phase::Phase;
+use crate::source::Source;
+use lsp_messages::writing::{initialized_value, refusal_value, reply_value, response_value};
+use lsp_messages::{Call, Client, Question};
+use lsp_types::Failure;
+use serde_json::Value;
+use std::alloc::{AllocError, Global};
+
+/// The version of the server.
+pub const VERSION: &str = "1.0.0";
+
+// That the server is ready, to a client.
+fn ready_value(alloc: Global, id: &Value, client: Client) -> Result<Value, AllocError>
+    ensures { IfOk result (λ v. (says : Sayings) → view v ≡ answer_data says (ready (view id.now) client)) }
+{
+    let answer = initialized_value(alloc, client, VERSION)?;
+    response_value(alloc, id, answer)
+}
+
+// What becomes of the phase, and the answer, before `initialize`.
+fn answer_fresh(alloc: Global, id: &Value, call: &Call<'_>) -> Result<(Phase, Value), AllocError>
+    ensures { IfOk result (λ r. (says : Sayings) → IsAnswer says r (requested_fresh (view id.now) (asked_view call.now))) }
+{
+    match call {
+        Call::Initialize(client) => Ok((Phase::Running, ready_value(alloc, id, *client)?)),
+        _ => Ok((
+            Phase::Fresh,
+            refusal_value(alloc, Some(id), Failure::NotInitialized)?,
+        )),
+    }
+}
+
+// The answer to a question about a document.
+fn answer_about<D: Source>(
+    alloc: Global,
+    documents: &[Opened<D>],
+    id: &Value,
+    uri: &str,
+    question: Question<'_>,
+) -> Result<Value, AllocError>
+    ensures { IfOk result (λ v. view v ≡ answer_data D.says
+        (answered_of (view id.now) (question_view question.entry) (open_at uri.now (documents_view D.text_of documents.now)))) }
+{
+    match documents::ask(alloc, documents, uri, question)? {
+        None => refusal_value(alloc, Some(id), Failure::BadParameters),
+        Some(reply) => reply_value(alloc, id, reply),
+    }
+}
+
+// What becomes of the phase, and the answer, between `initialize` and `shutdown`.
+fn answer_running<D: Source>(
+    alloc: Global,
+    documents: &[Opened<D>],
+    id: &Value,
+    call: &Call<'_>,
+) -> Result<(Phase, Value), AllocError>
+    ensures { IfOk result (λ r. IsAnswer D.says r
+        (requested_running (documents_view D.text_of documents.now) (view id.now) (asked_view call.now))) }
+{
+    match call {
+        Call::Initialize(_) => Ok((
+            Phase::Running,
+            refusal_value(alloc, Some(id), Failure::NoRequest)?,
+        )),
+        Call::Shutdown => Ok((Phase::Finished, response_value(alloc, id, Value::Null)?)),
+        Call::Asked { uri, question } => Ok((
+            Phase::Running,
+            answer_about(alloc, documents, id, uri, *question)?,
+        )),
+        Call::Faulty => Ok((
+            Phase::Running,
+            refusal_value(alloc, Some(id), Failure::BadParameters)?,
+        )),
+        Call::Unknown => Ok((
+            Phase::Running,
+            refusal_value(alloc, Some(id), Failure::NoMethod)?,
+        )),
+    }
+}
+
+/// What becomes of the phase, and the answer to a request.
+///
+/// # Errors
+/// Out of memory.
+pub fn answer<D: Source>(
+    alloc: Global,
+    documents: &[Opened<D>],
+    phase: Phase,
+    id: &Value,
+    call: &Call<'_>,
+) -> Result<(Phase, Value), AllocError>
+    ensures { IfOk result (λ r. IsAnswer D.says r
+        (requested (documents_view D.text_of documents.now) phase (view id.now) (asked_view call.now))) }
+{
+    match phase {
+        Phase::Fresh => answer_fresh(alloc, id, call),
+        Phase::Running => answer_running(alloc, documents, id, call),
+        Phase::Finished | Phase::Ended(_) => {
+            Ok((phase, refusal_value(alloc, Some(id), Failure::NoRequest)?))
+        }
+    }
+}

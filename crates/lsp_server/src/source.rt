@@ -1,0 +1,66 @@
+//! What a text has to offer that is open in an editor.
+use lsp_messages::{Question, Reply};
+use lsp_types::Position;
+use serde_json::Value;
+use std::alloc::{AllocError, Global};
+
+/// A text with what is wrong with it, and with answers to questions about it.
+pub trait Source {
+    ghost use Rattle.std.specs.Prelude.{◌≡◌, ◌≤◌, ℕ, List, IfOk, OnOk, length};
+    ghost use Rattle.serde_json.specs.View.{items_view};
+    ghost use Rattle.lsp_messages.specs.Views.{question_view, reply_view};
+    ghost use Rattle.lsp_types.specs.declared.places.Position.{Position};
+    ghost use Rattle.lsp_server.specs.Sayings.{HasNoFloats, Sayings};
+
+    // The text.
+    ghost text_of: { Self → List ℕ };
+
+    // Where a place is in a text.
+    ghost place_in: { List ℕ → Position → ℕ };
+
+    // What is said of a text.
+    ghost says: { Sayings };
+
+    /// Holds a text.
+    ///
+    /// # Errors
+    /// Out of memory.
+    fn open(alloc: Global, text: Vec<u8>) -> Result<Self, AllocError>
+    where
+        Self: Sized,
+        ensures { IfOk result (λ source. text_of source ≡ text.items) };
+
+    /// Holds another text.
+    ///
+    /// # Errors
+    /// Out of memory. It is not used any more after that.
+    fn set(&mut self, text: Vec<u8>) -> Result<(), AllocError>
+        ensures { OnOk result (text_of self.new ≡ text.items) };
+
+    /// The text.
+    fn text(&self) -> &[u8]
+        ensures { result.now ≡ text_of self.now };
+
+    /// The offset of a place in a text.
+    fn offset_of(text: &[u8], place: Position) -> usize
+        ensures offset { result ≡ place_in text.now place }
+        ensures within { result ≤ length text.now };
+
+    /// Its diagnostics, as values of the protocol.
+    ///
+    /// # Errors
+    /// Out of memory.
+    fn diagnostics(&self, alloc: Global) -> Result<Vec<Value>, AllocError>
+        ensures { IfOk result (λ values. items_view values.items ≡ says.diagnostics (text_of self.now)) };
+
+    /// What comes of a question about it: the answer, which may have its URI in it, as a value of
+    /// the protocol, or why the question is refused.
+    ///
+    /// # Errors
+    /// Out of memory.
+    fn answer(&self, alloc: Global, uri: &str, question: Question<'_>) -> Result<Reply, AllocError>
+        ensures { IfOk result (λ reply. reply_view reply ≡ says.answers (text_of self.now) uri.now (question_view question.entry)) };
+
+    // A law: nothing that is said has a float, whose text would not be known.
+    ghost no_floats: { HasNoFloats says };
+}

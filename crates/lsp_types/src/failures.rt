@@ -1,0 +1,53 @@
+//! Why a request is refused: the codes of JSON-RPC 2.0 and of the protocol ("ResponseMessage").
+ghost use Rattle.std.specs.Prelude.{◌≡◌};
+ghost use Rattle.lsp_types.specs.Failures.{code_of, sentence_of};
+
+/// Why a request is refused.
+#[derive(Clone, Copy, Debug, PartialEq, Eq)]
+pub enum Failure {
+    /// The body of a frame is no JSON, or is too long.
+    NoJson,
+    /// The value is no request, or no request may come now.
+    NoRequest,
+    /// The server has no such method.
+    NoMethod,
+    /// The parameters are not those of the method, or the document is not open.
+    BadParameters,
+    /// A request came before `initialize`.
+    NotInitialized,
+    /// A new name is none that an entry can have.
+    NoName,
+    /// A new name is that of another entry.
+    NameTaken,
+}
+
+impl Failure {
+    /// The number of the refusal.
+    pub fn code(self) -> i32
+        ensures { result ≡ code_of self }
+    {
+        match self {
+            Failure::NoJson => -32700,
+            Failure::NoRequest => -32600,
+            Failure::NoMethod => -32601,
+            Failure::BadParameters => -32602,
+            Failure::NotInitialized => -32002,
+            Failure::NoName | Failure::NameTaken => -32803,
+        }
+    }
+
+    /// A sentence that says the refusal.
+    pub fn sentence(self) -> &'static str
+        ensures { result.now ≡ sentence_of self }
+    {
+        match self {
+            Failure::NoJson => "the body is no JSON or is too long",
+            Failure::NoRequest => "no request is expected here",
+            Failure::NoMethod => "there is no such method",
+            Failure::BadParameters => "the parameters are not those of the method",
+            Failure::NotInitialized => "the server is not initialized",
+            Failure::NoName => "no entry can have the new name",
+            Failure::NameTaken => "another entry has the new name",
+        }
+    }
+}

@@ -1,0 +1,18 @@
+//! What a client and a server of the Language Server Protocol, version 3.17, speak of, without the
+//! JSON that says it.
+//!
+//! - `places`: positions and ranges in a text
+//! - `severities`: how grave a diagnostic is
+//! - `items`: what an item of a completion stands for
+//! - `failures`: why a request is refused
+#![tactic(auto)]
+
+pub mod failures;
+pub mod items;
+pub mod places;
+pub mod severities;
+
+pub use failures::Failure;
+pub use items::ItemKind;
+pub use places::{Position, Range};
+pub use severities::Severity;

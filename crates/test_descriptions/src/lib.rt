@@ -1,0 +1,10 @@
+//! The worked rows of `lsp_descriptions`, as tests; no code of the product.
+//!
+//! - `descriptions`: each capability has one, and some are these
+//! - `words`: the texts that are made of them
+#![tactic(auto)]
+
+#[cfg(test)]
+mod descriptions;
+#[cfg(test)]
+mod words;

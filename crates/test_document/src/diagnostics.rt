@@ -1,0 +1,173 @@
+//! What is wrong with a text, and where.
+use lsp_document::{Diagnostic, Document, Problem};
+use lsp_types::{Position, Range, Severity};
+use std::alloc::{AllocError, Global};
+use std::process::Abort;
+use ti_source::Code;
+
+// A document of these bytes.
+fn document_of(alloc: Global, bytes: &[u8]) -> Result<Document, AllocError> {
+    let mut text = Vec::new(alloc);
+    text.extend_from_slice(bytes)?;
+    Document::open(alloc, text)
+}
+
+// A diagnostic as it is wanted: its line and columns, its label, how grave it is, and what its
+// message begins with.
+#[derive(Clone, Copy)]
+struct Row {
+    line: usize,
+    start: usize,
+    end: usize,
+    label: &'static str,
+    severity: Severity,
+    message: &'static str,
+}
+
+// Whether a diagnostic is as it is wanted.
+fn is_shown(shown: &Diagnostic, row: &Row) -> bool {
+    let range = Range {
+        start: Position {
+            line: row.line,
+            column: row.start,
+        },
+        end: Position {
+            line: row.line,
+            column: row.end,
+        },
+    };
+    shown.range == range
+        && shown.problem.label() == row.label
+        && shown.problem.severity() == row.severity
+        && shown.message.starts_with(row.message)
+}
+
+// A source with a fault of each kind that a small one can have, after a preface of two lines.
+const FAULTY: &[u8] = b"# c
+\t\xC3\xA9
+
+x y|bad name,
+a|first,
+\tam, cols#8y, lines#2147483648,
+\t  \xC3\xA9\xE2\x82\xAC\xF0\x9F\x98\x80, bel=\\q, cup=\\400,
+b|a|second, cols=x,
+ use=zz,
+ use=c,
+c, use=b,
+d, use=a,";
+
+#[rattlefmt::skip]
+const ROWS: [Row; 12] = [
+    Row { line: 3, start: 0, end: 13, label: "E1", severity: Severity::Error, message: "BadHeader: " },
+    Row { line: 5, start: 1, end: 31, label: "E3", severity: Severity::Error, message: "BadNumber cols: " },
+    Row { line: 5, start: 1, end: 31, label: "E4", severity: Severity::Error, message: "NumberTooLarge lines: " },
+    Row { line: 6, start: 3, end: 26, label: "W1", severity: Severity::Warning, message: "UnknownCapability ?????????: " },
+    Row { line: 6, start: 3, end: 26, label: "W3", severity: Severity::Warning, message: "UnknownEscape bel: " },
+    Row { line: 6, start: 3, end: 26, label: "E5", severity: Severity::Error, message: "BadString cup: " },
+    Row { line: 7, start: 0, end: 19, label: "W4", severity: Severity::Warning, message: "DuplicateName a: " },
+    Row { line: 7, start: 0, end: 19, label: "W2", severity: Severity::Warning, message: "WrongKind cols: " },
+    Row { line: 8, start: 1, end: 8, label: "E6", severity: Severity::Error, message: "MissingUse zz: " },
+    Row { line: 9, start: 1, end: 7, label: "E7", severity: Severity::Error, message: "Circular c: " },
+    Row { line: 10, start: 0, end: 9, label: "E7", severity: Severity::Error, message: "Circular b: " },
+    Row { line: 11, start: 0, end: 9, label: "E8", severity: Severity::Error, message: "Unresolved a: " },
+];
+
+// Whether the diagnostics of a source are these.
+fn are_shown(alloc: Global, source: &[u8], rows: &[Row]) -> Result<bool, AllocError> {
+    let all = document_of(alloc, source)?.diagnostics(alloc)?;
+    Ok(
+        all.len() == rows.len()
+            && all
+                .iter()
+                .zip(rows)
+                .all(|(shown, row)| is_shown(shown, row)),
+    )
+}
+
+#[test]
+fn each_fault_has_its_place(rt: HostRuntime) -> Result<(), AllocError> {
+    assert!(rt; are_shown(rt.alloc(), FAULTY, &ROWS)?);
+    Ok(())
+}
+
+// The CR of a CR LF is no column of its line. It is an item of its own, since it is no white
+// space.
+#[rattlefmt::skip]
+const RETURNS: [Row; 2] = [
+    Row { line: 1, start: 1, end: 8, label: "E3", severity: Severity::Error, message: "BadNumber cols: " },
+    Row { line: 1, start: 1, end: 8, label: "W1", severity: Severity::Warning, message: "UnknownCapability ?: " },
+];
+
+#[test]
+fn a_line_ends_before_its_carriage_return(rt: HostRuntime) -> Result<(), AllocError> {
+    assert!(rt; are_shown(rt.alloc(), b"a,\n\tcols#x,\r\n", &RETURNS)?);
+    Ok(())
+}
+
+#[test]
+fn a_whole_message(rt: HostRuntime) -> Result<(), AllocError> {
+    let document = document_of(rt.alloc(), b"a,\n\tuse=b c,\n")?;
+    let all = document.diagnostics(rt.alloc())?;
+    assert!(rt; all.len() == 1);
+    let message = all[0].message.as_str();
+    assert!(rt;
+        message
+            == "MissingUse b?c: No block has this name. Correct it, or put the block in: installed entries are not looked at."
+    );
+    Ok(())
+}
+
+#[test]
+fn diagnostics_follow_the_text(rt: HostRuntime) -> Result<(), AllocError> {
+    let mut document = document_of(rt.alloc(), b"a,\n\tuse=b,\n")?;
+    assert!(rt; document.diagnostics(rt.alloc())?.len() == 1);
+    let mut text = Vec::new(rt.alloc());
+    text.extend_from_slice(b"a,\n\tuse=b,\nb,\n")?;
+    document.set(text)?;
+    assert!(rt; document.diagnostics(rt.alloc())?.len() == 0);
+    Ok(())
+}
+
+// A problem, its label and how grave it is.
+#[rattlefmt::skip]
+const PROBLEMS: [(Problem, &str, Severity); 4] = [
+    (Problem::Fault(Code::TooLarge), "E9", Severity::Error),
+    (Problem::Fault(Code::DuplicateName), "W4", Severity::Warning),
+    (Problem::BlockTooLong, "BlockTooLong", Severity::Error),
+    (Problem::TooManyBlocks, "TooManyBlocks", Severity::Error),
+];
+
+#[test]
+fn problems(rt: HostRuntime) {
+    for (problem, label, severity) in PROBLEMS {
+        assert!(rt; problem.label() == label);
+        assert!(rt; problem.severity() == severity);
+    }
+}
+
+// A text of a front, and a byte so many times.
+fn with_run(alloc: Global, front: &[u8], byte: u8, count: usize) -> Result<Vec<u8>, AllocError> {
+    let mut text = Vec::new(alloc);
+    text.extend_from_slice(front)?;
+    for _ in 0..count {
+        text.push(byte)?;
+    }
+    Ok(text)
+}
+
+#[rattlefmt::skip]
+const REFUSED: [Row; 1] = [
+    Row { line: 4, start: 0, end: 4, label: "BlockTooLong", severity: Severity::Error, message: "The block is over 1048576 bytes" },
+];
+
+#[test]
+fn a_refused_source_has_one_diagnostic(rt: HostRuntime) -> Result<(), AllocError> {
+    let text = with_run(
+        rt.alloc(),
+        b"# c\na, foo,\n  bcd\n#x\ny|z,\n#",
+        b'c',
+        1_048_576,
+    )?;
+    assert!(rt; are_shown(rt.alloc(), &text, &REFUSED)?);
+    Ok(())
+}

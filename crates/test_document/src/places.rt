@@ -1,0 +1,79 @@
+//! Offsets and places, and parts of a text exchanged.
+use lsp_document::{offset_of, position_of, spliced};
+use lsp_types::Position;
+use std::alloc::AllocError;
+use std::process::Abort;
+
+// The text that the rows are in: letters of one, two, three and four bytes, LF, CR LF, a lone CR
+// and an open last line.
+const TEXT: &[u8] = b"a\xC3\xA9\xE2\x82\xAC\xF0\x9F\x98\x80z\r\n\rq\n\nlast";
+
+// The offset of the start of a character, its line and its column.
+const STARTS: [(usize, usize, usize); 13] = [
+    (0, 0, 0),
+    (1, 0, 1),
+    (3, 0, 2),
+    (6, 0, 3),
+    (10, 0, 5),
+    (11, 0, 6),
+    (13, 1, 0),
+    (14, 1, 1),
+    (15, 1, 2),
+    (16, 2, 0),
+    (17, 3, 0),
+    (20, 3, 3),
+    (21, 3, 4),
+];
+
+#[test]
+fn starts_of_characters(rt: HostRuntime) {
+    for (offset, line, column) in STARTS {
+        let place = Position { line, column };
+        assert!(rt; offset_of(TEXT, place) == offset);
+        assert!(rt; position_of(TEXT, offset) == place);
+    }
+}
+
+// Places that are none: their line, their column and the offset that they are taken for.
+const OTHERS: [(usize, usize, usize); 6] = [
+    // Past the end of a line, whose CR is no column.
+    (0, 7, 11),
+    (0, 2147483647, 11),
+    (2, 1, 16),
+    // Past the last line.
+    (4, 0, 21),
+    (2147483647, 2147483647, 21),
+    // In the middle of a surrogate pair.
+    (0, 4, 6),
+];
+
+#[test]
+fn other_places(rt: HostRuntime) {
+    for (line, column, offset) in OTHERS {
+        assert!(rt; offset_of(TEXT, Position { line, column }) == offset);
+    }
+    // The LF of a CR LF is at the end of its line, and past the end of the text is its end.
+    assert!(rt; position_of(TEXT, 12) == Position { line: 0, column: 6 });
+    assert!(rt; position_of(TEXT, 99) == Position { line: 3, column: 4 });
+    assert!(rt; offset_of(b"", Position { line: 0, column: 0 }) == 0);
+}
+
+// A start and an end in `abcd`, what is put in, and the text after it.
+#[rattlefmt::skip]
+const SPLICES: [(usize, usize, &[u8], &[u8]); 6] = [
+    (1, 3, b"x", b"axd"),
+    (0, 0, b"x", b"xabcd"),
+    (4, 4, b"x", b"abcdx"),
+    (3, 1, b"x", b"abcxd"),
+    (9, 9, b"x", b"abcdx"),
+    (0, 4, b"", b""),
+];
+
+#[test]
+fn parts_exchanged(rt: HostRuntime) -> Result<(), AllocError> {
+    for (start, end, new, want) in SPLICES {
+        let all = spliced(rt.alloc(), b"abcd", start, end, new)?;
+        assert!(rt; all.as_slice() == want);
+    }
+    Ok(())
+}

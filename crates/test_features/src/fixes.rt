@@ -1,0 +1,163 @@
+//! What is offered for parts of documents.
+use lsp_document::Document;
+use lsp_fixes::{Advice, Fix, fixes_of};
+use lsp_types::{Position, Range};
+use std::alloc::{AllocError, Global};
+use std::process::Abort;
+use ti_caps::Kind;
+
+/// A document of these bytes.
+fn document_of(alloc: Global, bytes: &[u8]) -> Result<Document, AllocError> {
+    let mut text = Vec::new(alloc);
+    text.extend_from_slice(bytes)?;
+    Document::open(alloc, text)
+}
+
+/// A source after a preface, with items that are faulty and items that are not.
+const SOURCE: &[u8] = b"# c
+vt1|a|one,
+\tam, colour#8, clearr=\\E[H, kf64=x, bwx,
+\tqq#1, qq@, Cols@, #5, use=vt2,
+vt3|b|two,
+\tcols=80, am=, cols, am=x, lines=8y, bel#^G, bel#,
+\tbel=a\\qb\\:, use= basse , use=vt1, lin
+\tes#2,
+base,
+\tbel=\xF0\x9F\x98\x80, li
+#
+\tne#2,
+\tbel=^, cr=a^, ht=%^, el=\\400\\^, ed=\\\\^,
+";
+
+/// What is advised, as it is wanted.
+#[derive(Clone, Copy)]
+enum Wanted {
+    Name(&'static str),
+    Sign(Kind),
+    Spelling,
+    Caret,
+}
+
+/// A range, and what is offered for it: what is advised, the range that is exchanged, and its text.
+type Row = (
+    ((usize, usize), (usize, usize)),
+    &'static [(Wanted, ((usize, usize), (usize, usize)), &'static str)],
+);
+
+#[rattlefmt::skip]
+const ROWS: [Row; 34] = [
+    // the preface, names, and an item without a fault
+    (((0, 0), (0, 3)), &[]),
+    (((1, 0), (1, 3)), &[]),
+    (((2, 1), (2, 3)), &[]),
+    // two letters are exchanged; no number is nearer
+    (((2, 6), (2, 6)), &[(Wanted::Name("colour"), ((2, 5), (2, 11)), "colors")]),
+    // just before the item, and just after it
+    (((2, 4), (2, 4)), &[]),
+    (((2, 5), (2, 5)), &[(Wanted::Name("colour"), ((2, 5), (2, 11)), "colors")]),
+    (((2, 13), (2, 13)), &[(Wanted::Name("colour"), ((2, 5), (2, 11)), "colors")]),
+    (((2, 14), (2, 14)), &[]),
+    // one letter is taken out
+    (((2, 20), (2, 20)), &[(Wanted::Name("clearr"), ((2, 15), (2, 21)), "clear")]),
+    // more than three are one edit away
+    (((2, 28), (2, 30)), &[
+        (Wanted::Name("kf64"), ((2, 28), (2, 32)), "kf4"), (Wanted::Name("kf64"), ((2, 28), (2, 32)), "kf6"),
+        (Wanted::Name("kf64"), ((2, 28), (2, 32)), "kf14"),
+    ]),
+    // a boolean; the same from an item that is touched before it
+    (((2, 37), (2, 37)), &[(Wanted::Name("bwx"), ((2, 36), (2, 39)), "bw")]),
+    (((2, 13), (2, 15)), &[
+        (Wanted::Name("colour"), ((2, 5), (2, 11)), "colors"), (Wanted::Name("clearr"), ((2, 15), (2, 21)), "clear"),
+    ]),
+    // no name has a letter of it; a cancel is of any kind; no name at all
+    (((3, 1), (3, 11)), &[]),
+    (((3, 12), (3, 17)), &[(Wanted::Name("Cols"), ((3, 12), (3, 16)), "cols")]),
+    (((3, 19), (3, 21)), &[]),
+    // the block's own name is not offered
+    (((3, 25), (3, 25)), &[(Wanted::Name("vt2"), ((3, 27), (3, 30)), "vt3")]),
+    // a number with the sign of a string, a boolean with a sign and without a value
+    (((5, 1), (5, 1)), &[(Wanted::Sign(Kind::Number), ((5, 5), (5, 6)), "#")]),
+    (((5, 10), (5, 10)), &[(Wanted::Sign(Kind::Flag), ((5, 12), (5, 13)), "")]),
+    // no value, a boolean with a value, digits and more
+    (((5, 15), (5, 19)), &[]),
+    (((5, 21), (5, 25)), &[]),
+    (((5, 27), (5, 35)), &[]),
+    // a string with the sign of a number, and one without a value
+    (((5, 37), (5, 42)), &[(Wanted::Sign(Kind::Text), ((5, 40), (5, 41)), "=")]),
+    (((5, 44), (5, 48)), &[]),
+    // a string with an escape that has no name
+    (((6, 4), (6, 4)), &[(Wanted::Spelling, ((6, 5), (6, 11)), "aqb:")]),
+    // a use of a name that no block has, and one of a name that a block has
+    (((6, 13), (6, 17)), &[(Wanted::Name("basse"), ((6, 18), (6, 23)), "base")]),
+    (((6, 26), (6, 33)), &[]),
+    // a name that a comment is in, from a place between its halves and from a range past the end
+    (((10, 0), (10, 1)), &[(Wanted::Name("line"), ((9, 9), (11, 3)), "lines")]),
+    (((9, 1), (11, 4)), &[(Wanted::Name("line"), ((9, 9), (11, 3)), "lines")]),
+    (((11, 3), (20, 0)), &[
+        (Wanted::Name("line"), ((9, 9), (11, 3)), "lines"), (Wanted::Caret, ((12, 5), (12, 6)), "\\^"),
+        (Wanted::Caret, ((12, 12), (12, 13)), "\\^"), (Wanted::Caret, ((12, 38), (12, 39)), "\\^"),
+    ]),
+    // a `^` that takes nothing, at the end; after a `%` it is itself
+    (((12, 1), (12, 1)), &[(Wanted::Caret, ((12, 5), (12, 6)), "\\^")]),
+    (((12, 8), (12, 9)), &[(Wanted::Caret, ((12, 12), (12, 13)), "\\^")]),
+    (((12, 16), (12, 16)), &[]),
+    // an octal value over 255, with a `^` that a backslash takes; one after a backslash that is taken
+    (((12, 23), (12, 23)), &[]),
+    (((12, 34), (12, 34)), &[(Wanted::Caret, ((12, 38), (12, 39)), "\\^")]),
+];
+
+// A range of a line and a column each.
+fn range_of(((line, column), (last, end)): ((usize, usize), (usize, usize))) -> Range {
+    Range {
+        start: Position { line, column },
+        end: Position {
+            line: last,
+            column: end,
+        },
+    }
+}
+
+/// Whether advice is as it is wanted.
+fn is_advised(advice: &Advice, wanted: Wanted) -> bool {
+    match (advice, wanted) {
+        (Advice::Name(name), Wanted::Name(other)) => name.as_str() == other,
+        (Advice::Sign(kind), Wanted::Sign(other)) => *kind == other,
+        (Advice::Spelling, Wanted::Spelling) | (Advice::Caret, Wanted::Caret) => true,
+        _ => false,
+    }
+}
+
+/// Whether a fix is as it is wanted.
+fn is_wanted(
+    fix: &Fix,
+    (wanted, range, text): (Wanted, ((usize, usize), (usize, usize)), &'static str),
+) -> bool {
+    is_advised(&fix.advice, wanted) && fix.range == range_of(range) && fix.text.as_str() == text
+}
+
+/// Whether fixes are as they are wanted.
+fn are_wanted(
+    found: &[Fix],
+    wanted: &[(Wanted, ((usize, usize), (usize, usize)), &'static str)],
+) -> bool {
+    if found.len() != wanted.len() {
+        return false;
+    }
+    for at in 0..found.len() {
+        if !is_wanted(&found[at], wanted[at]) {
+            return false;
+        }
+    }
+    true
+}
+
+#[test]
+fn what_is_offered(rt: HostRuntime) -> Result<(), AllocError> {
+    let alloc = rt.alloc();
+    let document = document_of(alloc, SOURCE)?;
+    for (range, wanted) in &ROWS {
+        let found = fixes_of(alloc, &document, range_of(*range))?;
+        assert!(rt; are_wanted(&found, wanted));
+    }
+    Ok(())
+}

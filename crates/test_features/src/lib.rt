@@ -1,0 +1,25 @@
+//! The worked rows of what an editor asks of documents, as tests; no code of the product.
+//!
+//! - `completions`: what completes the words of documents
+//! - `deciding`: the blocks that decide what an entry inherits
+//! - `fixes`: what is offered against the faults of documents
+//! - `hovers`: what is told of what places of documents are on
+//! - `names`: where the names of documents lead
+//! - `outlines`: the blocks of documents as their outlines show them
+//! - `renaming`: what is renamed in documents
+#![tactic(auto)]
+
+#[cfg(test)]
+mod completions;
+#[cfg(test)]
+mod deciding;
+#[cfg(test)]
+mod fixes;
+#[cfg(test)]
+mod hovers;
+#[cfg(test)]
+mod names;
+#[cfg(test)]
+mod outlines;
+#[cfg(test)]
+mod renaming;

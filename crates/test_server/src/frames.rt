@@ -1,0 +1,137 @@
+//! Frames: headers in any form that is allowed, and those that are none.
+use lsp_frames::{Frame, FrameFault, make_frame, read_frame, write_frame};
+use std::alloc::Global;
+use std::io::{self, Read};
+use std::process::Abort;
+use std::test::Fail;
+
+// The body of a frame; if it is too long, these words.
+fn seen(frame: &Frame) -> &[u8] {
+    match frame {
+        Frame::Body(body) => body.as_slice(),
+        Frame::TooLong => b"too long",
+    }
+}
+
+// The frame that begins the bytes has this body.
+fn expect_body(rt: &impl Abort, alloc: Global, bytes: &[u8], want: &[u8]) {
+    let mut reader = bytes;
+    match read_frame(alloc, &mut reader) {
+        Ok(frame) => assert!(rt; seen(&frame) == want, "{bytes:?}"),
+        Err(_) => assert!(rt; false, "{bytes:?}"),
+    }
+}
+
+// No frame begins the bytes.
+fn expect_broken(rt: &impl Abort, alloc: Global, bytes: &[u8]) {
+    let mut reader = bytes;
+    match read_frame(alloc, &mut reader) {
+        Ok(_) => assert!(rt; false, "{bytes:?}"),
+        Err(fault) => assert!(rt; fault == FrameFault::Broken, "{bytes:?}"),
+    }
+}
+
+const FRAMES: [(&[u8], &[u8]); 9] = [
+    (b"Content-Length: 2\r\n\r\n{}", b"{}"),
+    (b"content-length: 2\r\n\r\n{}", b"{}"),
+    (b"CONTENT-LENGTH:2\r\n\r\n{}", b"{}"),
+    (b"Content-Length: \t 2 \t\r\n\r\n{}", b"{}"),
+    (b"Content-Length: 0002\r\n\r\n{}", b"{}"),
+    (b"Content-Length: 0\r\n\r\n{}", b""),
+    (
+        b"Content-Type: application/vscode-jsonrpc; charset=utf-8\r\nContent-Length: 2\r\n\r\n{}",
+        b"{}",
+    ),
+    (
+        b"Content-Length: 1\r\nX:\r\nContent-Length: 2\r\n\r\n{}",
+        b"{",
+    ),
+    (b"Content-Length: 3\r\n\r\n\r\n\xff", b"\r\n\xff"),
+];
+
+#[test]
+fn frames_are_read(rt: HostRuntime) {
+    for (bytes, body) in FRAMES.iter() {
+        expect_body(&rt, rt.alloc(), bytes, body);
+    }
+}
+
+const BROKEN: [&[u8]; 15] = [
+    b"",
+    b"\r\n{}",
+    b"Content-Length: 2",
+    b"Content-Length: 2\r\n",
+    b"Content-Length: 2\r\n\r\n",
+    b"Content-Length: 3\r\n\r\n{}",
+    b"Content-Length: 2\n\n{}",
+    b"Content-Length: 2\r\n\n{}",
+    b"Content-Length: 2 \n\r\n{}",
+    b"Content-Lengt: 2\r\n\r\n{}",
+    b"Content-Length : 2\r\n\r\n{}",
+    b"Content-Length:\r\n\r\n",
+    b"Content-Length: -2\r\n\r\n{}",
+    b"Content-Length: 2 2\r\n\r\n{}",
+    b"Content-Length: 18446744073709551616\r\n\r\n{}",
+];
+
+#[test]
+fn no_frames_are_broken(rt: HostRuntime) {
+    for bytes in BROKEN {
+        expect_broken(&rt, rt.alloc(), bytes);
+    }
+}
+
+// A header of this many bytes, filled by a field that is skipped.
+fn long_header(alloc: Global, len: usize) -> Result<Vec<u8>, Fail> {
+    let rest = "Content-Length: 2\r\n\r\n";
+    let fill = "x".repeat(alloc, len.saturating_sub(rest.len()).saturating_sub(4))?;
+    let mut bytes = format!(in alloc; "X:{fill}\r\n{rest}")?.into_bytes();
+    bytes.extend_from_slice(b"{}")?;
+    Ok(bytes)
+}
+
+#[test]
+fn a_header_has_at_most_4096_bytes(rt: HostRuntime) -> Result<(), Fail> {
+    let most = long_header(rt.alloc(), 4096)?;
+    assert_eq!(rt; most.len(), 4098);
+    expect_body(&rt, rt.alloc(), most.as_slice(), b"{}");
+    let more = long_header(rt.alloc(), 4097)?;
+    expect_broken(&rt, rt.alloc(), more.as_slice());
+    Ok(())
+}
+
+// The first frame is too long, by one byte, and the next one is read.
+#[test]
+fn a_body_that_is_too_long_is_passed_over(rt: HostRuntime) -> Result<(), Fail> {
+    let header = b"Content-Length: 67108865\r\n\r\n".as_slice();
+    let next = b"Content-Length: 2\r\n\r\n{}".as_slice();
+    let body = io::repeat(b' ').take(67_108_865);
+    let mut reader = header.chain(body).chain(next);
+    let first = read_frame(rt.alloc(), &mut reader);
+    assert!(rt; matches!(first, Ok(Frame::TooLong)));
+    match read_frame(rt.alloc(), &mut reader) {
+        Ok(Frame::Body(body)) => assert!(rt; body.as_slice() == b"{}".as_slice()),
+        _ => assert!(rt; false),
+    }
+    Ok(())
+}
+
+#[test]
+fn a_frame_is_written(rt: HostRuntime) -> Result<(), Fail> {
+    let want = b"Content-Length: 12\r\n\r\n{\"id\":\"\xc3\xa9\"} ".as_slice();
+    let body = b"{\"id\":\"\xc3\xa9\"} ".as_slice();
+    assert!(rt; make_frame(rt.alloc(), body)?.as_slice() == want);
+    let mut writer = Vec::new(rt.alloc());
+    let written = write_frame(rt.alloc(), &mut writer, body);
+    assert!(rt; written == Ok(()));
+    assert!(rt; writer.as_slice() == want);
+    Ok(())
+}
+
+#[test]
+fn a_closed_output_is_broken(rt: HostRuntime) {
+    let mut room = [0_u8; 10];
+    let mut writer = room.as_mut_slice();
+    let written = write_frame(rt.alloc(), &mut writer, b"{}");
+    assert!(rt; written == Err(FrameFault::Broken));
+}

@@ -1,0 +1,92 @@
+//! A source for tests: its one diagnostic is the length of its text, and lines do not count. The
+//! answer to a question about it has the URI, the text, and what was asked: of a rename the new
+//! name, of fixes the start of the range and whether they are wanted. A rename to an empty name is
+//! refused.
+ghost use Rattle.std.specs.Prelude.{◌≡◌};
+ghost use Rattle.test_server.specs.Measured.{flag_of, place_of, word_of};
+ghost use Rattle.lsp_messages.specs.Views.{question_view};
+
+use lsp_messages::{Question, Reply};
+use lsp_server::Source;
+use lsp_types::{Failure, Position};
+use serde_json::{Value, json};
+use std::alloc::{AllocError, Global};
+
+/// A text.
+#[derive(Drop)]
+pub struct Measured {
+    pub text: Vec<u8>,
+}
+
+// What is asked, as a word, its place, and whether the definition is asked for too.
+fn parts_of(question: Question<'_>) -> (&str, Position, bool)
+    ensures word { result.0.now ≡ word_of (question_view question.entry) }
+    ensures place { result.1 ≡ place_of (question_view question.entry) }
+    ensures flag { result.2 ≡ flag_of (question_view question.entry) }
+{
+    let start = Position { line: 0, column: 0 };
+    match question {
+        Question::Completion(place) => ("completion", place, false),
+        Question::Hover(place) => ("hover", place, false),
+        Question::Definition(place) => ("definition", place, false),
+        Question::References {
+            place,
+            with_declaration,
+        } => ("references", place, with_declaration),
+        Question::Symbols => ("symbols", start, false),
+        Question::Rename { place, name } => (name, place, false),
+        Question::PrepareRename(place) => ("prepareRename", place, false),
+        Question::Fixes { range, wanted } => ("fixes", range.start, wanted),
+    }
+}
+
+impl Source for Measured {
+    ghost use Rattle.std.specs.Prelude.{ℕ, List, length, min};
+    ghost use Rattle.test_server.specs.Measured.{sayings, sayings_have_no_floats};
+
+    ghost text_of = { λ source. source.text.items };
+
+    ghost place_in = { λ text place. min place.column (length text) };
+
+    ghost says = { sayings };
+
+    ghost no_floats = { sayings_have_no_floats };
+
+    fn open(_alloc: Global, text: Vec<u8>) -> Result<Measured, AllocError> {
+        Ok(Measured { text })
+    }
+
+    fn set(&mut self, text: Vec<u8>) -> Result<(), AllocError> {
+        self.text = text;
+        Ok(())
+    }
+
+    fn text(&self) -> &[u8] {
+        self.text.as_slice()
+    }
+
+    fn offset_of(text: &[u8], place: Position) -> usize {
+        place.column.min(text.len())
+    }
+
+    fn diagnostics(&self, alloc: Global) -> Result<Vec<Value>, AllocError> {
+        let mut values = Vec::new(alloc);
+        let len = self.text.len();
+        values.push(json!(in alloc; len)?)?;
+        Ok(values)
+    }
+
+    fn answer(
+        &self,
+        alloc: Global,
+        uri: &str,
+        question: Question<'_>,
+    ) -> Result<Reply, AllocError> {
+        let (word, place, flag) = parts_of(question);
+        if word.is_empty() {
+            return Ok(Reply::Refusal(Failure::NoName));
+        }
+        let len = self.text.len();
+        Ok(Reply::Answer(json!(in alloc; [uri, len, word, place.line, place.column, flag])?))
+    }
+}

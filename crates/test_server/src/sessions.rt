@@ -1,0 +1,541 @@
+//! Sessions: the bodies that a client sends, the bodies that are sent back, and the status.
+use crate::measured::Measured;
+use lsp_frames::FrameFault;
+use lsp_server::{Server, serve};
+use std::alloc::{AllocError, Global};
+use std::process::Abort;
+use std::test::Fail;
+use test_devices::{Drip, End, Narrow};
+
+// A session: what it shows, the bodies that come, those that are sent back, and how it ends. With
+// no status the input ends before `exit`.
+struct Session {
+    name: &'static str,
+    sent: &'static [&'static str],
+    answers: &'static [&'static str],
+    end: Result<u8, FrameFault>,
+}
+
+const INITIALIZE: &str =
+    r#"{"jsonrpc":"2.0","id":1,"method":"initialize","params":{"capabilities":{}}}"#;
+
+const READY: &str =
+    r#"{"id":1,"jsonrpc":"2.0","result":{"capabilities":{"codeActionProvider":false,"completionProvider":{"triggerCharacters":["=",","]},"definitionProvider":true,"documentSymbolProvider":true,"hoverProvider":true,"positionEncoding":"utf-16","referencesProvider":true,"renameProvider":true,"textDocumentSync":{"change":2,"openClose":true}},"serverInfo":{"name":"ti-lsp","version":"1.0.0"}}}"#;
+
+// A client that asks which name a rename is of, and that takes code actions.
+const INITIALIZE_ABLE: &str =
+    r#"{"jsonrpc":"2.0","id":1,"method":"initialize","params":{"capabilities":{"textDocument":{"rename":{"prepareSupport":true},"codeAction":{"codeActionLiteralSupport":{}}}}}}"#;
+
+const READY_FOR_ABLE: &str =
+    r#"{"id":1,"jsonrpc":"2.0","result":{"capabilities":{"codeActionProvider":{"codeActionKinds":["quickfix"]},"completionProvider":{"triggerCharacters":["=",","]},"definitionProvider":true,"documentSymbolProvider":true,"hoverProvider":true,"positionEncoding":"utf-16","referencesProvider":true,"renameProvider":{"prepareProvider":true},"textDocumentSync":{"change":2,"openClose":true}},"serverInfo":{"name":"ti-lsp","version":"1.0.0"}}}"#;
+
+const SHUTDOWN: &str = r#"{"jsonrpc":"2.0","id":2,"method":"shutdown"}"#;
+
+const DONE: &str = r#"{"id":2,"jsonrpc":"2.0","result":null}"#;
+
+const EXIT: &str = r#"{"jsonrpc":"2.0","method":"exit"}"#;
+
+const OPEN: &str =
+    r#"{"jsonrpc":"2.0","method":"textDocument/didOpen","params":{"textDocument":{"uri":"u","languageId":"terminfo","version":1,"text":"abc"}}}"#;
+
+const OPENED: &str =
+    r#"{"jsonrpc":"2.0","method":"textDocument/publishDiagnostics","params":{"diagnostics":[3],"uri":"u","version":1}}"#;
+
+const CLOSE: &str =
+    r#"{"jsonrpc":"2.0","method":"textDocument/didClose","params":{"textDocument":{"uri":"u"}}}"#;
+
+const CLOSED: &str =
+    r#"{"jsonrpc":"2.0","method":"textDocument/publishDiagnostics","params":{"diagnostics":[],"uri":"u"}}"#;
+
+const HOVER: &str =
+    r#"{"jsonrpc":"2.0","id":3,"method":"textDocument/hover","params":{"textDocument":{"uri":"u"},"position":{"line":4,"character":5}}}"#;
+
+const HOVERED: &str = r#"{"id":3,"jsonrpc":"2.0","result":["u",3,"hover",4,5,false]}"#;
+
+const NOT_ANSWERED: &str =
+    r#"{"error":{"code":-32602,"message":"the parameters are not those of the method"},"id":3,"jsonrpc":"2.0"}"#;
+
+const NO_JSON: &str =
+    r#"{"error":{"code":-32700,"message":"the body is no JSON or is too long"},"id":null,"jsonrpc":"2.0"}"#;
+
+const NO_REQUEST: &str =
+    r#"{"error":{"code":-32600,"message":"no request is expected here"},"id":null,"jsonrpc":"2.0"}"#;
+
+// The frame of a body.
+fn push_frame(frames: &mut Vec<u8>, alloc: Global, body: &str) -> Result<(), AllocError> {
+    let len = body.len();
+    let header = format!(in alloc; "Content-Length: {len}\r\n\r\n")?;
+    frames.extend_from_slice(header.as_bytes())?;
+    frames.extend_from_slice(body.as_bytes())?;
+    Ok(())
+}
+
+// The frames of bodies.
+fn frames_of(alloc: Global, bodies: &[&str]) -> Result<Vec<u8>, AllocError> {
+    let mut frames = Vec::new(alloc);
+    for body in bodies {
+        push_frame(&mut frames, alloc, body)?;
+    }
+    Ok(frames)
+}
+
+// A session goes as its row says.
+fn expect_session(rt: &impl Abort, alloc: Global, session: &Session) -> Result<(), AllocError> {
+    let input = frames_of(alloc, session.sent)?;
+    let want = frames_of(alloc, session.answers)?;
+    let mut reader = input.as_slice();
+    let mut writer = Vec::new(alloc);
+    let mut server: Server<Measured> = Server::new(alloc);
+    let end = serve(alloc, &mut server, &mut reader, &mut writer);
+    let name = session.name;
+    assert!(rt; end == session.end, "{name}");
+    assert!(rt; writer.as_slice() == want.as_slice(), "{name}: {writer:?}");
+    Ok(())
+}
+
+// Each session goes as its row says.
+fn expect_all(rt: &impl Abort, alloc: Global, sessions: &[Session]) -> Result<(), Fail> {
+    for session in sessions {
+        expect_session(rt, alloc, session)?;
+    }
+    Ok(())
+}
+
+const LIVES: [Session; 8] = [
+    Session {
+        name: "a document opened, changed and closed",
+        sent: &[
+            INITIALIZE,
+            r#"{"jsonrpc":"2.0","method":"initialized","params":{}}"#,
+            OPEN,
+            r#"{"jsonrpc":"2.0","method":"textDocument/didChange","params":{"textDocument":{"uri":"u","version":2},"contentChanges":[{"range":{"start":{"line":0,"character":1},"end":{"line":0,"character":2}},"rangeLength":1,"text":"XYZ"},{"range":{"start":{"line":0,"character":2},"end":{"line":0,"character":4}},"text":""}]}}"#,
+            CLOSE,
+            SHUTDOWN,
+            EXIT,
+        ],
+        answers: &[
+            READY,
+            OPENED,
+            r#"{"jsonrpc":"2.0","method":"textDocument/publishDiagnostics","params":{"diagnostics":[3],"uri":"u","version":2}}"#,
+            CLOSED,
+            DONE,
+        ],
+        end: Ok(0),
+    },
+    Session {
+        name: "exit without shutdown",
+        sent: &[INITIALIZE, EXIT],
+        answers: &[READY],
+        end: Ok(1),
+    },
+    Session {
+        name: "exit at once",
+        sent: &[EXIT],
+        answers: &[],
+        end: Ok(1),
+    },
+    Session {
+        name: "the input ends",
+        sent: &[INITIALIZE, SHUTDOWN],
+        answers: &[READY, DONE],
+        end: Err(FrameFault::Broken),
+    },
+    Session {
+        name: "before initialize",
+        sent: &[
+            r#"{"jsonrpc":"2.0","id":"a","method":"shutdown"}"#,
+            r#"{"jsonrpc":"2.0","id":-7,"method":"textDocument/hover"}"#,
+            r#"{"jsonrpc":"2.0","id":-8,"method":"textDocument/documentSymbol","params":{"textDocument":{"uri":"u"}}}"#,
+            OPEN,
+            INITIALIZE,
+            CLOSE,
+            EXIT,
+        ],
+        answers: &[
+            r#"{"error":{"code":-32002,"message":"the server is not initialized"},"id":"a","jsonrpc":"2.0"}"#,
+            r#"{"error":{"code":-32002,"message":"the server is not initialized"},"id":-7,"jsonrpc":"2.0"}"#,
+            r#"{"error":{"code":-32002,"message":"the server is not initialized"},"id":-8,"jsonrpc":"2.0"}"#,
+            READY,
+        ],
+        end: Ok(1),
+    },
+    Session {
+        name: "a client that can do more",
+        sent: &[INITIALIZE_ABLE, EXIT],
+        answers: &[READY_FOR_ABLE],
+        end: Ok(1),
+    },
+    Session {
+        name: "a second initialize",
+        sent: &[INITIALIZE, INITIALIZE, EXIT],
+        answers: &[
+            READY,
+            r#"{"error":{"code":-32600,"message":"no request is expected here"},"id":1,"jsonrpc":"2.0"}"#,
+        ],
+        end: Ok(1),
+    },
+    Session {
+        name: "after shutdown",
+        sent: &[
+            INITIALIZE, OPEN, SHUTDOWN, OPEN, INITIALIZE, SHUTDOWN, HOVER, EXIT,
+        ],
+        answers: &[
+            READY,
+            OPENED,
+            DONE,
+            r#"{"error":{"code":-32600,"message":"no request is expected here"},"id":1,"jsonrpc":"2.0"}"#,
+            r#"{"error":{"code":-32600,"message":"no request is expected here"},"id":2,"jsonrpc":"2.0"}"#,
+            r#"{"error":{"code":-32600,"message":"no request is expected here"},"id":3,"jsonrpc":"2.0"}"#,
+        ],
+        end: Ok(0),
+    },
+];
+
+#[test]
+fn lives_of_the_server(rt: HostRuntime) -> Result<(), Fail> {
+    expect_all(&rt, rt.alloc(), &LIVES)
+}
+
+const REQUESTS: [Session; 4] = [
+    Session {
+        name: "unknown methods",
+        sent: &[
+            INITIALIZE,
+            r#"{"jsonrpc":"2.0","id":3,"method":"textDocument/declaration","params":{}}"#,
+            r#"{"jsonrpc":"2.0","id":4,"method":"$/anything"}"#,
+            r#"{"jsonrpc":"2.0","id":5,"method":"textDocument/didOpen"}"#,
+            r#"{"jsonrpc":"2.0","method":"$/cancelRequest","params":{"id":4}}"#,
+            r#"{"jsonrpc":"2.0","method":"workspace/didChangeConfiguration","params":{"settings":null}}"#,
+            r#"{"jsonrpc":"2.0","method":"shutdown"}"#,
+        ],
+        answers: &[
+            READY,
+            r#"{"error":{"code":-32601,"message":"there is no such method"},"id":3,"jsonrpc":"2.0"}"#,
+            r#"{"error":{"code":-32601,"message":"there is no such method"},"id":4,"jsonrpc":"2.0"}"#,
+            r#"{"error":{"code":-32601,"message":"there is no such method"},"id":5,"jsonrpc":"2.0"}"#,
+        ],
+        end: Err(FrameFault::Broken),
+    },
+    Session {
+        name: "bodies that are no JSON",
+        sent: &[
+            "",
+            " ",
+            "{",
+            "nul",
+            "{}{}",
+            r#"{"id":1,"method":"\ud800"}"#,
+            "\u{feff}{}",
+        ],
+        answers: &[
+            NO_JSON, NO_JSON, NO_JSON, NO_JSON, NO_JSON, NO_JSON, NO_JSON,
+        ],
+        end: Err(FrameFault::Broken),
+    },
+    Session {
+        name: "values that are no request",
+        sent: &[
+            "[]",
+            r#"[{"jsonrpc":"2.0","id":1,"method":"initialize"}]"#,
+            "1",
+            "{}",
+            r#"{"id":null,"method":"shutdown"}"#,
+            r#"{"id":1.5,"method":"shutdown"}"#,
+            r#"{"id":[],"method":"shutdown"}"#,
+            r#"{"id":5}"#,
+            r#"{"id":"x","method":8}"#,
+        ],
+        answers: &[
+            NO_REQUEST,
+            NO_REQUEST,
+            NO_REQUEST,
+            NO_REQUEST,
+            NO_REQUEST,
+            NO_REQUEST,
+            NO_REQUEST,
+            r#"{"error":{"code":-32600,"message":"no request is expected here"},"id":5,"jsonrpc":"2.0"}"#,
+            r#"{"error":{"code":-32600,"message":"no request is expected here"},"id":"x","jsonrpc":"2.0"}"#,
+        ],
+        end: Err(FrameFault::Broken),
+    },
+    Session {
+        name: "answers to requests that the server did not send",
+        sent: &[
+            r#"{"id":5,"result":null}"#,
+            r#"{"id":6,"error":{"code":1,"message":""}}"#,
+            r#"{"result":1}"#,
+            EXIT,
+        ],
+        answers: &[],
+        end: Ok(1),
+    },
+];
+
+#[test]
+fn requests_that_are_refused(rt: HostRuntime) -> Result<(), Fail> {
+    expect_all(&rt, rt.alloc(), &REQUESTS)
+}
+
+const QUESTIONS: [Session; 5] = [
+    Session {
+        name: "questions about two documents",
+        sent: &[
+            INITIALIZE,
+            OPEN,
+            r#"{"method":"textDocument/didOpen","params":{"textDocument":{"uri":"v","version":4,"text":"ab"}}}"#,
+            HOVER,
+            r#"{"id":"a","method":"textDocument/completion","params":{"context":{"triggerKind":1},"position":{"character":2,"line":1},"textDocument":{"uri":"v"}}}"#,
+            r#"{"id":-1,"method":"textDocument/definition","params":{"position":{"character":0,"line":2147483647},"textDocument":{"uri":"u"}}}"#,
+            r#"{"id":0,"method":"textDocument/references","params":{"context":{"includeDeclaration":true},"position":{"character":8,"line":9},"textDocument":{"uri":"v"}}}"#,
+            r#"{"id":1,"method":"textDocument/references","params":{"context":{"includeDeclaration":false},"position":{"character":8,"line":9},"textDocument":{"uri":"u"}}}"#,
+            r#"{"id":2,"method":"textDocument/documentSymbol","params":{"textDocument":{"uri":"v"}}}"#,
+        ],
+        answers: &[
+            READY,
+            OPENED,
+            r#"{"jsonrpc":"2.0","method":"textDocument/publishDiagnostics","params":{"diagnostics":[2],"uri":"v","version":4}}"#,
+            HOVERED,
+            r#"{"id":"a","jsonrpc":"2.0","result":["v",2,"completion",1,2,false]}"#,
+            r#"{"id":-1,"jsonrpc":"2.0","result":["u",3,"definition",2147483647,0,false]}"#,
+            r#"{"id":0,"jsonrpc":"2.0","result":["v",2,"references",9,8,true]}"#,
+            r#"{"id":1,"jsonrpc":"2.0","result":["u",3,"references",9,8,false]}"#,
+            r#"{"id":2,"jsonrpc":"2.0","result":["v",2,"symbols",0,0,false]}"#,
+        ],
+        end: Err(FrameFault::Broken),
+    },
+    Session {
+        name: "renames, of which one is refused",
+        sent: &[
+            INITIALIZE,
+            OPEN,
+            r#"{"id":"p","method":"textDocument/prepareRename","params":{"textDocument":{"uri":"u"},"position":{"line":6,"character":7}}}"#,
+            r#"{"id":"r","method":"textDocument/rename","params":{"textDocument":{"uri":"u"},"position":{"line":8,"character":9},"newName":"vt\u00e9"}}"#,
+            r#"{"id":5,"method":"textDocument/rename","params":{"textDocument":{"uri":"u"},"position":{"line":8,"character":9},"newName":""}}"#,
+        ],
+        answers: &[
+            READY,
+            OPENED,
+            r#"{"id":"p","jsonrpc":"2.0","result":["u",3,"prepareRename",6,7,false]}"#,
+            r#"{"id":"r","jsonrpc":"2.0","result":["u",3,"vté",8,9,false]}"#,
+            r#"{"error":{"code":-32803,"message":"no entry can have the new name"},"id":5,"jsonrpc":"2.0"}"#,
+        ],
+        end: Err(FrameFault::Broken),
+    },
+    Session {
+        name: "fixes, with and without the kinds that are asked for",
+        sent: &[
+            INITIALIZE,
+            OPEN,
+            r#"{"id":1,"method":"textDocument/codeAction","params":{"textDocument":{"uri":"u"},"range":{"start":{"line":1,"character":2},"end":{"line":3,"character":4}},"context":{"diagnostics":[]}}}"#,
+            r#"{"id":2,"method":"textDocument/codeAction","params":{"textDocument":{"uri":"u"},"range":{"start":{"line":1,"character":2},"end":{"line":3,"character":4}},"context":{"diagnostics":[],"only":["refactor","quickfix"]}}}"#,
+            r#"{"id":3,"method":"textDocument/codeAction","params":{"textDocument":{"uri":"u"},"range":{"start":{"line":1,"character":2},"end":{"line":3,"character":4}},"context":{"diagnostics":[],"only":[""]}}}"#,
+            r#"{"id":4,"method":"textDocument/codeAction","params":{"textDocument":{"uri":"u"},"range":{"start":{"line":1,"character":2},"end":{"line":3,"character":4}},"context":{"diagnostics":[],"only":["quickfix.x","quick",1]}}}"#,
+            r#"{"id":5,"method":"textDocument/codeAction","params":{"textDocument":{"uri":"u"},"range":{"start":{"line":1,"character":2},"end":{"line":3,"character":4}},"context":{"diagnostics":[],"only":[]}}}"#,
+        ],
+        answers: &[
+            READY,
+            OPENED,
+            r#"{"id":1,"jsonrpc":"2.0","result":["u",3,"fixes",1,2,true]}"#,
+            r#"{"id":2,"jsonrpc":"2.0","result":["u",3,"fixes",1,2,true]}"#,
+            r#"{"id":3,"jsonrpc":"2.0","result":["u",3,"fixes",1,2,true]}"#,
+            r#"{"id":4,"jsonrpc":"2.0","result":["u",3,"fixes",1,2,false]}"#,
+            r#"{"id":5,"jsonrpc":"2.0","result":["u",3,"fixes",1,2,false]}"#,
+        ],
+        end: Err(FrameFault::Broken),
+    },
+    Session {
+        name: "a question after a change, and after the document was closed",
+        sent: &[
+            INITIALIZE,
+            HOVER,
+            OPEN,
+            r#"{"method":"textDocument/didChange","params":{"textDocument":{"uri":"u","version":2},"contentChanges":[{"text":"12345"}]}}"#,
+            HOVER,
+            CLOSE,
+            HOVER,
+        ],
+        answers: &[
+            READY,
+            NOT_ANSWERED,
+            OPENED,
+            r#"{"jsonrpc":"2.0","method":"textDocument/publishDiagnostics","params":{"diagnostics":[5],"uri":"u","version":2}}"#,
+            r#"{"id":3,"jsonrpc":"2.0","result":["u",5,"hover",4,5,false]}"#,
+            CLOSED,
+            NOT_ANSWERED,
+        ],
+        end: Err(FrameFault::Broken),
+    },
+    Session {
+        name: "parameters that are not those of the method",
+        sent: &[
+            INITIALIZE,
+            OPEN,
+            r#"{"id":3,"method":"textDocument/hover"}"#,
+            r#"{"id":3,"method":"textDocument/hover","params":[]}"#,
+            r#"{"id":3,"method":"textDocument/hover","params":{"textDocument":{"uri":"u"}}}"#,
+            r#"{"id":3,"method":"textDocument/completion","params":{"position":{"line":0,"character":0}}}"#,
+            r#"{"id":3,"method":"textDocument/completion","params":{"textDocument":{"uri":7},"position":{"line":0,"character":0}}}"#,
+            r#"{"id":3,"method":"textDocument/definition","params":{"textDocument":{"uri":"u"},"position":{"line":-1,"character":0}}}"#,
+            r#"{"id":3,"method":"textDocument/definition","params":{"textDocument":{"uri":"u"},"position":{"line":0,"character":2147483648}}}"#,
+            r#"{"id":3,"method":"textDocument/references","params":{"textDocument":{"uri":"u"},"position":{"line":0,"character":0}}}"#,
+            r#"{"id":3,"method":"textDocument/references","params":{"textDocument":{"uri":"u"},"position":{"line":0,"character":0},"context":{"includeDeclaration":1}}}"#,
+            r#"{"id":3,"method":"textDocument/documentSymbol","params":{"textDocument":"u"}}"#,
+            r#"{"id":3,"method":"textDocument/rename","params":{"textDocument":{"uri":"u"},"position":{"line":0,"character":0}}}"#,
+            r#"{"id":3,"method":"textDocument/rename","params":{"textDocument":{"uri":"u"},"position":{"line":0,"character":0},"newName":null}}"#,
+            r#"{"id":3,"method":"textDocument/rename","params":{"textDocument":{"uri":"u"},"newName":"vt"}}"#,
+            r#"{"id":3,"method":"textDocument/prepareRename","params":{"textDocument":{"uri":"u"}}}"#,
+            r#"{"id":3,"method":"textDocument/codeAction","params":{"textDocument":{"uri":"u"},"range":{"start":{"line":1,"character":2},"end":{"line":3,"character":4}}}}"#,
+            r#"{"id":3,"method":"textDocument/codeAction","params":{"textDocument":{"uri":"u"},"range":{"start":{"line":1,"character":2},"end":{"line":3,"character":4}},"context":{"only":"quickfix"}}}"#,
+            r#"{"id":3,"method":"textDocument/codeAction","params":{"textDocument":{"uri":"u"},"range":{"start":{"line":0,"character":0}},"context":{}}}"#,
+        ],
+        answers: &[
+            READY,
+            OPENED,
+            NOT_ANSWERED,
+            NOT_ANSWERED,
+            NOT_ANSWERED,
+            NOT_ANSWERED,
+            NOT_ANSWERED,
+            NOT_ANSWERED,
+            NOT_ANSWERED,
+            NOT_ANSWERED,
+            NOT_ANSWERED,
+            NOT_ANSWERED,
+            NOT_ANSWERED,
+            NOT_ANSWERED,
+            NOT_ANSWERED,
+            NOT_ANSWERED,
+            NOT_ANSWERED,
+            NOT_ANSWERED,
+            NOT_ANSWERED,
+        ],
+        end: Err(FrameFault::Broken),
+    },
+];
+
+#[test]
+fn questions_about_documents(rt: HostRuntime) -> Result<(), Fail> {
+    expect_all(&rt, rt.alloc(), &QUESTIONS)
+}
+
+const DROPPED: [Session; 2] = [
+    Session {
+        name: "notifications that are dropped whole",
+        sent: &[
+            INITIALIZE,
+            r#"{"method":"textDocument/didOpen","params":{"textDocument":{"uri":"u","text":"abc"}}}"#,
+            r#"{"method":"textDocument/didOpen","params":{"textDocument":{"uri":"u","version":2147483648,"text":"abc"}}}"#,
+            r#"{"method":"textDocument/didOpen","params":[]}"#,
+            r#"{"method":"textDocument/didOpen"}"#,
+            r#"{"method":"textDocument/didChange","params":{"textDocument":{"uri":"u","version":2},"contentChanges":[{"text":"z"}]}}"#,
+            CLOSE,
+            OPEN,
+            r#"{"method":"textDocument/didChange","params":{"textDocument":{"uri":"u","version":2},"contentChanges":[{"text":"abcdef"},{"range":{"start":{"line":0,"character":0}},"text":""}]}}"#,
+            r#"{"method":"textDocument/didChange","params":{"textDocument":{"uri":"v","version":2},"contentChanges":[{"text":"abcdef"}]}}"#,
+            r#"{"method":"textDocument/didClose","params":{"textDocument":{"uri":"v"}}}"#,
+            r#"{"method":"textDocument/didChange","params":{"textDocument":{"uri":"u","version":7},"contentChanges":[]}}"#,
+        ],
+        answers: &[
+            READY,
+            OPENED,
+            r#"{"jsonrpc":"2.0","method":"textDocument/publishDiagnostics","params":{"diagnostics":[3],"uri":"u","version":7}}"#,
+        ],
+        end: Err(FrameFault::Broken),
+    },
+    Session {
+        name: "two documents, one of them opened again",
+        sent: &[
+            INITIALIZE,
+            OPEN,
+            r#"{"method":"textDocument/didOpen","params":{"textDocument":{"uri":"v","version":4,"text":""}}}"#,
+            r#"{"method":"textDocument/didOpen","params":{"textDocument":{"uri":"u","version":2147483647,"text":"a\u00e9\ud834\udd1e"}}}"#,
+            r#"{"method":"textDocument/didChange","params":{"textDocument":{"uri":"v","version":5},"contentChanges":[{"text":"xy"}]}}"#,
+            CLOSE,
+            r#"{"method":"textDocument/didChange","params":{"textDocument":{"uri":"u","version":9},"contentChanges":[{"text":"xy"}]}}"#,
+        ],
+        answers: &[
+            READY,
+            OPENED,
+            r#"{"jsonrpc":"2.0","method":"textDocument/publishDiagnostics","params":{"diagnostics":[0],"uri":"v","version":4}}"#,
+            r#"{"jsonrpc":"2.0","method":"textDocument/publishDiagnostics","params":{"diagnostics":[7],"uri":"u","version":2147483647}}"#,
+            r#"{"jsonrpc":"2.0","method":"textDocument/publishDiagnostics","params":{"diagnostics":[2],"uri":"v","version":5}}"#,
+            CLOSED,
+        ],
+        end: Err(FrameFault::Broken),
+    },
+];
+
+#[test]
+fn notifications(rt: HostRuntime) -> Result<(), Fail> {
+    expect_all(&rt, rt.alloc(), &DROPPED)
+}
+
+#[test]
+fn nesting_of_127_is_json(rt: HostRuntime) -> Result<(), Fail> {
+    let alloc = rt.alloc();
+    for (depth, want) in [(127, NO_REQUEST), (128, NO_JSON)] {
+        let body = format!(in alloc;
+            "{}{}",
+            "[".repeat(alloc, depth)?,
+            "]".repeat(alloc, depth)?
+        )?;
+        let input = frames_of(alloc, &[body.as_str()])?;
+        let mut reader = input.as_slice();
+        let mut writer = Vec::new(alloc);
+        let mut server: Server<Measured> = Server::new(alloc);
+        let end = serve(alloc, &mut server, &mut reader, &mut writer);
+        assert!(rt; end == Err(FrameFault::Broken), "{depth}");
+        assert!(rt;
+            writer.as_slice() == frames_of(alloc, &[want])?.as_slice(),
+            "{depth}"
+        );
+    }
+    Ok(())
+}
+
+// The input fails after some bytes: the answers to the frames before are written, and no more.
+#[test]
+fn an_input_that_fails(rt: HostRuntime) -> Result<(), Fail> {
+    let alloc = rt.alloc();
+    let input = frames_of(alloc, &[INITIALIZE, OPEN])?;
+    let first = frames_of(alloc, &[INITIALIZE])?.len();
+    for (reads_left, answers) in [(0, 0), (5, 0), (first, 1), (first.saturating_add(30), 1)] {
+        let mut reader = Drip {
+            rest: input.as_slice(),
+            reads_left,
+            end: End::Fails,
+        };
+        let mut writer = Vec::new(alloc);
+        let mut server: Server<Measured> = Server::new(alloc);
+        let end = serve(alloc, &mut server, &mut reader, &mut writer);
+        let want = frames_of(alloc, &[READY][..answers])?;
+        assert!(rt; end == Err(FrameFault::Broken), "{reads_left}");
+        assert!(rt; writer.as_slice() == want.as_slice(), "{reads_left}");
+    }
+    Ok(())
+}
+
+// The output takes no more: a front of the answers is written.
+#[test]
+fn an_output_that_is_closed(rt: HostRuntime) -> Result<(), Fail> {
+    let alloc = rt.alloc();
+    let input = frames_of(alloc, &[INITIALIZE, SHUTDOWN, EXIT])?;
+    let want = frames_of(alloc, &[READY, DONE])?;
+    for room in [0, 10, want.len().saturating_sub(1)] {
+        let mut reader = input.as_slice();
+        let mut writer = Narrow {
+            taken: Vec::new(alloc),
+            room,
+            end: End::MovesNothing,
+        };
+        let mut server: Server<Measured> = Server::new(alloc);
+        let end = serve(alloc, &mut server, &mut reader, &mut writer);
+        assert!(rt; end == Err(FrameFault::Broken), "{room}");
+        assert!(rt;
+            want.as_slice().starts_with(writer.taken.as_slice()),
+            "{room}"
+        );
+        assert_eq!(rt; writer.taken.len(), room);
+    }
+    Ok(())
+}

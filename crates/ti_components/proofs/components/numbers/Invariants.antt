@@ -1,6 +1,0 @@
-use Rattle.std.proofs.Common.{take}
-use Rattle.ti_components.specs.inside.Search.{AreClosedNumbers}
-use Rattle.ti_components.proofs.components.numbers.Given as goal
-
-abbrev pub invariant-loop-node : goal.invariant-loop-node
-invariant-loop-node l = AreClosedNumbers (take l.node-index l.progress) l.numbers.items

@@ -1,5 +1,0 @@
-use Rattle.ti_components.proofs.LawProofs.{falling_numbers}
-use Rattle.ti_components.proofs.laws.numbers_fall.Goals as goal
-
-pub returns : goal.returns
-returns c = falling_numbers

@@ -1,7 +1,0 @@
-use Rattle.std.proofs.Common.{take, map}
-use Rattle.ti_source.specs.Reading.{item_of}
-use Rattle.ti_dependents.specs.inside.Uses.{AddsRow}
-use Rattle.ti_dependents.proofs.uses.add_row.Given as goal
-
-abbrev pub invariant-loop-item : goal.invariant-loop-item
-invariant-loop-item l = AddsRow l.slots l.found.keys (map item_of (take l.item-index l.items)) l.fn.uses l.uses

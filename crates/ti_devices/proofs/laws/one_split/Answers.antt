@@ -1,5 +1,0 @@
-use Rattle.ti_devices.proofs.CutLines.{one_split-law}
-use Rattle.ti_devices.proofs.laws.one_split.Goals as goal
-
-pub returns : goal.returns
-returns c = one_split-law

@@ -1,5 +1,0 @@
-use Rattle.ti_devices.proofs.LineSteps.{newline_found}
-use Rattle.ti_devices.proofs.line_reader.find_newline.Goals as goal
-
-pub returns : goal.returns
-returns c = newline_found c.args.bytes.now c.memchr.result c.memchr.ensures

@@ -1,7 +1,0 @@
-use Rattle.std.proofs.Common.{◌≡◌, map, take}
-use Rattle.ti_meaning.specs.Faults.{fault_seen}
-use Rattle.ti_document.specs.Diagnostics.{diagnostic_seen, fault_diagnostic}
-use Rattle.ti_document.proofs.diagnostics.fault_diagnostics.Given as goal
-
-abbrev pub invariant-loop-fault : goal.invariant-loop-fault
-invariant-loop-fault l = map diagnostic_seen l.all.items ≡ map (fault_diagnostic l.database l.first) (map fault_seen (take l.fault-index l.fault-items))

@@ -1,5 +1,0 @@
-use Rattle.ti_features.proofs.Following.{renamed_follow}
-use Rattle.ti_features.proofs.renaming.renamed_parts_follow.Goals as goal
-
-pub returns : goal.returns
-returns c = renamed_follow c.held_blocks_fit.ensures

@@ -1,7 +1,0 @@
-use Rattle.std.proofs.Common.{◌≡◌, map}
-use Rattle.ti_fixes.specs.Edits.{edit_seen}
-use Rattle.ti_fixes.specs.Fixes.{fix_of, fix_seen}
-use Rattle.ti_fixes.proofs.fixes.fixes_of_edits.Given as goal
-
-abbrev pub invariant-loop-edit : goal.invariant-loop-edit
-invariant-loop-edit l = map fix_seen l.fixes.items ≡ map (λ edit. fix_of l.line l.block (edit_seen edit)) l.yielded

@@ -1,5 +1,0 @@
-use Rattle.ti_index.proofs.LawProofs.{agreeing_lists}
-use Rattle.ti_index.proofs.laws.lists_agree.Goals as goal
-
-pub returns : goal.returns
-returns c = agreeing_lists

@@ -1,5 +1,0 @@
-use Rattle.ti_index.proofs.LawProofs.{among_all}
-use Rattle.ti_index.proofs.laws.lists_are_among.Goals as goal
-
-pub returns : goal.returns
-returns c = among_all

@@ -1,5 +1,0 @@
-use Rattle.ti_index.proofs.Naming.{fitting_lists}
-use Rattle.ti_index.proofs.laws.lists_fit.Goals as goal
-
-pub returns : goal.returns
-returns c = fitting_lists

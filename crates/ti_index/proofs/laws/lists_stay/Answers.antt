@@ -1,5 +1,0 @@
-use Rattle.ti_index.proofs.LawProofs.{staying_lists}
-use Rattle.ti_index.proofs.laws.lists_stay.Goals as goal
-
-pub returns : goal.returns
-returns c = staying_lists

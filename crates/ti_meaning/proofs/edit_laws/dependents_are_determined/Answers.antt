@@ -1,5 +1,0 @@
-use Rattle.ti_meaning.proofs.ExchangeLaws.{one_answer}
-use Rattle.ti_meaning.proofs.edit_laws.dependents_are_determined.Goals as goal
-
-pub returns : goal.returns
-returns c = one_answer

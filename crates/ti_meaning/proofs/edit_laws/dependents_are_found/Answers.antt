@@ -1,5 +1,0 @@
-use Rattle.ti_meaning.proofs.ExchangeLaws.{found_dependents}
-use Rattle.ti_meaning.proofs.edit_laws.dependents_are_found.Goals as goal
-
-pub returns : goal.returns
-returns c = found_dependents

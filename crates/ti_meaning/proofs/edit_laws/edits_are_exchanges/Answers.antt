@@ -1,5 +1,0 @@
-use Rattle.ti_meaning.proofs.ExchangeLaws.{exchanged}
-use Rattle.ti_meaning.proofs.edit_laws.edits_are_exchanges.Goals as goal
-
-pub returns : goal.returns
-returns c = exchanged

@@ -1,5 +1,0 @@
-use Rattle.ti_meaning.proofs.ExchangeLaws.{one_rebuilt}
-use Rattle.ti_meaning.proofs.edit_laws.rebuilds_are_determined.Goals as goal
-
-pub returns : goal.returns
-returns c = one_rebuilt

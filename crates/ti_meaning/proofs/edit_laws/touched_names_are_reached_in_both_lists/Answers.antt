@@ -1,5 +1,0 @@
-use Rattle.ti_meaning.proofs.KeptFaults.{touched_in_both}
-use Rattle.ti_meaning.proofs.edit_laws.touched_names_are_reached_in_both_lists.Goals as goal
-
-pub returns : goal.returns
-returns c = touched_in_both

@@ -1,5 +1,0 @@
-use Rattle.ti_meaning.proofs.KeptFaults.{kept_block}
-use Rattle.ti_meaning.proofs.edit_laws.untouched_blocks_are_kept.Goals as goal
-
-pub returns : goal.returns
-returns c = kept_block

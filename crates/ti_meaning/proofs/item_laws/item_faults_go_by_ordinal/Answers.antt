@@ -1,5 +1,0 @@
-use Rattle.ti_meaning.proofs.ItemLawProofs.{by_ordinal}
-use Rattle.ti_meaning.proofs.item_laws.item_faults_go_by_ordinal.Goals as goal
-
-pub returns : goal.returns
-returns c = by_ordinal

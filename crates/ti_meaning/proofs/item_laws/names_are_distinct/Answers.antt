@@ -1,5 +1,0 @@
-use Rattle.ti_meaning.proofs.DistinctNames.{distinct_names}
-use Rattle.ti_meaning.proofs.item_laws.names_are_distinct.Goals as goal
-
-pub returns : goal.returns
-returns c = distinct_names

@@ -1,5 +1,0 @@
-use Rattle.ti_meaning.proofs.LawProofs.{staying_expansions}
-use Rattle.ti_meaning.proofs.laws.expansions_stay.Goals as goal
-
-pub returns : goal.returns
-returns c = staying_expansions

@@ -1,5 +1,0 @@
-use Rattle.ti_meaning.proofs.LawProofs.{first_owners}
-use Rattle.ti_meaning.proofs.laws.owners_are_first.Goals as goal
-
-pub returns : goal.returns
-returns c = first_owners

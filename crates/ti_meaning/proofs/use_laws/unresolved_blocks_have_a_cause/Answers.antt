@@ -1,5 +1,0 @@
-use Rattle.ti_meaning.proofs.UseLawProofs.{causes}
-use Rattle.ti_meaning.proofs.use_laws.unresolved_blocks_have_a_cause.Goals as goal
-
-pub returns : goal.returns
-returns c = causes

@@ -1,8 +1,0 @@
-use Rattle.std.proofs.Common.{◌≡◌, ◌≤◌, ◌^◌, drop}
-use Rattle.ti_messages.specs.Frames.{number_after}
-use Rattle.ti_messages.proofs.frames.digits_number.Given as goal
-
--- what is left goes on with the number
-abbrev pub invariant-loop-at : goal.invariant-loop-at
-invariant-loop-at l =
-    (number_after l.number (drop l.at l.digits) ≡ number_after 0 l.digits) × (l.number ≤ 10 ^ 16)

@@ -1,4 +1,0 @@
-use Rattle.ti_plan.proofs.faults.add_item_fault.Given as goal
-
-abbrev pub ghost-add_use_fault : goal.ghost-add_use_fault
-ghost-add_use_fault g a = g.at

@@ -1,4 +1,0 @@
-use Rattle.ti_plan.proofs.tables.add_item.Given as goal
-
-abbrev pub ghost-merge_owner : goal.ghost-merge_owner
-ghost-merge_owner g a = g.at

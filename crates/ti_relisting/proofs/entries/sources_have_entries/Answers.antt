@@ -1,5 +1,0 @@
-use Rattle.ti_relisting.proofs.Sources.{of_sources}
-use Rattle.ti_relisting.proofs.entries.sources_have_entries.Goals as goal
-
-pub returns : goal.returns
-returns c = of_sources c.blocks_are_single.ensures

@@ -1,5 +1,0 @@
-use Rattle.ti_session.proofs.OneOutput.{one_answer-law}
-use Rattle.ti_session.proofs.laws.one_answer.Goals as goal
-
-pub returns : goal.returns
-returns c = one_answer-law

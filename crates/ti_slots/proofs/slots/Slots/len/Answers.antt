@@ -1,6 +1,0 @@
-use Rattle.std.proofs.Common.{length, ◌∙◌, ap}
-use Rattle.ti_slots.proofs.Owners.{length_ids}
-use Rattle.ti_slots.proofs.slots.Slots.len.Goals as goal
-
-pub returns : goal.returns
-returns c = ap length c.ids.ensures.ids ∙ length_ids c.args.self.now

@@ -1,5 +1,0 @@
-use Rattle.ti_sources.proofs.Refusing.{ends_with_newline}
-use Rattle.ti_sources.proofs.checking.ended_texts_end.Goals as goal
-
-pub returns : goal.returns
-returns c = ends_with_newline

@@ -1,6 +1,0 @@
-use Rattle.std.proofs.Common.{◌≡◌, drop}
-use Rattle.ti_sources.specs.inside.Loading.{first_refusal}
-use Rattle.ti_sources.proofs.loading.check_outcomes.Given as goal
-
-abbrev pub invariant-loop-outcome : goal.invariant-loop-outcome
-invariant-loop-outcome l = first_refusal (drop l.outcome-index l.outcomes) ≡ first_refusal l.outcomes

@@ -1,5 +1,0 @@
-use Rattle.ti_tput.proofs.Answering.{one_answer}
-use Rattle.ti_tput.proofs.laws.one_answer.Goals as goal
-
-pub returns : goal.returns
-returns c = one_answer

@@ -1,0 +1,27 @@
+//! A listing compiles to what was listed, and a relative source to its entry.
+ghost use Rattle.tools_relisting.specs.Relisting.{ListingsCompile, RelativesCompile};
+
+use crate::reading_back::parts_are_read;
+use ti_caps::each_kind_is_in_order;
+use ti_layout::images_are_of_values;
+
+/// The listing of a names field and contents that a source can give, in any layout, compiles to
+/// their image, in whatever source it is.
+pub fn listings_compile()
+    ensures { ListingsCompile }
+{
+    each_kind_is_in_order();
+    images_are_of_values();
+    parts_are_read();
+}
+
+/// The relative source of an entry, with the listings of the entries that it uses after it,
+/// compiles to the image of the entry, if the first names of the used entries belong to their
+/// listings and hold no backslash.
+pub fn relatives_compile()
+    ensures { RelativesCompile }
+{
+    each_kind_is_in_order();
+    images_are_of_values();
+    parts_are_read();
+}

@@ -1,0 +1,13 @@
+//! What the definition of a session leaves open: only when memory is refused.
+ghost use Rattle.tools_session.specs.ScriptLaws.{OneAnswer, OneOutput};
+
+/// A line leads from a state to one state, with one reply, unless memory is refused.
+pub fn one_answer()
+    ensures { OneAnswer }
+{}
+
+/// Two outputs of one script are equal, or equal up to a byte from which one goes on with the
+/// answer of out of memory.
+pub fn one_output()
+    ensures { OneOutput }
+{}
