@@ -1,26 +1,29 @@
-# ti, the terminfo toolkit
+# ti, the terminfo toolkit. `make help` prints what there is to make: the lines of this head that
+# begin with two signs.
 #
-#   make            builds the program (proving every crate that it depends on)
-#   make test       the merge gate and the black-box cases: what CI runs
-#   make cli        the black-box cases alone, on the built program
-#   make integration  the program with editors, and with programs in a terminal
-#   make package    whether pages, completions, install and packages are in order
-#   make hostile    malicious inputs of full size, and 20,000 made at random
-#   make wrong-bodies   the further wrong bodies, which the prover must refuse too
-#   make library    builds the C library: libti.a, libti.so.1 and ti.pc
-#   make lsp        builds the language server, ti-lsp
-#   make bench      times and counts the tools and ncurses's on the same work, and edits of lists
-#   make install    puts the program, its pages, completions and examples below
-#                   DESTDIR and PREFIX (which is /usr/local); with TOOLS=1 also
-#                   ti-tic, ti-infocmp and ti-tput; the C library and the language server
-#                   too, if they are made
-#   make install-library   the C library alone, with its header and page, into
-#                   LIBDIR and INCLUDEDIR
-#   make uninstall  takes all of that away again
-#   make dist       makes ti-VERSION.tar.gz of the last commit, which builds
-#   make deb        makes Debian packages of the built programs, in packages/
-#   make release    makes archives of the built programs and of the source, in packages/
-#   make reproduce  builds two clones of the last commit, and compares what they give
+##   make            builds the program (proving every crate that it depends on)
+##   make help       prints this list
+##   make check      whether a change is in order, as far as no proof is needed
+##   make test       the merge gate and the black-box cases: what CI runs
+##   make cli        the black-box cases alone, on the built program
+##   make integration  the program with editors, and with programs in a terminal
+##   make package    whether pages, completions, install and packages are in order
+##   make hostile    malicious inputs of full size, and 20,000 made at random
+##   make wrong-bodies   the further wrong bodies, which the prover must refuse too
+##   make library    builds the C library: libti.a, libti.so.1 and ti.pc
+##   make lsp        builds the language server, ti-lsp
+##   make bench      times and counts the tools and ncurses's on the same work, and edits of lists
+##   make install    puts the program, its pages, completions and examples below
+##                   DESTDIR and PREFIX (which is /usr/local); with TOOLS=1 also
+##                   ti-tic, ti-infocmp and ti-tput; the C library and the language server
+##                   too, if they are made
+##   make install-library   the C library alone, with its header and page, into
+##                   LIBDIR and INCLUDEDIR
+##   make uninstall  takes all of that away again
+##   make dist       makes ti-VERSION.tar.gz of the last commit, which builds
+##   make deb        makes Debian packages of the built programs, in packages/
+##   make release    makes archives of the built programs and of the source, in packages/
+##   make reproduce  builds two clones of the last commit, and compares what they give
 
 PREFIX ?= /usr/local
 BINDIR ?= $(PREFIX)/bin
@@ -44,11 +47,17 @@ LIBRARY_FILES = $(INCLUDEDIR)/ti.h $(LIBDIR)/libti.a $(LIBDIR)/libti.so.1 $(LIBD
 	$(LIBDIR)/pkgconfig/ti.pc $(MANDIR)/man3/ti.3
 PC_VALUES = -e 's|@PREFIX@|$(PREFIX)|' -e 's|@LIBDIR@|$(LIBDIR)|' -e 's|@INCLUDEDIR@|$(INCLUDEDIR)|'
 
-.PHONY: all test cli integration package hostile wrong-bodies library lsp bench
+.PHONY: all help check test cli integration package hostile wrong-bodies library lsp bench
 .PHONY: install install-library uninstall uninstall-library dist deb release reproduce
 
 all:
 	./ti --help >/dev/null
+
+help:
+	@sed -n 's/^##  //p' Makefile
+
+check:
+	tests/check
 
 test:
 	tests/run

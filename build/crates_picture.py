@@ -1,40 +1,73 @@
 #!/usr/bin/env python3
-"""The crates of crates.txt as a Mermaid picture, in three groups: product, tests, tools.
+"""The crates of crates.txt as a Mermaid picture: a box for each group, the group `ti_` in parts.
 
     build/crates_picture.py            prints the picture
     build/crates_picture.py --write    puts it into docs/ARCHITECTURE.md
     build/crates_picture.py --check    fails unless the picture of that page is this one
 
-An arrow leads from a crate to one that it depends on. One that follows from others is left out, and
-so are the libraries of the toolchain.
+An arrow leads from a box to one that a crate of it depends on. An arrow that follows from others is
+left out, and so are the libraries of the toolchain.
 """
 
 import os
 import re
 import sys
 
-from crates import GROUPS, all_below, direct_needs, read_crates
+from crates import all_below, read_crates
 from repository import TOP
 
 PAGE = os.path.join(TOP, "docs", "ARCHITECTURE.md")
 PICTURE = re.compile(r"```mermaid\n.*?```\n", re.S)
+# The parts of the group `ti_`; a crate that is in none of them is a box of its own.
+PARTS = {
+    "sources": ("ti_text", "ti_caps", "ti_spelling", "ti_source"),
+    "entries": ("ti_layout", "ti_compiled"),
+    "formats": ("ti_printing", "ti_param"),
+    "base_": ("ti_base",),
+    "tools_": ("ti_list", "ti_tools"),
+}
+BOX_OF = {crate: box for box, members in PARTS.items() for crate in members}
 
 
-def arrows(crates, name):
-    """The crates that one depends on and that none of its others depends on."""
-    direct = direct_needs(crates, name)
-    by_way = {below for other in direct for below in all_below(crates, other)}
-    return [below for below in direct if below not in by_way]
+def box_of(crate):
+    """The name of the box that a crate is in."""
+    if crate.group != "ti_":
+        return crate.group
+    return BOX_OF.get(crate.name, crate.name)
+
+
+def boxes_of(crates):
+    """The boxes in the order of crates.txt, each with the names of its crates."""
+    boxes = {}
+    for crate in crates.values():
+        boxes.setdefault(box_of(crate), []).append(crate.name)
+    return boxes
+
+
+def arrows(crates, boxes):
+    """Pairs of boxes: the first needs the second, and none of the other boxes that it needs does."""
+    needs = {
+        box: {box_of(crates[below]) for name in names for below in all_below(crates, name)} - {box}
+        for box, names in boxes.items()
+    }
+    for box, below in needs.items():
+        for other in [name for name in boxes if name in below]:
+            if not any(other in needs[between] for between in below - {other}):
+                yield box, other
+
+
+def label(box, names):
+    """A box's text: the prefix of its group, and the names of its other crates."""
+    prefix = [f"{box}*"] if box.endswith("_") else []
+    return ", ".join(prefix + [name for name in names if not (prefix and name.startswith(box))])
 
 
 def picture():
     crates = read_crates()
+    boxes = boxes_of(crates)
     lines = ["```mermaid", "flowchart TD"]
-    for group in GROUPS:
-        lines.append(f"    subgraph {group}")
-        lines += [f"        {name}" for name, crate in crates.items() if crate.group == group]
-        lines.append("    end")
-    lines += [f"    {name} --> {below}" for name in crates for below in arrows(crates, name)]
+    lines += [f'    {box.strip("_")}["{label(box, names)}"]' for box, names in boxes.items()]
+    lines += [f'    {box.strip("_")} --> {other.strip("_")}' for box, other in arrows(crates, boxes)]
     return "\n".join([*lines, "```"]) + "\n"
 
 
