@@ -1,8 +1,8 @@
 #!/usr/bin/env python3
 """Makes what a release consists of, from the built program, into a directory, or packages/.
 
-    build/packages.py deb [DIRECTORY]        ti_VERSION-1_ARCH.deb, by Debian's own tools; libti-dev
-                                             likewise, if the C library is made
+    build/packages.py deb [DIRECTORY]        the packages of debian/control, by debhelper: ti,
+                                             libti1 and libti-dev
     build/packages.py release [DIRECTORY]    ti-VERSION-ARCH-linux.tar.gz with install.sh, the
                                              source as ti-VERSION.tar.gz, and SHA256SUMS of both
 
@@ -10,7 +10,6 @@ What is made depends on the commit and the built program alone: two clones give 
 Times are SOURCE_DATE_EPOCH, or that of the last commit; owners are numbers, and names are sorted.
 """
 
-import contextlib
 import gzip
 import hashlib
 import io
@@ -23,12 +22,9 @@ import tempfile
 
 from repository import TOP, files_below, text_of
 
-MAINTAINER = "Cevnang maintainers <maintainers@users.noreply.cevnang.example>"
 LICENCES = ("LICENSE-MIT", "LICENSE-APACHE")
-PAGES_FOR_USERS = ("README.md", "SECURITY.md", "docs/CLAIMS.md", "docs/COMPARED.md", "docs/EDITORS.md")
-# what belongs to libti-dev and not to ti, below the prefix
-OF_LIBRARY = ("include/", "lib/", "share/man/man3/")
-REVISION = "1"
+# what is built is no file of the repository
+BUILT = ("crates/ti/out/ti", "crates/ti_lsp/out/ti_lsp")
 
 
 def output(*words, **how):
@@ -94,112 +90,35 @@ def directories_below(directory):
 # Debian's packages
 
 
-def fill(template, values):
-    """A template of build/debian with its @WORDS@ filled in."""
-    text = text_of("build", "debian", template)
-    for word, value in values.items():
-        text = text.replace(f"@{word}@", str(value))
-    return text.encode()
+def copy_tree(directory):
+    """Copies what is of the repository, and the built programs, to a directory."""
+    words = ["git", "ls-files", "-z", "--cached", "--others", "--exclude-standard"]
+    names = output(*words, cwd=TOP).split("\0")
+    for name in [*names, *BUILT, *library_files()]:
+        source = os.path.join(TOP, name)
+        if name and os.path.isfile(source):
+            os.makedirs(os.path.dirname(os.path.join(directory, name)), exist_ok=True)
+            shutil.copy2(source, os.path.join(directory, name), follow_symlinks=False)
 
 
-def library_needs(programs):
-    """What programs need of the system's libraries, as dpkg-shlibdeps says."""
-    with tempfile.TemporaryDirectory(prefix="ti-deb-") as room:
-        write(os.path.join(room, "debian", "control"), b"Source: ti\n\nPackage: ti\nArchitecture: any\n")
-        said = output("dpkg-shlibdeps", "-O", *programs, cwd=room, stderr=subprocess.DEVNULL)
-    return said.partition("shlibs:Depends=")[2]
-
-
-def document(package, stage, when):
-    """Adds what Debian wants in a package's directory of documents; compresses its pages."""
-    documents = os.path.join(stage, "usr", "share", "doc", package)
-    dated = output("date", "-u", "-R", "-d", f"@{when}", env={**os.environ, "LC_ALL": "C"})
-    values = {"VERSION": version(), "REVISION": REVISION, "DATE": dated, "MAINTAINER": MAINTAINER}
-    write(os.path.join(documents, "copyright"), fill("copyright", values))
-    write(os.path.join(documents, "changelog.Debian.gz"), compressed(fill("changelog", values)))
-    with contextlib.suppress(FileNotFoundError):
-        write(os.path.join(documents, "changelog.gz"), compressed(text_of("CHANGELOG.md").encode()))
-    overrides = os.path.join(stage, "usr", "share", "lintian", "overrides", package)
-    write(overrides, fill(f"{package}.overrides", {}))
-    pages = os.path.join(stage, "usr", "share", "man")
-    for name in files_below(pages):
-        page = os.path.join(pages, name)
-        with open(page, "rb") as file:
-            write(f"{page}.gz", compressed(file.read()))
-        os.remove(page)
-
-
-def control(package, stage, architecture, needs):
-    """Writes the control files of a package."""
-    paths = [name for name in files_below(stage) if not name.startswith("DEBIAN/")]
-    size = sum(-(-os.path.getsize(os.path.join(stage, name)) // 1024) for name in paths)
-    values = {
-        "VERSION": version(), "REVISION": REVISION, "ARCHITECTURE": architecture, "SIZE": size,
-        "MAINTAINER": MAINTAINER, "NEEDS": needs,
-    }
-    write(os.path.join(stage, "DEBIAN", "control"), fill(f"{package}.control", values))
-    sums = []
-    for name in paths:
-        # a link has no sum of its own
-        if os.path.islink(os.path.join(stage, name)):
-            continue
-        with open(os.path.join(stage, name), "rb") as file:
-            sums.append(f"{hashlib.md5(file.read()).hexdigest()}  {name}\n")
-    write(os.path.join(stage, "DEBIAN", "md5sums"), "".join(sums).encode())
-
-
-def split(stage, other):
-    """Moves what belongs to the library into another stage. Gives whether there is anything."""
-    moved = [name for name in files_below(stage) if name.removeprefix("usr/").startswith(OF_LIBRARY)]
-    # the package has the static library alone
-    for name in [name for name in moved if ".so" in os.path.basename(name)]:
-        os.remove(os.path.join(stage, name))
-        moved.remove(name)
-    for name in moved:
-        os.makedirs(os.path.dirname(os.path.join(other, name)), exist_ok=True)
-        shutil.move(os.path.join(stage, name), os.path.join(other, name))
-    for name in sorted(directories_below(stage), reverse=True):
-        with contextlib.suppress(OSError):
-            os.rmdir(os.path.join(stage, name))
-    return bool(moved)
-
-
-def build_deb(made, package, stage, architecture, needs):
-    """Makes one package of what is in a stage. Gives its file."""
-    when = epoch()
-    document(package, stage, when)
-    control(package, stage, architecture, needs)
-    for at, directories, names in os.walk(stage):
-        for name in [*directories, *names, "."]:
-            os.utime(os.path.join(at, name), (when, when))
-        for name in directories:
-            os.chmod(os.path.join(at, name), 0o755)
-    os.chmod(stage, 0o755)
-    file = os.path.join(made, f"{package}_{version()}-{REVISION}_{architecture}.deb")
-    words = ["dpkg-deb", "--root-owner-group", "-Zxz", "--threads-max=1", "--build", stage, file]
-    output(*words, env={**os.environ, "SOURCE_DATE_EPOCH": str(when)})
-    return file
+def library_files():
+    """The files of the C library, which `make library` makes."""
+    below = os.path.join("crates", "ti_c", "out", "lib")
+    return [os.path.join(below, name) for name in files_below(os.path.join(TOP, below))]
 
 
 def make_deb(made):
-    """Makes the packages for Debian. Gives their files."""
-    architecture = output("dpkg", "--print-architecture")
-    libraries = f"/usr/lib/{output('dpkg-architecture', '-qDEB_HOST_MULTIARCH')}"
+    """Makes the packages for Debian by `debian/rules`, of a copy of the tree. Gives their files."""
     with tempfile.TemporaryDirectory(prefix="ti-deb-") as room:
-        stage, other = os.path.join(room, "ti"), os.path.join(room, "libti-dev")
-        completions = "ZSHDIR=/usr/share/zsh/vendor-completions"
-        install(stage, "PREFIX=/usr", f"LIBDIR={libraries}", completions, "TOOLS=1")
-        for name in PAGES_FOR_USERS:
-            with contextlib.suppress(FileNotFoundError):
-                place = os.path.join(stage, "usr", "share", "doc", "ti", os.path.basename(name))
-                write(place, text_of(name).encode())
-        write(os.path.join(stage, "usr", "share", "doc", "ti", "README.Debian"), fill("README.Debian", {}))
-        has_library = split(stage, other)
-        programs = [os.path.join(stage, "usr", "bin", name) for name in ("ti", "ti-lsp")]
-        needs = library_needs([program for program in programs if os.path.exists(program)])
-        yield build_deb(made, "ti", stage, architecture, needs)
-        if has_library:
-            yield build_deb(made, "libti-dev", other, architecture, "")
+        tree = os.path.join(room, "ti")
+        copy_tree(tree)
+        words = ["dpkg-buildpackage", "--build=binary", "--no-sign"]
+        env = {**os.environ, "SOURCE_DATE_EPOCH": str(epoch())}
+        subprocess.run(words, cwd=tree, env=env, check=True, stdout=subprocess.DEVNULL, stderr=subprocess.PIPE)
+        for name in sorted(os.listdir(room)):
+            if name.endswith(".deb") and "-dbgsym" not in name:
+                shutil.move(os.path.join(room, name), os.path.join(made, name))
+                yield os.path.join(made, name)
 
 
 # The archives of a release

@@ -30,7 +30,10 @@ int main(void) {
     return printf("%s %d %u\\n", TI_VERSION, found, (unsigned)place.index) < 0;
 }
 """
-OF_LIBRARY = ("/include/ti.h", "/libti.a", "/pkgconfig/ti.pc", "/man3/ti.3.gz")
+OF_LIBRARY = ("/include/ti.h", "/libti.a", "/libti.so", "/pkgconfig/ti.pc", "/man3/ti.3.gz")
+# the packages of debian/control, sorted
+PACKAGES = ["libti-dev", "libti1", "ti"]
+HAS_LIBRARY = os.path.exists(os.path.join(TOP, "crates", "ti_c", "out", "lib", "libti.a"))
 
 
 def version():
@@ -47,6 +50,8 @@ def check_version():
     newest = re.search(r"^## \[?(\d[\w.]*)", text_of("CHANGELOG.md"), re.M)
     if not newest or newest[1] != version():
         yield f"the newest version of CHANGELOG.md is {newest and newest[1]}"
+    if not text_of("debian", "changelog").startswith(f"ti ({version()}-"):
+        yield f"debian/changelog is not of {version()}"
     for path in ("include/ti.h", "editors/vscode/package.json"):
         if f'"{version()}"' not in text_of(path):
             yield f'{path} does not have "{version()}"'
@@ -129,30 +134,36 @@ def program_faults(what, directory, path):
         yield f"the program of {what} prints {got!r}"
 
 
-def library_faults(unpacked):
-    """What is wrong with the unpacked C library: its files, and a program that takes them."""
+def library_faults(shared, unpacked):
+    """What is wrong with the unpacked C library: its files, and programs that take it, the shared
+    one and the static one."""
     names = [f"/{name}" for name in files_below(unpacked)]
     for wanted in OF_LIBRARY:
         if not any(name.endswith(wanted) for name in names):
             yield f"libti-dev has no {wanted}"
             return
     need("cc")
-    program, source = os.path.join(unpacked, "program"), os.path.join(unpacked, "program.c")
+    source = os.path.join(unpacked, "program.c")
     with open(source, "w", encoding="utf-8") as file:
         file.write(SOURCE)
-    archive = next(name for name in names if name.endswith("/libti.a"))
     headers = os.path.join(unpacked, "usr", "include")
-    output(["cc", "-std=c99", "-I", headers, source, unpacked + archive, "-o", program])
-    got = output([program])
-    if got != f"{version()} 1 10\n":
-        yield f"a program that takes libti-dev prints {got!r}"
+    libraries = {"libti-dev": unpacked, "libti1": shared}
+    for package, ending in (("libti-dev", "/libti.a"), ("libti1", "/libti.so.1")):
+        place = libraries[package]
+        library = next(os.path.join(place, name) for name in files_below(place) if name.endswith(ending))
+        program = os.path.join(unpacked, f"program-of-{package}")
+        output(["cc", "-std=c99", "-I", headers, source, library, "-o", program])
+        got = output([program], env={"LD_LIBRARY_PATH": os.path.dirname(library)})
+        if got != f"{version()} 1 10\n":
+            yield f"a program that takes {package} prints {got!r}"
 
 
 def check_deb():
     """Whether the Debian packages are the same each time, run unpacked, and please lintian."""
-    need("dpkg-deb")
-    need("dpkg-shlibdeps")
+    need("dh")
     need("git")
+    if not HAS_LIBRARY or not HAS_LSP:
+        raise Skipped("not all is made: make lsp library")
     with tempfile.TemporaryDirectory(prefix="ti-package-") as room:
         made, names, faults = made_twice("deb", room)
         yield from faults
@@ -170,16 +181,18 @@ def check_deb():
             for line in output(words).split("\n"):
                 if re.match("[EW]: ", line):
                     yield line
-        library = next((name for name in names if name.startswith("libti-dev_")), None)
-        if not library:
-            raise Skipped("the C library is not made: make library")
-        yield from library_faults(os.path.join(room, "libti-dev"))
+        if [name.split("_")[0] for name in names] != PACKAGES:
+            yield f"the packages are {names}"
+            return
+        yield from library_faults(os.path.join(room, "libti1"), os.path.join(room, "libti-dev"))
 
 
 def check_deb_in_chroot():
     """Whether the package installs, runs and goes away again in a system of its own."""
     need("debootstrap")
-    need("dpkg-shlibdeps")
+    need("dh")
+    if not HAS_LIBRARY or not HAS_LSP:
+        raise Skipped("not all is made: make lsp library")
     if os.geteuid() != 0:
         raise Skipped("a chroot takes root's rights")
     with tempfile.TemporaryDirectory(prefix="ti-package-") as room:
