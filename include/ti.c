@@ -3,14 +3,15 @@
  * nothing else of the library. It is tested, and not proved.
  */
 #ifndef _POSIX_C_SOURCE
-#define _POSIX_C_SOURCE 200809L /* for stat */
+#define _POSIX_C_SOURCE 200809L /* for open and fstat */
 #endif
 #include "ti.h"
 
 #include <errno.h>
-#include <stdio.h>
+#include <fcntl.h>
 #include <stdlib.h>
 #include <sys/stat.h>
+#include <unistd.h>
 
 /* The most bytes of a file that may be an entry; one more is read, to know of a longer one. */
 enum { FILE_MAX = 65536, READ_MAX = FILE_MAX + 1 };
@@ -39,9 +40,14 @@ static uint8_t *path_below(struct ti_text dir, struct ti_text name, uint32_t *re
 }
 
 /* Reads at most READ_MAX bytes of a file into `bytes`. False if that fails. */
-static bool read_file(FILE *file, uint8_t *bytes, size_t *size) {
-    *size = fread(bytes, 1, READ_MAX, file);
-    return !ferror(file);
+static bool read_file(int file, uint8_t *bytes, size_t *size) {
+    for (*size = 0; *size < READ_MAX;) {
+        ssize_t count = read(file, bytes + *size, READ_MAX - *size);
+        if (count == 0) break;
+        if (count > 0) *size += (size_t)count;
+        else if (errno != EINTR) return false;
+    }
+    return true;
 }
 
 /* The entry that the bytes of a file are, as a copy. */
@@ -53,7 +59,7 @@ static uint32_t entry_of_file(const uint8_t *bytes, size_t size, struct ti_entry
 }
 
 /* Reads the entry in a file. */
-static uint32_t read_entry(FILE *file, struct ti_entry **entry) {
+static uint32_t read_entry(int file, struct ti_entry **entry) {
     uint8_t *bytes = (uint8_t *)malloc(READ_MAX);
     if (!bytes) return TI_ENTRY_MEMORY;
     size_t size = 0;
@@ -66,15 +72,19 @@ static uint32_t read_entry(FILE *file, struct ti_entry **entry) {
 }
 
 /*
- * Opens a file. What is no regular file is not opened, since a pipe without a writer never opens.
+ * Opens a regular file for reading; -1 if there is none. What was opened is looked at, so that no
+ * other file can take its place, and a pipe without a writer does not block.
  */
-static FILE *open_regular(const char *path) {
+static int open_regular(const char *path) {
+    int file = open(path, O_RDONLY | O_CLOEXEC | O_NOCTTY | O_NONBLOCK);
     struct stat found;
-    if (stat(path, &found) == 0 && !S_ISREG(found.st_mode)) {
-        errno = EINVAL;
-        return NULL;
-    }
-    return fopen(path, "rb");
+    if (file < 0) return -1;
+    int why = EINVAL;
+    if (fstat(file, &found) != 0) why = errno;
+    else if (S_ISREG(found.st_mode)) return file;
+    close(file);
+    errno = why;
+    return -1;
 }
 
 /* Reads the entry of a name below a directory; TI_NO_TERMINAL if it has no file of the name. */
@@ -82,17 +92,17 @@ static uint32_t open_below(struct ti_text dir, struct ti_text name, struct ti_en
     uint32_t refusal = TI_ENTRY_MEMORY;
     uint8_t *path = path_below(dir, name, &refusal);
     if (!path) return refusal;
-    FILE *file = open_regular((const char *)path);
+    int file = open_regular((const char *)path);
     int why = errno;
     free(path);
-    if (!file) {
+    if (file < 0) {
         errno = why;
         if (why == ENOMEM) return TI_ENTRY_MEMORY;
         return why == ENOENT || why == ENOTDIR ? TI_NO_TERMINAL : TI_READ_FAILED;
     }
     uint32_t answer = read_entry(file, entry);
     why = errno;
-    fclose(file);
+    close(file);
     errno = why;
     return answer;
 }
