@@ -18,6 +18,7 @@ unibilium     these entries, compared with unibilium (against_unibilium.c)
 page          the example of ti(3) is compiled, and writes what the page says
 commands      the commands of docs/LIBRARY.md for programs in C work on the installed library
 examples      the programs of examples/ in C and Python
+python        the module of python/ti, compared with `curses` on every entry of the system
 install       `make install-library` puts what a program needs into the directories that it is given
 
 What is not installed is skipped, and said to be. The last line is
@@ -368,6 +369,19 @@ def check_examples(room):
     return faults
 
 
+def check_python(room):
+    environment = clean_environment(
+        LIBTI=room.path("libti.so.1"), PYTHONPATH=os.path.join(TOP, "python"), PYTHONDONTWRITEBYTECODE="1"
+    )
+    words = [sys.executable, os.path.join(HERE, "python_entries.py")]
+    with ThreadPoolExecutor(AT_ONCE) as pool:
+        directories = [found for found in ENTRY_DIRECTORIES if glob.glob(os.path.join(found, "?", "*"))]
+        if not directories:
+            raise Skipped("the system has no entries")
+        ran = list(pool.map(lambda directory: room.faults([*words, directory], env=environment), directories))
+    return [fault for faults in ran for fault in faults]
+
+
 def check_commands(room):
     if not shutil.which("pkg-config"):
         raise Skipped("pkg-config is not installed")
@@ -426,7 +440,7 @@ CASES = {
     "header": check_header, "symbols": check_symbols, "calls": check_calls, "memory": check_memory,
     "damaged": check_damaged, "open": check_open, "tput": check_tput, "ncurses": check_ncurses,
     "tputs": check_tputs, "unibilium": check_unibilium, "page": check_page, "examples": check_examples,
-    "commands": check_commands, "install": check_install,
+    "python": check_python, "commands": check_commands, "install": check_install,
 }
 
 
