@@ -58,8 +58,8 @@ fn slot_of(alloc: Global, block: &Block<'_>) -> Result<Slot, AllocError> {
     })
 }
 
-// Puts a block in at the front.
-fn put(alloc: Global, slots: &mut Slots, block: &Block<'_>) -> Result<(), Fail> {
+/// Puts a block in at the front.
+pub fn put(alloc: Global, slots: &mut Slots, block: &Block<'_>) -> Result<(), Fail> {
     if slots.len() >= 100 {
         return Err(Fail::new("too many blocks"));
     }

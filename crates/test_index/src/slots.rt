@@ -1,6 +1,6 @@
 //! Blocks come and go at run time: what the index then has, and the way back.
 
-use super::blocks::{Block, list_of};
+use super::blocks::{Block, list_of, put};
 use base_slots::{BlockEntry, KeptFault, Settled, Slots, State, copy_detail};
 use std::alloc::Global;
 use std::rc::RcSlice;
@@ -127,6 +127,35 @@ fn what_is_found_out_is_exchanged(rt: HostRuntime) -> Result<(), Fail> {
     slots.settle(id, &mut settled);
     assert!(rt; first_says(&slots, true, 1));
     assert!(rt; says(&settled, false, 0));
+    Ok(())
+}
+
+// Settles the first block: it has an entry and a fault.
+fn settle_first(alloc: Global, slots: &mut Slots) -> Result<(), Fail> {
+    let Some(id) = slots.ids().first().copied() else {
+        return Err(Fail::new("no block"));
+    };
+    slots.settle(id, &mut compiled_with_a_fault(alloc)?);
+    Ok(())
+}
+
+#[rattlefmt::skip]
+const NEXT: [Block<'static>; 1] = [Block { names: &[b"w"], uses: &[] }];
+
+#[rattlefmt::skip]
+const WITH_NEXT: Shown<'static> =
+    Shown { ids: &[1, 0], holders_of_n: &[0], users_of_m: &[0], users_of_x: &[0], owner_of_n: Some(0), owner_of_m: Some(0) };
+
+// As an edit that fails takes its block back: the next block gets its id, and none of its uses.
+#[test]
+fn a_new_block_taken_back_leaves_no_use(rt: HostRuntime) -> Result<(), Fail> {
+    let mut slots = list_of(rt.alloc(), &BLOCKS[..1])?;
+    settle_first(rt.alloc(), &mut slots)?;
+    put(rt.alloc(), &mut slots, &BLOCKS[1])?;
+    take(&mut slots, 0);
+    assert!(rt; shows(&slots, &LAST_ALONE));
+    put(rt.alloc(), &mut slots, &NEXT[0])?;
+    assert!(rt; shows(&slots, &WITH_NEXT));
     Ok(())
 }
 
