@@ -1,4 +1,5 @@
 -- What an entry says that C holds (own): a view of the library, taken apart.
+use Rattle.std.specs.Borrow.{Bor}
 use Rattle.std.specs.Prelude.{◌≡◌, ◌⊎◌, ℕ, ℤ, pos, negsuc, nat_lt, Bool, true, false, if◌then◌else◌, List, Option, Some, None}
 use Rattle.ti_caps.specs.Tables.{capability, count_of}
 use Rattle.ti_caps.specs.declared.capability.Kind.TheVariants.{Flag, Number, Text}
@@ -31,12 +32,16 @@ entry_of e = record { names = entry_names e; contents = entry_contents e }
 
 -- ---- reading
 
--- 0: the bytes are this entry. Else they are refused by the first refusal that holds; the answer is
--- its number, and the entry is as before.
-abbrev pub ReadAnswer : List ℕ → Entry → Entry → ℕ → Type 0
+-- the bytes are this entry, which holds the whole of them
+abbrev pub IsEntryOf : List ℕ → Entry → Type 0
+IsEntryOf bytes e = Reads bytes (entry_names e) (entry_contents e) × (e.bytes.now ≡ bytes)
+
+-- 0: the bytes are this entry, which holds the whole of them where they are. Else they are refused
+-- by the first refusal that holds; the answer is its number, and the entry is as before.
+abbrev pub ReadAnswer : Bor (List ℕ) → Entry → Entry → ℕ → Type 0
 ReadAnswer bytes before after answer =
-    ((answer ≡ 0) × Reads bytes (entry_names after) (entry_contents after))
-    ⊎ ((error : ReadError) × (answer ≡ rank error) × FailsToRead bytes error × (after ≡ before))
+    ((answer ≡ 0) × IsEntryOf bytes.now after × (after.bytes.ref_ptr ≡ bytes.ref_ptr))
+    ⊎ ((error : ReadError) × (answer ≡ rank error) × FailsToRead bytes.now error × (after ≡ before))
 
 -- memory was refused
 abbrev pub no_memory_answer : ℕ

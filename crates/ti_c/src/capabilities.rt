@@ -1,5 +1,5 @@
 //! A capability by its name, and its name.
-ghost use Rattle.std.specs.Prelude.{◌≡◌, ◌<◌, is_some, unwrap_or, option_map, nat_lt};
+ghost use Rattle.std.specs.Prelude.{◌≡◌, ◌<◌, false, is_some, unwrap_or, option_map, nat_lt};
 ghost use Rattle.ti_caps.specs.Tables.{capability_named};
 ghost use Rattle.ti_c.specs.Capabilities.{place_of, name_at};
 ghost use Rattle.ti_c.specs.Capabilities as spec;
@@ -64,6 +64,7 @@ pub extern "C" fn ti_capability(name: &[u8], found: &mut Place) -> bool
 pub extern "C" fn ti_name(kind: u32, index: u32, text: &mut Text<'static>) -> bool
     ensures is { result ≡ is_some (name_at kind index) }
     ensures name { text.new.bytes.now ≡ unwrap_or (name_at kind index) text.old.bytes.now }
+    ensures kept { result ≡ false → text.new ≡ text.old }
 {
     let Some(kind) = kind_numbered(kind) else {
         return false;

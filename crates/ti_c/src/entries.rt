@@ -1,5 +1,5 @@
 //! Reading an entry, and what it says: each call makes a view of the library of what C holds.
-ghost use Rattle.std.specs.Prelude.{◌≡◌, ◌==◌, ◌<◌, IfOk, IfErr, length, unwrap_or};
+ghost use Rattle.std.specs.Prelude.{◌≡◌, ◌≢◌, ◌==◌, ◌<◌, IfOk, IfErr, length, pos, unwrap_or};
 ghost use Rattle.std.specs.List.{after_last, before_first};
 ghost use Rattle.ti_text.specs.Ascii as ascii;
 ghost use Rattle.ti_layout.specs.Reading as reading;
@@ -7,7 +7,7 @@ ghost use Rattle.ti_layout.specs.Reading.{Reads, FailsToRead};
 ghost use Rattle.ti_layout.specs.View.{names_of, view_contents};
 ghost use Rattle.tools_tput.specs.Results.{long_name};
 ghost use Rattle.ti_c.specs.Entries as spec;
-ghost use Rattle.ti_c.specs.Entries.{entry_names, entry_contents, ReadAnswer, IsRefusal, CopyAnswer, flag_answer, number_answer, string_at, string_answer};
+ghost use Rattle.ti_c.specs.Entries.{entry_names, entry_contents, IsEntryOf, ReadAnswer, IsRefusal, CopyAnswer, flag_answer, number_answer, string_at, string_answer};
 
 use crate::answers::Text;
 use crate::entry::Entry;
@@ -61,6 +61,7 @@ pub(crate) fn view_of<'a>(entry: &Entry<'a>) -> View<'a>
 fn entry_of<'a>(view: &View<'a>, bytes: &'a [u8]) -> Entry<'a>
     ensures names { entry_names result ≡ names_of view.now }
     ensures contents { entry_contents result ≡ view_contents view.now }
+    ensures bytes { result.bytes ≡ bytes.entry }
 {
     let parts = view.parts();
     Entry {
@@ -92,7 +93,8 @@ fn rank(error: ReadError) -> u32
 
 // The entry that the bytes are, read in place.
 fn read(bytes: &[u8]) -> Result<Entry<'_>, ReadError>
-    ensures found { IfOk result (λ e. Reads bytes.now (entry_names e) (entry_contents e)) }
+    ensures found { IfOk result (IsEntryOf bytes.now) }
+    ensures bytes { IfOk result (λ e. e.bytes ≡ bytes.entry) }
     ensures refused { IfErr result (λ e. FailsToRead bytes.now e) }
 {
     match View::read(bytes) {
@@ -105,7 +107,7 @@ fn read(bytes: &[u8]) -> Result<Entry<'_>, ReadError>
 /// holds, and the entry is then as it was.
 #[unsafe(no_mangle)]
 pub extern "C" fn ti_entry_read<'a>(bytes: &'a [u8], entry: &mut Entry<'a>) -> u32
-    ensures { ReadAnswer bytes.now entry.old entry.new result }
+    ensures { ReadAnswer bytes.entry entry.old entry.new result }
 {
     match read(bytes) {
         Ok(found) => {
@@ -140,7 +142,7 @@ fn empty() -> Entry<'static> {
 // An entry of a copy of the bytes, or the number of the refusal. Nothing is copied of bytes that
 // are refused, and the room for the entry comes first, so that no copy is lost.
 fn copied(alloc: Global, bytes: &[u8]) -> Result<Box<Entry<'static>>, u32>
-    ensures ok { IfOk result (λ b. Reads bytes.now (entry_names b.value) (entry_contents b.value)) }
+    ensures ok { IfOk result (λ b. IsEntryOf bytes.now b.value) }
     ensures err { IfErr result (λ answer. IsRefusal bytes.now answer) }
 {
     if let Err(error) = read(bytes) {
@@ -166,7 +168,8 @@ fn copied(alloc: Global, bytes: &[u8]) -> Result<Box<Entry<'static>>, u32>
 /// is as it was.
 #[unsafe(no_mangle)]
 pub extern "C" fn ti_entry_new(alloc: Global, bytes: &[u8], entry: &mut *mut Entry<'static>) -> u32
-    ensures { CopyAnswer bytes.now result }
+    ensures is { CopyAnswer bytes.now result }
+    ensures kept { result ≢ 0 → entry.new ≡ entry.old }
 {
     match copied(alloc, bytes) {
         Ok(found) => {
@@ -244,6 +247,7 @@ pub extern "C" fn ti_number(entry: &Entry<'_>, index: u32) -> i64
 pub extern "C" fn ti_string<'a>(entry: &Entry<'a>, index: u32, text: &mut Text<'a>) -> i32
     ensures is { result ≡ string_answer (entry_contents entry.now) index }
     ensures string { text.new.bytes.now ≡ unwrap_or (string_at (entry_contents entry.now) index) text.old.bytes.now }
+    ensures kept { result ≢ pos 1 → text.new ≡ text.old }
 {
     let Some(cap) = Cap::at(Kind::Text, index as usize) else {
         return -1;

@@ -1,5 +1,5 @@
 //! The directories of entries, and the file of a name below one.
-ghost use Rattle.std.specs.Prelude.{◌≡◌, ◌≢◌, ◌⊎◌, IfOk, is_some, unwrap_or};
+ghost use Rattle.std.specs.Prelude.{◌≡◌, ◌≢◌, ◌⊎◌, IfOk, false, is_some, unwrap_or};
 ghost use Rattle.ti_source.specs.Header.{IsLookupName};
 ghost use Rattle.ti_c.specs.Places.{directory_at, path_bytes, IsPathWritten, IsTooLong};
 
@@ -22,6 +22,7 @@ pub extern "C" fn ti_places<'a>(
 ) -> bool
     ensures is { result ≡ is_some (directory_at terminfo.now dirs_set dirs.now index) }
     ensures place { found.new.bytes.now ≡ unwrap_or (directory_at terminfo.now dirs_set dirs.now index) found.old.bytes.now }
+    ensures kept { result ≡ false → found.new ≡ found.old }
 {
     let listed = if dirs_set { Some(dirs) } else { None };
     match directory_at(Some(terminfo), listed, index as usize) {
