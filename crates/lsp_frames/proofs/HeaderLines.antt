@@ -1,10 +1,10 @@
 -- One more line of a header, and its end.
-use Rattle.std.proofs.Common.{ℕ, ◌≡◌, ◌+◌, ◌-◌, ◌≤◌, List, [], ◌∷◌, ◌++◌, All, Option, None, Some, length, drop, refl, ap, sym, ◌∙◌, append_assoc, subst, arith, length-append}
+use Rattle.std.proofs.Common.{ℕ, ◌≡◌, ◌≢◌, ◌+◌, ◌-◌, ◌≤◌, List, [], ◌∷◌, ◌++◌, All, Option, None, Some, length, drop, refl, ap, sym, ◌∙◌, append_assoc, subst, arith, length-append}
 use Rattle.std.proofs.KnownBytes.{Consumes-nil, Consumes-trans}
 use Rattle.std.proofs.lemmas.List.{append-nil}
 use Rattle.std.proofs.lemmas.List.Elements.{All-append, All-cons, All-nil}
 use Rattle.std.specs.Io.KnownBytes.{Consumes}
-use Rattle.lsp_frames.specs.Frames.{IsHeader, IsHeaderLine, IsLengthLine, ReadsFrame, header_bytes_max, line_end, lines_text, number_of}
+use Rattle.lsp_frames.specs.Frames.{HasNoNewline, IsHeader, IsHeaderLine, IsLengthLine, ReadsFrame, header_bytes_max, line_end, lines_text, number_of}
 use Rattle.lsp_frames.specs.inside.Headers.{FirstLength, HeaderSoFar}
 
 -- the text with one more line
@@ -33,15 +33,15 @@ HeaderSoFar-none given = record { lines = []; read = Consumes-nil given; each = 
 
 -- one more line has come
 pub HeaderSoFar-more : (given mid left : Option (List ℕ)) (value found : Option (List ℕ)) (room len : ℕ) (line said : List ℕ) → HeaderSoFar given mid value room
-    → Consumes mid left (line ++ line_end) → IsHeaderLine line → length line + 2 ≤ room → said ≡ line → len ≡ length line
+    → Consumes mid left (line ++ line_end) → HasNoNewline line → length line ≢ 0 → length line + 2 ≤ room → said ≡ line → len ≡ length line
     → ((lines : List (List ℕ)) → FirstLength lines value → FirstLength (lines ++ said ∷ []) found) → HeaderSoFar given left found (room - (len + 2))
-HeaderSoFar-more given mid left value found room len line said h read each short same len_is first =
+HeaderSoFar-more given mid left value found room len line said h read one some short same len_is first =
     let text = lines_text-more h.lines line in
     let lens : length (lines_text (h.lines ++ line ∷ [])) ≡ length (lines_text h.lines) + (length line + 2) = ap length text ∙ (length-append (lines_text h.lines) (line ++ line_end) ∙ ap (λ n. length (lines_text h.lines) + n) (length-append line line_end)) in
     record {
       lines = h.lines ++ line ∷ [];
       read = subst (λ (bytes : List ℕ). Consumes given left bytes) (sym text) (Consumes-trans given mid left (lines_text h.lines) (line ++ line_end) h.read read);
-      each = All-append IsHeaderLine h.lines (line ∷ []) h.each (All-one IsHeaderLine line each);
+      each = All-append IsHeaderLine h.lines (line ∷ []) h.each (All-one IsHeaderLine line (λ empty. some (ap length empty), one));
       first = subst (λ (l : List ℕ). FirstLength (h.lines ++ l ∷ []) found) same (first h.lines h.first);
       room_is = omega (arith, lens, h.room_is);
     }

@@ -1,1 +1,2 @@
 pub mod HeaderLines
+pub mod OneFrame

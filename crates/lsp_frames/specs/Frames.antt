@@ -23,9 +23,13 @@ body_bytes_max = 67108864
 
 -- ---- lines of a header ("Header Part")
 
--- a line of a header has no LF
+-- the bytes have no LF
+abbrev pub HasNoNewline : List ℕ → Type 0
+HasNoNewline bytes = All (λ byte. byte ≢ 10) bytes
+
+-- a line of a header is not empty, and has no LF
 abbrev pub IsHeaderLine : List ℕ → Type 0
-IsHeaderLine line = All (λ byte. byte ≢ 10) line
+IsHeaderLine line = (line ≢ []) × HasNoNewline line
 
 -- the lines, each with its end
 abbrev pub lines_text : List (List ℕ) → List ℕ
@@ -97,3 +101,8 @@ pub record ReadsFrame (given left : Option (List ℕ)) (body : List ℕ) : Type 
 abbrev pub Reads : Option (List ℕ) → Option (List ℕ) → Frame → Type 0
 Reads given left (Body body) = ReadsFrame given left body.items × (length body.items ≤ body_bytes_max)
 Reads given left TooLong = (body : List ℕ) × ReadsFrame given left body × (body_bytes_max < length body)
+
+-- what came in a frame, as plain data: its body, or none if that is too long
+abbrev pub frame_view : Frame → Option (List ℕ)
+frame_view (Body body) = Some body.items
+frame_view TooLong = None

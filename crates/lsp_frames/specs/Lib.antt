@@ -1,2 +1,3 @@
 pub mod Frames
+pub mod FrameLaws
 pub mod inside

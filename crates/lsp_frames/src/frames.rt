@@ -1,7 +1,7 @@
 //! Frames: a header that announces how long the body is, and the body ("Base Protocol").
 ghost use Rattle.std.specs.Prelude.{◌≡◌, ◌+◌, ◌<◌, ◌≤◌, ◌++◌, ◌∷◌, [], ℕ, List, IfOk, MatchOption, OnOk, Some, drop, length, option_map};
 ghost use Rattle.std.specs.Io.KnownBytes.{Appends, Consumes};
-ghost use Rattle.lsp_frames.specs.Frames.{IsHeader, IsHeaderLine, IsLengthLine, Reads, are_blank, digits_number, framed, line_end, number_of};
+ghost use Rattle.lsp_frames.specs.Frames.{HasNoNewline, IsHeader, IsLengthLine, Reads, are_blank, digits_number, framed, line_end, number_of};
 ghost use Rattle.lsp_frames.specs.inside.Headers.{FirstLength};
 
 use std::alloc::{AllocError, Global};
@@ -88,7 +88,7 @@ fn without_return(mut line: Vec<u8>) -> Result<Vec<u8>, FrameFault>
 fn read_line<R: Read>(alloc: Global, reader: &mut R, room: usize) -> Result<Vec<u8>, FrameFault>
     ensures read { IfOk result (λ line. Consumes (R.remaining reader.old) (R.remaining reader.new)
         (line.items ++ line_end)) }
-    ensures line { IfOk result (λ line. IsHeaderLine line.items) }
+    ensures line { IfOk result (λ line. HasNoNewline line.items) }
     ensures short { IfOk result (λ line. length line.items + 2 ≤ room) }
 {
     let mut line = Vec::new(alloc);

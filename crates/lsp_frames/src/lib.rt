@@ -2,8 +2,11 @@
 //! how long the body is, and the body.
 //!
 //! - `frames`: a body after its header, read and written
+//! - `laws`: bytes are read as a frame in at most one way
 #![tactic(auto)]
 
 pub mod frames;
+mod laws;
 
 pub use frames::{Frame, FrameFault, make_frame, read_frame, write_frame};
+pub use laws::{frames_have_one_reading, one_header};

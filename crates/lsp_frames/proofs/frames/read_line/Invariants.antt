@@ -1,12 +1,12 @@
 use Rattle.std.proofs.Common.{◌-◌, length}
 use Rattle.std.specs.Io.KnownBytes.{Consumes}
-use Rattle.lsp_frames.specs.Frames.{IsHeaderLine}
+use Rattle.lsp_frames.specs.Frames.{HasNoNewline}
 use Rattle.lsp_frames.proofs.frames.read_line.Given as goal
 
 -- the line was read
 abbrev pub invariant-loop-reader : goal.invariant-loop-reader
 invariant-loop-reader g l =
-    Consumes (g.R.Read.remaining l.initial.reader) (g.R.Read.remaining l.reader) l.line.items × IsHeaderLine l.line.items
+    Consumes (g.R.Read.remaining l.initial.reader) (g.R.Read.remaining l.reader) l.line.items × HasNoNewline l.line.items
 
 abbrev pub decreases-loop-reader : goal.decreases-loop-reader
 decreases-loop-reader g l = l.room - length l.line.items
