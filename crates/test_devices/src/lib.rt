@@ -9,8 +9,10 @@ use std::io::{self, ErrorKind, Read, Write};
 /// What a device answers when it comes to its end.
 #[derive(Clone, Copy, Debug)]
 pub enum End {
-    /// A fault.
+    /// A fault, at each call from then on.
     Fails,
+    /// One fault. The calls after it go well.
+    FailsOnce,
     /// That the call was interrupted, which is a fault like any other here.
     IsInterrupted,
     /// No byte: the end of an input, and a writer that takes nothing.
@@ -18,18 +20,27 @@ pub enum End {
 }
 
 impl End {
+    // The answer at the end.
     fn answer(self) -> io::Result<usize>
         ensures { IfOk result (λ count. count ≡ 0) }
     {
         match self {
-            End::Fails => Err(io::Error::from(ErrorKind::Other)),
+            End::Fails | End::FailsOnce => Err(io::Error::from(ErrorKind::Other)),
             End::IsInterrupted => Err(io::Error::from(ErrorKind::Interrupted)),
             End::MovesNothing => Ok(0),
         }
     }
+
+    // How many calls go well after the one at the end.
+    fn calls_after(self) -> usize {
+        match self {
+            End::FailsOnce => usize::MAX,
+            End::Fails | End::IsInterrupted | End::MovesNothing => 0,
+        }
+    }
 }
 
-/// A reader that gives one byte a read, this many times.
+/// A reader that gives one byte a read, this many times, and then ends so.
 #[derive(Drop)]
 pub struct Drip<'a> {
     pub rest: &'a [u8],
@@ -40,6 +51,7 @@ pub struct Drip<'a> {
 impl Read for Drip<'_> {
     fn read(&mut self, buf: &mut [u8]) -> io::Result<usize> {
         if self.reads_left == 0 {
+            self.reads_left = self.end.calls_after();
             return self.end.answer();
         }
         self.reads_left -= 1;
@@ -55,7 +67,7 @@ impl Read for Drip<'_> {
     }
 }
 
-/// A writer that takes one byte a call, and this many in all.
+/// A writer that takes one byte a call, and this many in all, and then ends so.
 #[derive(Drop)]
 pub struct Narrow {
     pub taken: Vec<u8>,
@@ -66,6 +78,7 @@ pub struct Narrow {
 impl Write for Narrow {
     fn write(&mut self, buf: &[u8]) -> io::Result<usize> {
         if self.taken.len() >= self.room {
+            self.room = self.room.max(self.end.calls_after());
             return self.end.answer();
         }
         match buf.first() {

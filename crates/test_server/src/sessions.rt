@@ -26,6 +26,13 @@ const READY: &str =
 const INITIALIZE_ABLE: &str =
     r#"{"jsonrpc":"2.0","id":1,"method":"initialize","params":{"capabilities":{"textDocument":{"rename":{"prepareSupport":true},"codeAction":{"codeActionLiteralSupport":{}}}}}}"#;
 
+// A client that tells what it can do, and nothing of renames.
+const INITIALIZE_PLAIN: &str =
+    r#"{"jsonrpc":"2.0","id":1,"method":"initialize","params":{"capabilities":{"textDocument":{"codeAction":{"codeActionLiteralSupport":{}}}}}}"#;
+
+const READY_FOR_PLAIN: &str =
+    r#"{"id":1,"jsonrpc":"2.0","result":{"capabilities":{"codeActionProvider":{"codeActionKinds":["quickfix"]},"completionProvider":{"triggerCharacters":["=",","]},"definitionProvider":true,"documentSymbolProvider":true,"hoverProvider":true,"positionEncoding":"utf-16","referencesProvider":true,"renameProvider":true,"textDocumentSync":{"change":2,"openClose":true}},"serverInfo":{"name":"ti-lsp","version":"1.0.0"}}}"#;
+
 const READY_FOR_ABLE: &str =
     r#"{"id":1,"jsonrpc":"2.0","result":{"capabilities":{"codeActionProvider":{"codeActionKinds":["quickfix"]},"completionProvider":{"triggerCharacters":["=",","]},"definitionProvider":true,"documentSymbolProvider":true,"hoverProvider":true,"positionEncoding":"utf-16","referencesProvider":true,"renameProvider":{"prepareProvider":true},"textDocumentSync":{"change":2,"openClose":true}},"serverInfo":{"name":"ti-lsp","version":"1.0.0"}}}"#;
 
@@ -101,7 +108,7 @@ fn expect_all(rt: &impl Abort, alloc: Global, sessions: &[Session]) -> Result<()
     Ok(())
 }
 
-const LIVES: [Session; 8] = [
+const LIVES: [Session; 9] = [
     Session {
         name: "a document opened, changed and closed",
         sent: &[
@@ -163,6 +170,12 @@ const LIVES: [Session; 8] = [
         name: "a client that can do more",
         sent: &[INITIALIZE_ABLE, EXIT],
         answers: &[READY_FOR_ABLE],
+        end: Ok(1),
+    },
+    Session {
+        name: "a client that tells nothing of renames",
+        sent: &[INITIALIZE_PLAIN, EXIT],
+        answers: &[READY_FOR_PLAIN],
         end: Ok(1),
     },
     Session {

@@ -108,7 +108,12 @@ fn expect_write_fault(rt: &impl Abort, alloc: Global, room: usize, end: End) {
 
 #[test]
 fn each_write_failing_in_turn(rt: HostRuntime) {
-    for end in [End::Fails, End::IsInterrupted, End::MovesNothing] {
+    for end in [
+        End::Fails,
+        End::FailsOnce,
+        End::IsInterrupted,
+        End::MovesNothing,
+    ] {
         for room in 0..REPLIES.len() {
             expect_write_fault(&rt, rt.alloc(), room, end);
         }
@@ -180,7 +185,7 @@ fn expect_read_fault(
 
 #[test]
 fn each_read_failing_in_turn(rt: HostRuntime) -> Result<(), Fail> {
-    for end in [End::Fails, End::IsInterrupted] {
+    for end in [End::Fails, End::FailsOnce, End::IsInterrupted] {
         for reads in 0..SCRIPT.len() + 1 {
             expect_read_fault(&rt, rt.alloc(), reads, end)?;
         }

@@ -154,7 +154,12 @@ fn expect_write_fault(rt: &impl Abort, alloc: Global, view: &View<'_>, room: usi
 fn each_write_failing_in_turn(rt: HostRuntime) -> Result<(), ToolError> {
     let bytes = dumb(rt.alloc())?;
     let view = entry(bytes.as_slice())?;
-    for end in [End::Fails, End::IsInterrupted, End::MovesNothing] {
+    for end in [
+        End::Fails,
+        End::FailsOnce,
+        End::IsInterrupted,
+        End::MovesNothing,
+    ] {
         for room in 0..WRITTEN.len() {
             expect_write_fault(&rt, rt.alloc(), &view, room, end);
         }
@@ -231,6 +236,7 @@ fn each_read_failing_in_turn(rt: HostRuntime) -> Result<(), ToolError> {
     let view = entry(bytes.as_slice())?;
     for reads in 0..LINES.len() + 1 {
         expect_read_fault(&rt, rt.alloc(), &view, reads, End::Fails)?;
+        expect_read_fault(&rt, rt.alloc(), &view, reads, End::FailsOnce)?;
         expect_read_fault(&rt, rt.alloc(), &view, reads, End::IsInterrupted)?;
         expect_end(&rt, rt.alloc(), &view, reads);
     }
