@@ -7,5 +7,5 @@
 mod descriptions;
 mod words;
 
-pub use descriptions::{Description, description_of};
+pub use descriptions::{Description, description_of, rows_have_the_names};
 pub use words::{detail_of, documentation_of};

@@ -26,7 +26,7 @@ fn describes_each_capability(rt: HostRuntime) {
 }
 
 // Capabilities with their variables: those at the ends of the lists, and some from their middle.
-static VARIABLES: [(&'static str, &'static str); 14] = [
+static VARIABLES: [(&'static str, &'static str); 15] = [
     ("bw", "auto_left_margin"),
     ("am", "auto_right_margin"),
     ("OTxr", "return_does_clr_eol"),
@@ -35,6 +35,7 @@ static VARIABLES: [(&'static str, &'static str); 14] = [
     ("OTkn", "number_of_function_keys"),
     ("cbt", "back_tab"),
     ("cup", "cursor_address"),
+    ("home", "cursor_home"),
     ("kf12", "key_f12"),
     ("u9", "user9"),
     ("initc", "initialize_color"),
@@ -52,8 +53,9 @@ fn gives_the_variables(rt: HostRuntime) {
 }
 
 // Capabilities with their sentences and their parameters.
-static SENTENCES: [(&'static str, &'static str, &'static str); 5] = [
+static SENTENCES: [(&'static str, &'static str, &'static str); 6] = [
     ("am", "Lines wrap at the right margin", ""),
+    ("hc", "The terminal prints on paper", ""),
     ("cols", "Columns on the screen", ""),
     ("cup", "Move the cursor to a row and column", "row, column"),
     (
