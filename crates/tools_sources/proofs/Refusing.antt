@@ -2,7 +2,7 @@
 -- refused.
 use Rattle.std.proofs.Common.{◌≡◌, ◌⊎◌, ◌==◌, ℕ, suc, ◌+◌, ◌<◌, ◌≤◌, All, false, true, List, [], ◌∷◌, ◌++◌, length, map, take, refl, sym, ap, ap₂, add-zero, zero-add, subst, ◌∙◌, inl, inr, arith}
 use Rattle.std.specs.List.{concat, sum_by}
-use Rattle.std.specs.Prelude.{Some, None, Result, Ok, Err, IfErr, nat_le, nat_lt}
+use Rattle.std.specs.Prelude.{Some, None, nat_le, nat_lt}
 use Rattle.std.proofs.lemmas.Bool.{cases_Bool, eqb-true, le-leb, le-ltb, lt-leb, lt-ltb}
 use Rattle.std.proofs.lemmas.List.{append-nil, append_assoc, length-append, take_at}
 use Rattle.std.proofs.lemmas.List.Elements.{All-head, All-tail}
@@ -16,7 +16,7 @@ use Rattle.base_meaning.specs.declared.edits.EditError.TheVariants.{Position, To
 use Rattle.base_meaning.proofs.Causes.{one_cause, refused_unsound}
 use Rattle.tools_sources.specs.declared.source_error.SourceError.{SourceError}
 use Rattle.tools_sources.specs.declared.source_error.SourceError.TheVariants as source_error
-use Rattle.tools_sources.specs.Sources.{AreTaken, IsFirstRefused, IsSourceRefusal, RefusalsAreComputed, SourcesHaveOneRefusal, TakenSourcesAreNotRefused, TakenSourcesHaveNone, first_line, line_after, preface_of, refusal_from, source_refusal, source_texts, with_last_newline}
+use Rattle.tools_sources.specs.Sources.{AreTaken, IsFirstRefused, IsLoadRefusal, IsSourceRefusal, RefusalsAreComputed, SourcesHaveOneRefusal, TakenSourcesAreNotRefused, TakenSourcesHaveNone, first_line, line_after, preface_of, refusal_from, source_refusal, source_texts, with_last_newline}
 use Rattle.tools_sources.proofs.Ending.{AllButLastEnded, blocks_of-all_but_last, last_byte-newline, preface_of-front, texts_of-blocks}
 
 -- ---- two places of a list
@@ -151,16 +151,13 @@ first_refused source blocks block rest cause to refused = record {
   refused = refused;
 }
 
--- the next block is refused because memory ran out, or the source is refused
-pub refused_next : (source : List ℕ) (blocks : List (List ℕ)) (block : List ℕ) (rest : List (List ℕ)) (cause : EditError) → IsTakenTo source blocks (block ∷ rest)
-    → IsRefusal blocks (insertion (length blocks) block) cause → (cause ≡ Memory) ⊎ ((error : SourceError) × IsSourceRefusal source error)
-refused_next source blocks block rest Position to refused = absurd (refused (omega arith))
-refused_next source blocks block rest TooLong to refused =
-    inr (source_error.BlockTooLong (line_after source blocks), (first_refused source blocks block rest TooLong to refused, refl))
-refused_next source blocks block rest NotOneBlock to refused = absurd (refused.2 (All-head OneBlock block rest to.single))
-refused_next source blocks block rest TooMany to refused =
-    inr (source_error.TooManyBlocks (line_after source blocks), (first_refused source blocks block rest TooMany to refused, refl))
-refused_next source blocks block rest Memory to refused = inl refl
+-- if a database does not take the blocks, memory ran out, or the source is refused
+pub load_refused : (source : List ℕ) (error : EditError) → IsLoadRefusal source error → (error ≡ Memory) ⊎ ((refusal : SourceError) × IsSourceRefusal source refusal)
+load_refused source Position refused = absurd refused
+load_refused source TooLong refused = inr (source_error.BlockTooLong (line_after source refused.front), (refused, refl))
+load_refused source NotOneBlock refused = absurd refused
+load_refused source TooMany refused = inr (source_error.TooManyBlocks (line_after source refused.front), (refused, refl))
+load_refused source Memory refused = inl refl
 
 -- ---- each block of a source is one, once its last line is ended
 
@@ -338,23 +335,3 @@ refusals_computed source (source_error.BlockTooLong line) r =
 refusals_computed source (source_error.TooManyBlocks line) r =
     found_after source TooMany r.0 ∙ found_many (line_after source r.0.front) (length r.0.front) r.0.block r.0.back r.0.refused.1 r.0.refused.3
     ∙ ap (λ (l : ℕ). Some (source_error.TooManyBlocks l)) (sym r.1)
-
--- ---- sources that are the same once they are ended
-
-same_refused : (one other : List ℕ) (error : SourceError) → with_last_newline one ≡ with_last_newline other → IsSourceRefusal one error → IsSourceRefusal other error
-same_refused one other (source_error.BlockTooLong line) same r =
-    subst (λ (t : List ℕ). (refused : IsFirstRefused (blocks_from_head 10 t) TooLong) × (line ≡ line_count (front_of 10 t) + 1 + sum_by line_count refused.front)) same r
-same_refused one other (source_error.TooManyBlocks line) same r =
-    subst (λ (t : List ℕ). (refused : IsFirstRefused (blocks_from_head 10 t) TooMany) × (line ≡ line_count (front_of 10 t) + 1 + sum_by line_count refused.front)) same r
-
-same_cause : (one other : List ℕ) (error : EditError) → with_last_newline one ≡ with_last_newline other
-    → (error ≡ Memory) ⊎ ((refusal : SourceError) × IsSourceRefusal one refusal) → (error ≡ Memory) ⊎ ((refusal : SourceError) × IsSourceRefusal other refusal)
-same_cause one other error same (inl memory) = inl memory
-same_cause one other error same (inr refused) = inr (refused.0, same_refused one other refused.0 same refused.1)
-
--- an answer that says why the one is refused says so of the other
-pub refusal_of-same : {X : Type 0} (one other : List ℕ) (result : Result X EditError) → with_last_newline one ≡ with_last_newline other
-    → IfErr result (λ error. (error ≡ Memory) ⊎ ((refusal : SourceError) × IsSourceRefusal one refusal))
-    → IfErr result (λ error. (error ≡ Memory) ⊎ ((refusal : SourceError) × IsSourceRefusal other refusal))
-refusal_of-same one other (Ok x) same h = h
-refusal_of-same one other (Err error) same h = same_cause one other error same h

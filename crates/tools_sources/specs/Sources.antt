@@ -7,7 +7,7 @@ use Rattle.ti_source.specs.Cutting.{blocks_from_head, front_of, last_byte}
 use Rattle.ti_text.specs.Lines.{line_count}
 use Rattle.base_meaning.specs.Edits.{IsRefusal, IsSoundEdit, insertion}
 use Rattle.base_meaning.specs.declared.edits.EditError.{EditError}
-use Rattle.base_meaning.specs.declared.edits.EditError.TheVariants.{TooLong, TooMany}
+use Rattle.base_meaning.specs.declared.edits.EditError.TheVariants.{Memory, NotOneBlock, Position, TooLong, TooMany}
 use Rattle.tools_sources.specs.declared.source_error.SourceError.{SourceError}
 use Rattle.tools_sources.specs.declared.source_error.SourceError.TheVariants.{BlockTooLong, TooManyBlocks}
 
@@ -55,6 +55,15 @@ line_after source front = first_line source + sum_by line_count front
 abbrev pub IsSourceRefusal : List ℕ → SourceError → Type 0
 IsSourceRefusal source (BlockTooLong line) = (refused : IsFirstRefused (source_texts source) TooLong) × (line ≡ line_after source refused.front)
 IsSourceRefusal source (TooManyBlocks line) = (refused : IsFirstRefused (source_texts source) TooMany) × (line ≡ line_after source refused.front)
+
+-- why a database does not take the blocks of a source: its first block that is refused is refused
+-- for this cause, by its length or as one too many; out of memory comes only if each block is taken
+abbrev pub IsLoadRefusal : List ℕ → EditError → Type 0
+IsLoadRefusal source TooLong = IsFirstRefused (source_texts source) TooLong
+IsLoadRefusal source TooMany = IsFirstRefused (source_texts source) TooMany
+IsLoadRefusal source Memory = AreTaken (source_texts source)
+IsLoadRefusal source Position = ⊥
+IsLoadRefusal source NotOneBlock = ⊥
 
 -- ---- what comes of a source is determined
 

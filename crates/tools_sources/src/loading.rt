@@ -4,11 +4,12 @@ ghost use Rattle.ti_text.specs.Ascii as ascii;
 ghost use Rattle.ti_source.specs.Cutting.{blocks_from_head, last_byte};
 ghost use Rattle.base_meaning.specs.Edits.{change_of};
 ghost use Rattle.base_meaning.specs.declared.edits.EditError.TheVariants.{Memory};
-ghost use Rattle.tools_sources.specs.Sources.{AreTaken, IsSourceRefusal, source_texts};
+ghost use Rattle.tools_sources.specs.Sources.{AreTaken, IsLoadRefusal, IsSourceRefusal, source_texts};
 ghost use Rattle.tools_sources.specs.declared.source_error.SourceError.{SourceError};
 ghost use Rattle.tools_sources.specs.inside.Loading.{first_refusal, insertions};
 
-use crate::checking::is_ended;
+use crate::checking::{check, is_ended};
+use crate::source_error::SourceError;
 use std::alloc::{AllocError, Global};
 use ti_base::{Database, Edit, EditError, Outcome, run};
 use ti_source::{blocks, blocks_are_single, each_has_cut};
@@ -45,7 +46,6 @@ fn database_of_ended(alloc: Global, source: &[u8]) -> Result<Database, EditError
     requires { last_byte ascii.newline source.now ≡ ascii.newline }
     ensures held { IfOk result (λ database. database ≡ source_texts source.now) }
     ensures taken { OnOk result (AreTaken (source_texts source.now)) }
-    ensures refused { IfErr result (λ error. (error ≡ Memory) ⊎ ((refusal : SourceError) × IsSourceRefusal source.now refusal)) }
 {
     each_has_cut();
     blocks_are_single();
@@ -65,20 +65,45 @@ fn with_newline(alloc: Global, text: &[u8]) -> Result<Vec<u8>, AllocError>
     Ok(ended)
 }
 
-/// A database that holds the blocks of a source in their order, once a missing newline is put at
-/// its end. It takes the blocks of each source that is not refused, and of no other.
-///
-/// # Errors
-/// Why the first block that the database does not take is refused there: what is wrong with the
-/// source, or out of memory.
-pub fn database_of(alloc: Global, source: &[u8]) -> Result<Database, EditError>
+// A database of the blocks of a source, once a missing newline is put at its end.
+fn loaded(alloc: Global, source: &[u8]) -> Result<Database, EditError>
     ensures held { IfOk result (λ database. database ≡ source_texts source.now) }
     ensures taken { OnOk result (AreTaken (source_texts source.now)) }
-    ensures refused { IfErr result (λ error. (error ≡ Memory) ⊎ ((refusal : SourceError) × IsSourceRefusal source.now refusal)) }
 {
     if is_ended(source) {
         return database_of_ended(alloc, source);
     }
     let ended = with_newline(alloc, source)?;
     database_of_ended(alloc, ended.as_slice())
+}
+
+// Why a database does not take the blocks of a source: what is wrong with it, or out of memory if
+// nothing is.
+fn cause_of(source: &[u8]) -> EditError
+    ensures { IsLoadRefusal source.now result }
+{
+    match check(source) {
+        Ok(()) => EditError::Memory,
+        Err(SourceError::BlockTooLong { .. }) => EditError::TooLong,
+        Err(SourceError::TooManyBlocks { .. }) => EditError::TooMany,
+    }
+}
+
+/// A database that holds the blocks of a source in their order, once a missing newline is put at
+/// its end. It takes the blocks of each source that is not refused, and of no other.
+///
+/// # Errors
+/// `TooLong` or `TooMany`, if the first block that is refused is too long or is one too many;
+/// `Memory` only if no block is refused.
+pub fn database_of(alloc: Global, source: &[u8]) -> Result<Database, EditError>
+    ensures held { IfOk result (λ database. database ≡ source_texts source.now) }
+    ensures taken { OnOk result (AreTaken (source_texts source.now)) }
+    ensures refused { IfErr result (λ error. (error ≡ Memory) ⊎ ((refusal : SourceError) × IsSourceRefusal source.now refusal)) }
+    ensures cause { IfErr result (IsLoadRefusal source.now) }
+{
+    match loaded(alloc, source) {
+        Ok(database) => Ok(database),
+        // What is wrong with the source comes before out of memory.
+        Err(_) => Err(cause_of(source)),
+    }
 }

@@ -1,18 +1,9 @@
 use Rattle.std.proofs.Common.{map, ap, subst, sym, ◌∙◌}
-use Rattle.std.proofs.lemmas.Result.{err_from_is_err_and}
 use Rattle.base_meaning.specs.Edits.{change_of}
 use Rattle.tools_sources.specs.inside.Loading.{first_refusal}
 use Rattle.tools_sources.proofs.Inserting.{IsRunOf, inserted_by_run}
 use Rattle.tools_sources.proofs.Refusing.{texts_single}
 use Rattle.tools_sources.proofs.loading.database_of_ended.Goals as goal
-
-pub returns-in_err-check_outcomes-clause-refused : goal.returns-in_err-check_outcomes-clause-refused
-returns-in_err-check_outcomes-clause-refused c =
-    let source = c.args.source.now in
-    let single = texts_single c.blocks_are_single.ensures c.each_has_cut.ensures source in
-    let made = inserted_by_run source (map change_of c.deref.result.now) c.in_ok-database.outcomes.items c.in_ok-database.database single c.requires (ap (map change_of) c.deref.ensures.value ∙ c.in_ok-edits.ensures) c.in_ok-database.ensures in
-    let p = err_from_is_err_and c.from_residual-in_err-check_outcomes.result c.from_residual-in_err-check_outcomes.ensures.1 in
-    rw (p.1, p.2) (subst (IsRunOf source c.in_ok-database.database) (ap first_refusal (sym c.deref-2.ensures.value) ∙ c.in_err-check_outcomes.ensures) made)
 
 pub returns-clause-held : goal.returns-clause-held
 returns-clause-held c =
