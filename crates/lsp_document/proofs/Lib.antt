@@ -5,6 +5,7 @@ pub mod HeldTexts
 pub mod ListEdits
 pub mod PartsExchanged
 pub mod Places
+pub mod PublishedFaults
 pub mod ShownDetails
 pub mod SmallExchanges
 pub mod TextLists

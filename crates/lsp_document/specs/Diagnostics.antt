@@ -1,14 +1,16 @@
 -- What is wrong with a source, as an editor shows it (own; Language Server Protocol 3.17,
 -- "Diagnostic"): the faults of its report, each with its line, what of it is shown as faulty, its
 -- code and a message.
-use Rattle.std.specs.Prelude.{ℕ, ◌-◌, List, [], ◌∷◌, ◌++◌, codes, map, Option, Some, None, slice_get, if◌then◌else◌}
+use Rattle.std.specs.Fmt.{decimal}
+use Rattle.std.specs.Prelude.{◌≡◌, ℕ, ◌+◌, ◌-◌, List, [], ◌∷◌, ◌++◌, codes, length, map, Option, Some, None, slice_get, if◌then◌else◌}
 use Rattle.std.specs.Option.{option_map_or}
 use Rattle.std.specs.String.{string_bytes}
+use Rattle.ti_text.specs.Ascii as ascii
 use Rattle.ti_source.specs.declared.code.Code.{Code}
 use Rattle.ti_source.specs.Code.{code_name, is_error, label_of}
 use Rattle.base_meaning.specs.Owner.{readings}
 use Rattle.base_meaning.specs.Faults.{SourceFault, faults}
-use Rattle.base_meaning.specs.Report.{detail_text, line_number}
+use Rattle.base_meaning.specs.Report.{detail_text, line_number, report_line}
 use Rattle.tools_sources.specs.Sources.{first_line, source_refusal, source_texts}
 use Rattle.tools_sources.specs.declared.source_error.SourceError.{SourceError}
 use Rattle.tools_sources.specs.declared.source_error.SourceError.TheVariants as refusal
@@ -83,3 +85,28 @@ diagnostics_unless text (Some error) = refusal_diagnostic text error ∷ []
 -- the diagnostics of a source
 abbrev pub diagnostics_of : List ℕ → List Shown
 diagnostics_of text = diagnostics_unless text (source_refusal text)
+
+-- ---- the diagnostics are the faults of the report
+
+-- a diagnostic is that of a fault: it has the fault's code, is on the fault's line, which it counts
+-- from 0, and says what the report says of the fault, by the name of the code and the detail
+pub record IsOfFault (texts : List (List ℕ)) (first : ℕ) (fault : SourceFault) (shown : Shown) : Type 0 where
+  pub problem : shown.problem ≡ Fault fault.code
+  pub start : shown.range.start.line ≡ line_number texts first fault - 1
+  pub end : shown.range.end.line ≡ line_number texts first fault - 1
+  pub subject : List ℕ
+  pub words : List ℕ
+  pub message : shown.message ≡ subject ++ codes ": " ++ words
+  pub reported : report_line texts first fault
+      ≡ decimal (line_number texts first fault) ++ codes ": " ++ label_of_problem shown.problem ++ codes " " ++ subject ++ ascii.newline ∷ []
+
+-- the diagnostics are those of these faults, one by one and in the same order
+pub record AreOfFaults (texts : List (List ℕ)) (first : ℕ) (all : List SourceFault) (shown : List Shown) : Type 0 where
+  pub as_many : length shown ≡ length all
+  pub each : (at : ℕ) (fault : SourceFault) (diagnostic : Shown) → slice_get all at ≡ Some fault → slice_get shown at ≡ Some diagnostic
+      → IsOfFault texts first fault diagnostic
+
+-- the diagnostics of a source that is not refused are those of the faults that its report has
+abbrev pub DiagnosticsAreTheFaults : Type 0
+DiagnosticsAreTheFaults = (text : List ℕ) → source_refusal text ≡ None
+    → AreOfFaults (source_texts text) (first_line text) (faults (readings (source_texts text))) (diagnostics_of text)

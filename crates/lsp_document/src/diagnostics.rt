@@ -240,3 +240,10 @@ pub(crate) fn source_diagnostics(
         }
     }
 }
+
+/// A law, with no code: the diagnostics of a source that is not refused are the faults of its
+/// report, one by one and in the same order, each with the code, the line, the name and the detail
+/// of its fault.
+pub fn diagnostics_are_the_faults()
+    ensures { spec.DiagnosticsAreTheFaults }
+{}

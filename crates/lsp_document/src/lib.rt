@@ -20,7 +20,7 @@ mod lines;
 mod position;
 mod splicing;
 
-pub use diagnostics::{Diagnostic, Problem, shown_detail};
+pub use diagnostics::{Diagnostic, Problem, diagnostics_are_the_faults, shown_detail};
 pub use document::{Document, held_blocks_fit};
 pub use exchanging::one_change_is_one_edit;
 pub use position::{offset_of, position_of, positions_are_inverse};
