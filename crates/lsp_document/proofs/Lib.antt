@@ -1,8 +1,10 @@
+pub mod Columns
 pub mod FaultLines
 pub mod Fitting
 pub mod HeldBlocks
 pub mod HeldTexts
 pub mod ListEdits
+pub mod Measuring
 pub mod PartsExchanged
 pub mod Places
 pub mod PublishedFaults

@@ -27,10 +27,10 @@ Finds text offset line column place =
     ((place.line ≡ line) × (column ≤ place.column) × (column_offset text (place.column - column) ≡ offset))
     ⊎ ((line < place.line) × (offset_later text (place.line - line) place.column ≡ offset))
 
-abbrev at : ℕ → ℕ → Position
+abbrev pub at : ℕ → ℕ → Position
 at line column = record { line = line; column = column }
 
-start_of-later : (byte : ℕ) (bytes : List ℕ) (lines : ℕ) → 0 < lines → line_start (byte ∷ bytes) lines ≡ suc (line_start bytes (lines_left lines byte))
+pub start_of-later : (byte : ℕ) (bytes : List ℕ) (lines : ℕ) → 0 < lines → line_start (byte ∷ bytes) lines ≡ suc (line_start bytes (lines_left lines byte))
 start_of-later byte bytes lines some = let z : (lines == 0) ≡ false = ne_eqb lines 0 (λ e. omega (arith, e, some)) in rw z
 
 -- a later line is found after one byte more
@@ -111,13 +111,13 @@ after_plain byte bytes offset line column place plain inside (inl here) =
 after_plain byte bytes offset line column place plain inside (inr later) =
     inr (later.0, later_plain byte bytes (place.line - line) place.column offset plain (omega (arith, later.0)) later.1)
 
-step_newline : (byte : ℕ) (bytes : List ℕ) (line column : ℕ) → (byte == 10) ≡ true → step_over (byte ∷ bytes) (at line column) ≡ at (line + 1) 0
+pub step_newline : (byte : ℕ) (bytes : List ℕ) (line column : ℕ) → (byte == 10) ≡ true → step_over (byte ∷ bytes) (at line column) ≡ at (line + 1) 0
 step_newline byte bytes line column newline = rw newline
 
-step_return : (byte : ℕ) (bytes : List ℕ) (line column : ℕ) → (byte == 10) ≡ false → (byte == 13 && begins_with_newline bytes) ≡ true → step_over (byte ∷ bytes) (at line column) ≡ at line column
+pub step_return : (byte : ℕ) (bytes : List ℕ) (line column : ℕ) → (byte == 10) ≡ false → (byte == 13 && begins_with_newline bytes) ≡ true → step_over (byte ∷ bytes) (at line column) ≡ at line column
 step_return byte bytes line column plain return = rw (plain, return)
 
-step_plain : (byte : ℕ) (bytes : List ℕ) (line column : ℕ) → (byte == 10) ≡ false → (byte == 13 && begins_with_newline bytes) ≡ false → step_over (byte ∷ bytes) (at line column) ≡ at line (column + units byte)
+pub step_plain : (byte : ℕ) (bytes : List ℕ) (line column : ℕ) → (byte == 10) ≡ false → (byte == 13 && begins_with_newline bytes) ≡ false → step_over (byte ∷ bytes) (at line column) ≡ at line (column + units byte)
 step_plain byte bytes line column plain inside = rw (plain, inside)
 
 -- the place of an offset after the first byte, if those of the bytes after it are as they should be
@@ -184,7 +184,7 @@ place_end text place i offset past =
 
 -- ---- the first line, step by step
 
-until_end-inside : (byte : ℕ) (bytes : List ℕ) → ends_line (byte ∷ bytes) ≡ false → until_end (byte ∷ bytes) ≡ byte ∷ until_end bytes
+pub until_end-inside : (byte : ℕ) (bytes : List ℕ) → ends_line (byte ∷ bytes) ≡ false → until_end (byte ∷ bytes) ≡ byte ∷ until_end bytes
 until_end-inside byte bytes inside = rw inside
 
 pub until_end_next : (text : List ℕ) (i : ℕ) → i < length text → ends_line (drop i text) ≡ false → take i text ++ until_end (drop i text) ≡ until_end text

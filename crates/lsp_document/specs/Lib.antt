@@ -2,6 +2,7 @@
 pub mod Position
 pub mod Splicing
 pub mod LineTexts
+pub mod Columns
 pub mod Exchanges
 pub mod Documents
 pub mod Advice

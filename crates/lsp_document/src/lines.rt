@@ -1,5 +1,6 @@
 //! A line of a text, and what of it is shown as faulty.
 ghost use Rattle.std.specs.Prelude.{◌≡◌, ◌≤◌, ◌+◌, length};
+ghost use Rattle.lsp_document.specs.Columns.{ColumnsAreFound, ColumnsHaveOneOffset, PlacesAreMeasured, WidthsAreUtf16};
 ghost use Rattle.lsp_document.specs.LineTexts as spec;
 
 use crate::position::{ends_line, line_start, units};
@@ -46,3 +47,21 @@ pub(crate) fn width(line: &[u8]) -> usize
     }
     sum
 }
+
+/// A law, with no code: the width of a text that is UTF-8 is the length of its UTF-16.
+pub fn widths_are_utf16()
+    ensures { WidthsAreUtf16 }
+{}
+
+/// A law, with no code: the offset of a column in a line is the last before which there is no more
+/// than the column, in UTF-16 units; and there is only one.
+pub fn columns_have_one_offset()
+    ensures found { ColumnsAreFound }
+    ensures one { ColumnsHaveOneOffset }
+{}
+
+/// A law, with no code: the place of an offset in a line is the line's number, and in UTF-16 units
+/// how wide the line is before the offset.
+pub fn places_are_measured()
+    ensures { PlacesAreMeasured }
+{}
