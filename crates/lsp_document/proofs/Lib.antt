@@ -3,6 +3,7 @@ pub mod FaultLines
 pub mod Fitting
 pub mod HeldBlocks
 pub mod HeldTexts
+pub mod LineStarts
 pub mod ListEdits
 pub mod Measuring
 pub mod PartsExchanged

@@ -82,20 +82,20 @@ after_other byte bytes line column other lines offset start step rest within =
 count_first : (byte : ℕ) (bytes : List ℕ) → line_count (byte ∷ bytes) ≡ line_count (byte ∷ []) + line_count bytes
 count_first byte bytes = sum_by-append (λ (x : ℕ). cond (x == 10) 1 0) (byte ∷ []) bytes
 
-count_newline : (byte : ℕ) (bytes : List ℕ) → (byte == 10) ≡ true → line_count (byte ∷ bytes) ≡ suc (line_count bytes)
+pub count_newline : (byte : ℕ) (bytes : List ℕ) → (byte == 10) ≡ true → line_count (byte ∷ bytes) ≡ suc (line_count bytes)
 count_newline byte bytes newline =
     let one : line_count (byte ∷ []) ≡ 1 = rw newline (omega arith) in
     omega (arith, count_first byte bytes, one)
 
-count_plain : (byte : ℕ) (bytes : List ℕ) → (byte == 10) ≡ false → line_count (byte ∷ bytes) ≡ line_count bytes
+pub count_plain : (byte : ℕ) (bytes : List ℕ) → (byte == 10) ≡ false → line_count (byte ∷ bytes) ≡ line_count bytes
 count_plain byte bytes plain =
     let none : line_count (byte ∷ []) ≡ 0 = rw plain (omega arith) in
     omega (arith, count_first byte bytes, none)
 
-left_newline : (byte lines : ℕ) → (byte == 10) ≡ true → lines_left (suc lines) byte ≡ lines
+pub left_newline : (byte lines : ℕ) → (byte == 10) ≡ true → lines_left (suc lines) byte ≡ lines
 left_newline byte lines newline = rw newline (omega arith)
 
-left_plain : (byte lines : ℕ) → (byte == 10) ≡ false → lines_left lines byte ≡ lines
+pub left_plain : (byte lines : ℕ) → (byte == 10) ≡ false → lines_left lines byte ≡ lines
 left_plain byte lines plain = rw plain
 
 measured : (text : List ℕ) (line column lines offset : ℕ) → lines ≤ line_count text → Measures text line column lines offset (line_start text lines)

@@ -3,7 +3,7 @@
 //!
 //! - `position`: places in a text by lines and UTF-16 columns
 //! - `splicing`: a text with a part of it exchanged
-//! - `lines`: a line of a text, and what of it is shown as faulty
+//! - `lines`: a line of a text, what of it is shown as faulty, and laws of lines and columns
 //! - `cut`: what two lists of blocks have in common at their ends
 //! - `exchanging`: the edits that make the blocks of one text those of another
 //! - `document`: a text with a database of its blocks
@@ -23,6 +23,8 @@ mod splicing;
 pub use diagnostics::{Diagnostic, Problem, diagnostics_are_the_faults, shown_detail};
 pub use document::{Document, held_blocks_fit};
 pub use exchanging::one_change_is_one_edit;
-pub use lines::{columns_have_one_offset, places_are_measured, widths_are_utf16};
+pub use lines::{
+    columns_have_one_offset, lines_have_one_start, places_are_measured, widths_are_utf16,
+};
 pub use position::{offset_of, position_of, positions_are_inverse};
 pub use splicing::spliced;

@@ -1,6 +1,7 @@
 //! A line of a text, and what of it is shown as faulty.
 ghost use Rattle.std.specs.Prelude.{◌≡◌, ◌≤◌, ◌+◌, length};
 ghost use Rattle.lsp_document.specs.Columns.{ColumnsAreFound, ColumnsHaveOneOffset, PlacesAreMeasured, WidthsAreUtf16};
+ghost use Rattle.lsp_document.specs.LineStarts.{LinesAreFound, LinesHaveOneStart, OtherLinesAreTheEnd};
 ghost use Rattle.lsp_document.specs.LineTexts as spec;
 
 use crate::position::{ends_line, line_start, units};
@@ -64,4 +65,12 @@ pub fn columns_have_one_offset()
 /// how wide the line is before the offset.
 pub fn places_are_measured()
     ensures { PlacesAreMeasured }
+{}
+
+/// A law, with no code: a line of a text begins at the first offset with so many newlines before
+/// it, the only one; for a line that the text does not have, the offset is that of its end.
+pub fn lines_have_one_start()
+    ensures found { LinesAreFound }
+    ensures other { OtherLinesAreTheEnd }
+    ensures one { LinesHaveOneStart }
 {}
