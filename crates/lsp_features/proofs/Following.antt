@@ -30,19 +30,19 @@ use Rattle.lsp_features.proofs.Selections.{rises_in, up_up}
 
 -- ---- bytes whose offsets rise, from the first offset to before the last
 
-abbrev Rise : ℕ → ℕ → List PlacedByte → Type 0
+abbrev pub Rise : ℕ → ℕ → List PlacedByte → Type 0
 Rise low high [] = low ≤ high
 Rise low high (x ∷ xs) = (low ≤ x.1) × Rise (suc x.1) high xs
 
-rise_up : (low high : ℕ) (text : List PlacedByte) → Rise low high text → low ≤ high
+pub rise_up : (low high : ℕ) (text : List PlacedByte) → Rise low high text → low ≤ high
 rise_up low high [] r = r
 rise_up low high (x ∷ xs) r = let more = rise_up (suc x.1) high xs r.1 in omega (arith, r.0, more)
 
-rise_lower : (low less high : ℕ) (text : List PlacedByte) → low ≤ less → Rise less high text → Rise low high text
+pub rise_lower : (low less high : ℕ) (text : List PlacedByte) → low ≤ less → Rise less high text → Rise low high text
 rise_lower low less high [] le r = omega (arith, r)
 rise_lower low less high (x ∷ xs) le r = (omega (arith, r.0), r.1)
 
-rise_higher : (low high more : ℕ) (text : List PlacedByte) → high ≤ more → Rise low high text → Rise low more text
+pub rise_higher : (low high more : ℕ) (text : List PlacedByte) → high ≤ more → Rise low high text → Rise low more text
 rise_higher low high more [] le r = omega (arith, r)
 rise_higher low high more (x ∷ xs) le r = (r.0, rise_higher (suc x.1) high more xs le r.1)
 
@@ -68,14 +68,14 @@ rise_breaks low high joining (x ∷ xs) r =
     rise_either low high (x.0 == 10 || (joining && is_white_space x.0)) x (without_breaks true xs) (without_breaks false xs) r.0
     (rise_breaks (suc x.1) high true xs r.1) (rise_breaks (suc x.1) high false xs r.1)
 
-rise_folded : (block : List ℕ) → Rise 0 (length block) (folded_of block)
+pub rise_folded : (block : List ℕ) → Rise 0 (length block) (folded_of block)
 rise_folded block =
     let all = rise_higher 0 (0 + length block) (length block) (bytes_at 0 block) (omega arith) (rise_bytes 0 block) in
     rise_breaks 0 (length block) false (without_comments false 10 (bytes_at 0 block)) (rise_comments 0 (length block) false 10 (bytes_at 0 block) all)
 
 -- ---- the field, and what is after it
 
-abbrev Halves : ℕ → ℕ → List PlacedByte → List PlacedByte → Type 0
+abbrev pub Halves : ℕ → ℕ → List PlacedByte → List PlacedByte → Type 0
 Halves low high front back = (middle : ℕ) × (Rise low middle front) × (Rise middle high back)
 
 halves_by : (low high : ℕ) (b : Bool) (x : PlacedByte) (xs : List PlacedByte) → low ≤ x.1 → Rise (suc x.1) high xs → Halves (suc x.1) high (field_of xs) (rest_of xs)
@@ -83,13 +83,13 @@ halves_by : (low high : ℕ) (b : Bool) (x : PlacedByte) (xs : List PlacedByte) 
 halves_by low high true x xs le r h = (suc x.1, omega arith, r)
 halves_by low high false x xs le r h = (h.0, (le, h.1), h.2)
 
-halves : (low high : ℕ) (text : List PlacedByte) → Rise low high text → Halves low high (field_of text) (rest_of text)
+pub halves : (low high : ℕ) (text : List PlacedByte) → Rise low high text → Halves low high (field_of text) (rest_of text)
 halves low high [] r = (low, omega arith, r)
 halves low high (x ∷ xs) r = halves_by low high (x.0 == 44) x xs r.0 r.1 (halves (suc x.1) high xs r.1)
 
 -- ---- parts that rise
 
-abbrev PartsRise : ℕ → ℕ → List (List PlacedByte) → Type 0
+abbrev pub PartsRise : ℕ → ℕ → List (List PlacedByte) → Type 0
 PartsRise low high [] = low ≤ high
 PartsRise low high (part ∷ parts) = (middle : ℕ) × (Rise low middle part) × (PartsRise middle high parts)
 
@@ -134,7 +134,7 @@ items_by low high true takes x y rest pair one le less p q r = (suc x.1, omega a
 items_by low high false true x y rest pair one le less p q r = with_first_rises low high x (with_first y pair) le (with_first_rises (suc x.1) high y pair less q)
 items_by low high false false x y rest pair one le less p q r = with_first_rises low high x one le r
 
-items_rise : (low high before : ℕ) (text : List PlacedByte) → Rise low high text → PartsRise low high (items_after before text)
+pub items_rise : (low high before : ℕ) (text : List PlacedByte) → Rise low high text → PartsRise low high (items_after before text)
 items_rise low high before [] r = (low, omega arith, r)
 items_rise low high before (x ∷ []) r = last_by low high (x.0 == 44) x r.0 r.1
 items_rise low high before (x ∷ (y ∷ ys)) r =
@@ -147,7 +147,7 @@ front_by : (low high : ℕ) (b : Bool) (x : PlacedByte) (xs rest : List PlacedBy
 front_by low high true x xs rest r h = h
 front_by low high false x xs rest r h = r
 
-front_rises : (low high : ℕ) (part : List PlacedByte) → Rise low high part → Rise low high (without_front part)
+pub front_rises : (low high : ℕ) (part : List PlacedByte) → Rise low high part → Rise low high (without_front part)
 front_rises low high [] r = r
 front_rises low high (x ∷ xs) r =
     front_by low high (is_white_space x.0) x xs (without_front xs) r
@@ -162,13 +162,13 @@ end_rises low high [] r = r
 end_rises low high (x ∷ xs) r =
     end_by low high (list_all is_white_space (bytes (x ∷ xs))) x (without_end xs) (rise_up low high (x ∷ xs) r) (r.0, end_rises (suc x.1) high xs r.1)
 
-drop_rises : (n low high : ℕ) (part : List PlacedByte) → Rise low high part → Rise low high (drop n part)
+pub drop_rises : (n low high : ℕ) (part : List PlacedByte) → Rise low high part → Rise low high (drop n part)
 drop_rises zero low high [] r = r
 drop_rises zero low high (x ∷ xs) r = r
 drop_rises (suc n) low high [] r = r
 drop_rises (suc n) low high (x ∷ xs) r = drop_rises n low high xs (rise_lower low (suc x.1) high xs (omega (arith, r.0)) r.1)
 
-fronts_rise : (low high : ℕ) (parts : List (List PlacedByte)) → PartsRise low high parts → PartsRise low high (map without_front parts)
+pub fronts_rise : (low high : ℕ) (parts : List (List PlacedByte)) → PartsRise low high parts → PartsRise low high (map without_front parts)
 fronts_rise low high [] r = r
 fronts_rise low high (part ∷ parts) r = (r.0, front_rises low r.0 part r.1, fronts_rise r.0 high parts r.2)
 
@@ -296,7 +296,7 @@ step_start : (newline ends : Bool) (place : Position) (n : ℕ) → newline ≡ 
 step_start true ends place n e = refl
 step_start false ends place n e = absurd cc
 
-lines_more : (byte : ℕ) (bytes : List ℕ) → line_count (byte ∷ bytes) ≡ cond (byte == 10) 1 0 + line_count bytes
+pub lines_more : (byte : ℕ) (bytes : List ℕ) → line_count (byte ∷ bytes) ≡ cond (byte == 10) 1 0 + line_count bytes
 lines_more byte bytes = sum_by-cons (λ (x : ℕ). cond (x == 10) 1 0) byte bytes
 
 ends_at : (place : Position) (before : ℕ) (text : List ℕ) → last_byte before text ≡ 10 → IsStart before place

@@ -1,5 +1,6 @@
 pub mod CausesFound
 pub mod CausesTold
+pub mod Completing
 pub mod Deciders
 pub mod Decisions
 pub mod EntriesHeld

@@ -15,7 +15,8 @@ use Rattle.base_meaning.specs.Faults.{distinct_after}
 use Rattle.base_meaning.specs.ItemLaws.{DistinctHasEachOnce, IsDistinctOf}
 use Rattle.base_meaning.specs.Owner.{is_among, is_owner, owner, readings}
 use Rattle.base_meaning.proofs.Exchanging.{list_any-append}
-use Rattle.lsp_features.specs.Completions.{NamesAreOfferedOnce, lookup_names, names_from}
+use Rattle.lsp_features.specs.Completions.{NamesAreOfferedOnce, lookup_names, names_from, offered_names}
+use Rattle.lsp_features.specs.Renaming.{can_be_given}
 
 -- ---- each of some names once
 
@@ -111,5 +112,55 @@ all_once front (block ∷ rest) =
     ∙ ap (λ (t : List (List ℕ)). distinct_after (lookup_names front) names ++ t) later
     ∙ sym (distinct_more (lookup_names front) names (lookup_names rest))
 
+-- ---- those that a test keeps
+
+kept_here : (p : List ℕ → Bool) (x : List ℕ) (b : Bool) → p x ≡ true → filter p (cond b [] (x ∷ [])) ≡ cond b [] (x ∷ [])
+kept_here p x true e = refl
+kept_here p x false e = rw e refl
+
+left_here : (p : List ℕ → Bool) (x : List ℕ) (b : Bool) → p x ≡ false → filter p (cond b [] (x ∷ [])) ≡ []
+left_here p x true e = refl
+left_here p x false e = rw e refl
+
+-- a name that is kept is none that is left
+apart : (p : List ℕ → Bool) (n x : List ℕ) → p n ≡ true → p x ≡ false → bytes_eq n x ≡ false
+apart p n x kept left =
+    elim (cases_Bool (bytes_eq n x)) [
+      | inl same ↦ let is : n ≡ x = (bytes_eq-Decides n x).0 same in let clash : true ≡ false = sym kept ∙ ap p is ∙ left in absurd cc
+      | inr off ↦ off
+    ]
+
+more_seen : (n x : List ℕ) (before seen : List (List ℕ)) → is_among n before ≡ is_among n seen → is_among n (before ++ x ∷ []) ≡ is_among n (seen ++ x ∷ [])
+more_seen n x before seen e = list_any-append n before (x ∷ []) ∙ ap (λ (b : Bool). b || is_among n (x ∷ [])) e ∙ sym (list_any-append n seen (x ∷ []))
+
+or_none : (b c : Bool) → c ≡ false → (b || (c || false)) ≡ b
+or_none true c e = refl
+or_none false c e = rw e refl
+
+left_seen : (n x : List ℕ) (before seen : List (List ℕ)) → bytes_eq n x ≡ false → is_among n before ≡ is_among n seen → is_among n (before ++ x ∷ []) ≡ is_among n seen
+left_seen n x before seen off e = list_any-append n before (x ∷ []) ∙ or_none (is_among n before) (bytes_eq n x) off ∙ e
+
+kept_once : (p : List ℕ → Bool) (before seen names : List (List ℕ)) → ((n : List ℕ) → p n ≡ true → is_among n before ≡ is_among n seen)
+    → filter p (distinct_after before names) ≡ distinct_after seen (filter p names)
+kept_once p before seen [] h = refl
+kept_once p before seen (x ∷ xs) h =
+    let here : List (List ℕ) = cond (is_among x before) [] (x ∷ []) in
+    let later = distinct_after (before ++ x ∷ []) xs in
+    elim (cases_Bool (p x)) [
+      | inl kept ↦ filter-append p here later
+          ∙ ap (λ (t : List (List ℕ)). t ++ filter p later) (kept_here p x (is_among x before) kept)
+          ∙ ap (λ (t : List (List ℕ)). here ++ t) (kept_once p (before ++ x ∷ []) (seen ++ x ∷ []) xs (λ n e. more_seen n x before seen (h n e)))
+          ∙ ap (λ (b : Bool). cond b [] (x ∷ []) ++ distinct_after (seen ++ x ∷ []) (filter p xs)) (h x kept)
+          ∙ ap (λ (b : Bool). distinct_after seen (cond b (x ∷ filter p xs) (filter p xs))) (sym kept)
+      | inr left ↦ filter-append p here later
+          ∙ ap (λ (t : List (List ℕ)). t ++ filter p later) (left_here p x (is_among x before) left)
+          ∙ kept_once p (before ++ x ∷ []) seen xs (λ n e. left_seen n x before seen (apart p n x e left) (h n e))
+          ∙ ap (λ (b : Bool). distinct_after seen (cond b (x ∷ filter p xs) (filter p xs))) (sym left)
+    ]
+
 pub names_once : DistinctHasEachOnce → NamesAreOfferedOnce
-names_once each blocks = subst (λ (names : List (List ℕ)). IsDistinctOf (lookup_names blocks) names) (sym (all_once [] blocks)) (each (lookup_names blocks))
+names_once each blocks =
+    let named = lookup_names blocks in
+    let offered : offered_names blocks ≡ distinct_after [] (filter can_be_given named) =
+    ap (filter can_be_given) (all_once [] blocks) ∙ kept_once can_be_given [] [] named (λ n e. refl) in
+    subst (λ (names : List (List ℕ)). IsDistinctOf (filter can_be_given named) names) (sym offered) (each (filter can_be_given named))

@@ -1,16 +1,19 @@
 -- The blocks of a document, one after the other.
-use Rattle.std.proofs.Common.{◌≡◌, ℕ, ◌+◌, ◌<◌, ◌≤◌, List, [], ◌∷◌, ◌++◌, Global, None, Some, drop, get_or, length, map, slice_get, refl, sym, ap, subst, ◌∙◌}
+use Rattle.std.proofs.Common.{◌≡◌, ℕ, ◌+◌, ◌<◌, ◌≤◌, ◌||◌, Bool, List, [], ◌∷◌, ◌++◌, Global, None, Some, drop, get_or, length, map, slice_get, refl, sym, ap, subst, ◌∙◌}
 use Rattle.std.specs.Option.{option_map, option_map_or}
 use Rattle.std.specs.Rc.{rc_slice_items}
+use Rattle.std.specs.Str.{bytes_eq}
 use Rattle.std.specs.declared.rc.RcSlice.{RcSlice}
 use Rattle.std.proofs.lemmas.List.{append_assoc, drop_more, map-append}
 use Rattle.std.proofs.lemmas.Option.{same_Some, slice_get-get_or, slice_get-map}
 use Rattle.ti_text.specs.Lines.{line_count}
 use Rattle.ti_source.specs.Parsing.{reading_of_text}
-use Rattle.ti_source.specs.Reading.{Reading}
+use Rattle.ti_source.specs.Reading.{ReadItem, Reading}
 use Rattle.base_meaning.specs.Owner.{readings}
+use Rattle.base_meaning.specs.Reaching.{any_use}
 use Rattle.base_meaning.specs.Report.{shown_detail}
 use Rattle.lsp_document.specs.Diagnostics.{text_at}
+use Rattle.lsp_features.specs.Renaming.{is_used}
 use Rattle.lsp_features.specs.Symbols.{SymbolSeen, shown_name, symbol_at, symbol_seen, symbols_from}
 use Rattle.lsp_features.specs.declared.symbols.Symbol.{Symbol}
 use Rattle.lsp_features.specs.inside.Counting.{CanCount}
@@ -56,3 +59,22 @@ first_shown (other ∷ names) name field e = ap (λ (n : RcSlice ℕ Global). sh
 pub field_shown : (names : List (RcSlice ℕ Global)) (field : List ℕ) → None ≡ slice_get names 0 → shown_name (map rc_slice_items names) field ≡ shown_detail field
 field_shown [] field e = refl
 field_shown (other ∷ names) field e = cc
+
+-- ---- the items of a block
+
+pub items_read : (blocks : List (List ℕ)) (at : ℕ) (items : List ReadItem) → at < length blocks → option_map (λ (block : Reading). block.items) (slice_get (readings blocks) at) ≡ Some items
+    → (reading_of_text (text_at blocks at)).items ≡ items
+items_read blocks at items within e =
+    let read : slice_get (readings blocks) at ≡ Some (reading_of_text (text_at blocks at)) =
+    slice_get-map reading_of_text blocks at
+    ∙ ap (option_map reading_of_text) (slice_get-get_or blocks at [] within ∙ ap (λ (t : List ℕ). Some t) (sym (text_got blocks at within))) in
+    same_Some (reading_of_text (text_at blocks at)).items items (ap (option_map (λ (block : Reading). block.items)) (sym read) ∙ e)
+
+-- whether an item of one more block uses a name
+pub used_next : (blocks : List (List ℕ)) (at : ℕ) (name : List ℕ) (items : List ReadItem) (found whole : Bool) → at < length blocks
+    → option_map (λ (block : Reading). block.items) (slice_get (readings blocks) at) ≡ Some items → found ≡ any_use (bytes_eq name) items
+    → is_used (readings (drop at blocks)) name ≡ whole → (found || is_used (readings (drop (at + 1) blocks)) name) ≡ whole
+used_next blocks at name items found whole within there is so =
+    let later = is_used (readings (drop (at + 1) blocks)) name in
+    ap (λ (b : Bool). b || later) (is ∙ ap (any_use (bytes_eq name)) (sym (items_read blocks at items within there)))
+    ∙ sym (ap (λ (t : List (List ℕ)). is_used (readings t) name) (blocks_more blocks at within)) ∙ so

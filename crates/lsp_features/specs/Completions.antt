@@ -1,7 +1,10 @@
 -- What an editor offers to complete a word with (own; Language Server Protocol 3.17, "Completion
 -- Request").
-use Rattle.std.specs.Prelude.{ℕ, suc, List, [], ◌∷◌, ◌++◌, flat_map, map, Option, option_and_then, option_map, if◌then◌else◌}
+use Rattle.ti_text.specs.Ascii as ascii
+use Rattle.std.specs.Prelude.{ℕ, suc, ◌≡◌, ◌≤◌, ◌==◌, ◌||◌, Bool, List, [], ◌∷◌, ◌++◌, filter, flat_map, map, max, take, Option, Some, option_and_then, option_map, if◌then◌else◌}
+use Rattle.std.specs.List.{list_any}
 use Rattle.std.specs.String.{string_bytes}
+use Rattle.ti_text.specs.WhiteSpace.{is_white_space}
 use Rattle.ti_source.specs.Parsing.{reading_of_text}
 use Rattle.ti_source.specs.Reading.{Reading}
 use Rattle.base_meaning.specs.ItemLaws.{IsDistinctOf}
@@ -9,12 +12,14 @@ use Rattle.base_meaning.specs.OwnNames.{own_names}
 use Rattle.base_meaning.specs.Owner.{readings}
 use Rattle.base_meaning.specs.Report.{shown_detail}
 use Rattle.lsp_spans.specs.Words.{word_before}
+use Rattle.lsp_spans.specs.declared.parts.Part.{Part}
 use Rattle.lsp_spans.specs.declared.words.Word.{Word}
 use Rattle.lsp_types.specs.declared.places.Position.{Position}
 use Rattle.lsp_types.specs.declared.places.Range.{Range}
 use Rattle.lsp_document.specs.Diagnostics.{text_at}
 use Rattle.lsp_document.specs.Documents.{held}
-use Rattle.lsp_features.specs.Spots.{range_in, spot_at}
+use Rattle.lsp_features.specs.Renaming.{can_be_given}
+use Rattle.lsp_features.specs.Spots.{range_in, settled, spot_at}
 use Rattle.lsp_features.specs.declared.completions.Completion.{Completion}
 use Rattle.lsp_features.specs.declared.completions.Offers.{Offers}
 use Rattle.lsp_features.specs.declared.completions.Offers.TheVariants as offers
@@ -52,20 +57,33 @@ all_names blocks = names_from blocks 0 blocks
 abbrev pub lookup_names : List (List ℕ) → List (List ℕ)
 lookup_names blocks = flat_map (λ (block : Reading). block.names) (readings blocks)
 
--- they are offered each once, in the order of their first places
-abbrev pub NamesAreOfferedOnce : Type 0
-NamesAreOfferedOnce = (blocks : List (List ℕ)) → IsDistinctOf (lookup_names blocks) (all_names blocks)
+-- those of them that an item `use=` can give
+abbrev pub offered_names : List (List ℕ) → List (List ℕ)
+offered_names blocks = filter can_be_given (all_names blocks)
 
 -- what is offered for a word: names as a report shows them
 abbrev pub offers_for : List (List ℕ) → Word → OffersSeen
-offers_for blocks word = if word.used then offers_names (map shown_detail (all_names blocks)) else offers_capabilities
+offers_for blocks word = if word.used then offers_names (map shown_detail (offered_names blocks)) else offers_capabilities
+
+-- ---- the part that is replaced
+
+-- whether a byte parts words: white space, or the newline that ends a line
+abbrev pub is_break : ℕ → Bool
+is_break byte = byte == ascii.newline || is_white_space byte
+
+-- where the last word of a text begins: after its last break, or at its start
+abbrev pub last_word : List ℕ → ℕ
+last_word [] = 0
+last_word (byte ∷ bytes) = if list_any is_break (byte ∷ bytes) then suc (last_word bytes) else 0
+
+-- the part of a block that is replaced for a word which ends at that offset: an item goes on over a
+-- wrap and a blank, and no more of it is replaced than what is after the last of these
+abbrev pub replaced : List ℕ → ℕ → Word → Part
+replaced block offset word = record { start = max word.start (last_word (take offset block)); end = offset }
 
 -- what is offered for a word of a block that begins on that line, which ends at that offset
 abbrev pub completion_for : List (List ℕ) → ℕ → List ℕ → ℕ → Word → CompletionSeen
-completion_for blocks line block offset word = record {
-  range = range_in line block (record { start = word.start; end = offset });
-  offers = offers_for blocks word;
-}
+completion_for blocks line block offset word = record { range = range_in line block (replaced block offset word); offers = offers_for blocks word }
 
 -- what is offered at an offset of a block that begins on that line
 abbrev pub completion_at : List (List ℕ) → ℕ → List ℕ → ℕ → Option CompletionSeen
@@ -78,3 +96,17 @@ completion_in blocks spot = completion_at blocks spot.line (text_at blocks spot.
 -- what is offered at a place of a text
 abbrev pub completion_of : List ℕ → Position → Option CompletionSeen
 completion_of text place = option_and_then (completion_in (held text)) (spot_at text place)
+
+-- ---- laws
+
+-- the names that are offered are those that an item `use=` can give, each once, in the order of
+-- their first places
+abbrev pub NamesAreOfferedOnce : Type 0
+NamesAreOfferedOnce = (blocks : List (List ℕ)) → IsDistinctOf (filter can_be_given (lookup_names blocks)) (offered_names blocks)
+
+-- what is replaced is a part of the line that the cursor is on, as the protocol asks
+abbrev pub CompletionsStayInTheLine : Type 0
+CompletionsStayInTheLine =
+    (text : List ℕ) (place : Position) (completion : CompletionSeen) → completion_of text place ≡ Some completion
+    → (completion.range.start.line ≡ (settled text place).line) × (completion.range.end.line ≡ (settled text place).line)
+    × (completion.range.start.column ≤ completion.range.end.column)

@@ -1,11 +1,13 @@
 -- What an editor renames (own; Language Server Protocol 3.17, "Rename Request" and "Prepare Rename
 -- Request").
-use Rattle.std.specs.Prelude.{ℕ, ◌≡◌, ◌==◌, ◌&&◌, ◌++◌, not, List, [], ◌∷◌, Bool, false, codes, Option, None, Some, option_and_then, option_map, if◌then◌else◌}
+use Rattle.std.specs.Prelude.{ℕ, ◌≡◌, ◌==◌, ◌&&◌, ◌++◌, not, List, [], ◌∷◌, Bool, codes, Option, None, Some, option_and_then, option_map, if◌then◌else◌}
 use Rattle.std.specs.List.{list_any}
 use Rattle.std.specs.Option.{option_map_or}
 use Rattle.std.specs.Str.{bytes_eq}
 use Rattle.ti_source.specs.Header.{is_lookup_name}
+use Rattle.ti_source.specs.Reading.{Reading}
 use Rattle.base_meaning.specs.Owner.{owner, readings}
+use Rattle.base_meaning.specs.Reaching.{any_use}
 use Rattle.lsp_spans.specs.Subjects.{TouchedSeen, UseSeen, uses_of}
 use Rattle.lsp_types.specs.declared.failures.Failure.{Failure}
 use Rattle.lsp_types.specs.declared.failures.Failure.TheVariants.{NameTaken, NoName}
@@ -32,14 +34,19 @@ block_with name = name ++ codes ",use=" ++ name ++ codes ","
 abbrev pub can_be_given : List ℕ → Bool
 can_be_given name = is_lookup_name name && list_any (λ (found : UseSeen). bytes_eq found.name name) (uses_of (block_with name))
 
--- whether a block other than the one at that position owns a name
-abbrev pub is_taken : List (List ℕ) → ℕ → List ℕ → Bool
-is_taken blocks at name = option_map_or (λ other. not (other == at)) (owner (readings blocks) name) false
+-- whether an item of the blocks uses a name
+abbrev pub is_used : List Reading → List ℕ → Bool
+is_used blocks name = list_any (λ (block : Reading). any_use (bytes_eq name) block.items) blocks
+
+-- whether the block at that position cannot get a name without leading a use elsewhere: another
+-- block owns the name, or no block does and an item uses it, which would then lead to this one
+abbrev pub is_taken : List Reading → ℕ → List ℕ → Bool
+is_taken blocks at name = option_map_or (λ other. not (other == at)) (owner blocks name) (is_used blocks name)
 
 -- why a name of the block at that position cannot be this one instead, if it cannot
 abbrev pub failure_of : List (List ℕ) → ℕ → List ℕ → Option Failure
 failure_of blocks at name =
-    if can_be_given name then (if is_taken blocks at name then Some NameTaken else None) else Some NoName
+    if can_be_given name then (if is_taken (readings blocks) at name then Some NameTaken else None) else Some NoName
 
 -- ---- what is renamed
 

@@ -25,7 +25,9 @@ mod spots;
 mod symbols;
 
 pub use causes::missing_entries_have_a_cause;
-pub use completions::{Completion, Offers, completion_of, names_are_offered_once};
+pub use completions::{
+    Completion, Offers, completion_of, completions_stay_in_the_line, names_are_offered_once,
+};
 pub use deciding::{Source, deciders_are_found, deciders_say_it, one_block_decides};
 pub use holdings::{Entry, Holding};
 pub use hovers::{About, Hover, hover_of};

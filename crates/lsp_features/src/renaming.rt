@@ -1,9 +1,12 @@
 //! What an editor renames: a name of an entry, with its uses.
-ghost use Rattle.std.specs.Prelude.{◌≡◌, ◌^◌, ◌+◌, ◌<◌, IfOk, length, option_map};
+ghost use Rattle.std.specs.Prelude.{◌≡◌, ◌^◌, ◌+◌, ◌<◌, IfOk, length, map, option_map};
+ghost use Rattle.std.specs.Str.{bytes_eq};
+ghost use Rattle.ti_source.specs.Reading.{item_of, said_of};
 ghost use Rattle.base_meaning.specs.Owner.{owner, readings};
+ghost use Rattle.base_meaning.specs.Reaching.{any_use, use_passes, used_name};
 ghost use Rattle.lsp_document.specs.Documents.{held};
 ghost use Rattle.lsp_features.specs.Renaming as spec;
-ghost use Rattle.lsp_features.specs.Renaming.{block_with, can_be_given, failure_of, renamed, renaming_seen};
+ghost use Rattle.lsp_features.specs.Renaming.{block_with, can_be_given, failure_of, is_taken, is_used, renamed, renaming_seen};
 
 use crate::names::{Sought, name_of, owner_of, push_all, touched_at};
 use crate::spots::{head_line, range_in, spot_at};
@@ -12,7 +15,7 @@ use lsp_spans::{subject_at, uses_of};
 use lsp_types::{Failure, Position, Range};
 use std::alloc::{AllocError, Global};
 use ti_base::Database;
-use ti_source::is_lookup_name;
+use ti_source::{Item, What, is_lookup_name};
 
 /// What comes of a rename.
 #[derive(Drop)]
@@ -36,8 +39,8 @@ fn block_with(alloc: Global, name: &[u8]) -> Result<Vec<u8>, AllocError>
     Ok(block)
 }
 
-// Whether a block can have a name and another can use it, as the source is written.
-fn can_be_given(alloc: Global, name: &[u8]) -> Result<bool, AllocError>
+/// Whether a block can have a name and another can use it, as the source is written.
+pub(crate) fn can_be_given(alloc: Global, name: &[u8]) -> Result<bool, AllocError>
     ensures { IfOk result (λ can. can ≡ can_be_given name.now) }
 {
     if !is_lookup_name(name) {
@@ -53,6 +56,53 @@ fn can_be_given(alloc: Global, name: &[u8]) -> Result<bool, AllocError>
     Ok(false)
 }
 
+// Whether what an item says is that it uses a name.
+fn is_use_of(what: &What, name: &[u8]) -> bool
+    ensures { result ≡ use_passes (bytes_eq name.now) (used_name (said_of what.now)) }
+{
+    match what {
+        What::Flag(_) => false,
+        What::Number(_, _) => false,
+        What::Text(_, _) => false,
+        What::Cancel(_) => false,
+        What::Import(used) => name == used.as_slice(),
+    }
+}
+
+// Whether one of the items uses a name.
+fn any_use_of(items: &[Item], name: &[u8]) -> bool
+    ensures { result ≡ any_use (bytes_eq name.now) (map item_of items.now) }
+{
+    for item in items {
+        if is_use_of(&item.what, name) {
+            return true;
+        }
+    }
+    false
+}
+
+// Whether an item of the blocks uses a name.
+fn is_used(database: &Database, name: &[u8]) -> bool
+    ensures { result ≡ is_used (readings database.now) name.now }
+{
+    for at in 0..database.len() {
+        if any_use_of(database.items(at), name) {
+            return true;
+        }
+    }
+    false
+}
+
+// Whether a block cannot get a name without leading a use elsewhere.
+fn is_taken(database: &Database, at: usize, name: &[u8]) -> bool
+    ensures { result ≡ is_taken (readings database.now) at name.now }
+{
+    match database.owner(name) {
+        Some(other) => other != at,
+        None => is_used(database, name),
+    }
+}
+
 // Why a name of the block at a position cannot be this one instead, if it cannot.
 fn failure_of(
     alloc: Global,
@@ -65,10 +115,10 @@ fn failure_of(
     if !can_be_given(alloc, name)? {
         return Ok(Some(Failure::NoName));
     }
-    match database.owner(name) {
-        Some(other) if other != owner => Ok(Some(Failure::NameTaken)),
-        _ => Ok(None),
+    if is_taken(database, owner, name) {
+        return Ok(Some(Failure::NameTaken));
     }
+    Ok(None)
 }
 
 // What comes of a rename of a name that the block at a position owns.
@@ -93,7 +143,8 @@ fn renamed(
 
 /// What comes of a rename at a place: the name that it is on, in a head or in an item `use=`, gets
 /// another name in the head of the block that owns it, and in all items `use=` of that name. The
-/// new name is refused if a source cannot give it, or if another block owns it.
+/// new name is refused if a source cannot give it, if another block owns it, or if no block has it
+/// and an item uses it.
 ///
 /// # Errors
 /// Out of memory.

@@ -34,39 +34,86 @@ const ROWS: [((usize, usize), usize, bool); 6] = [
     ((7, 7), 6, true),
 ];
 
+/// Items that go on over a wrap and a comment, and one with blanks in it.
+const WRAPPED: &[u8] = b"a,\n\tam\n\tseta,\n\tam\n# c\n\tsetb, xon cr, use=a\n\tb,\n\tbel\n\t\n";
+
+/// The lookup names of its block.
+const ONE_NAME: [&str; 1] = ["a"];
+
+/// Of these, what is before the last wrap or blank stays.
+#[rattlefmt::skip]
+const WRAPPED_ROWS: [((usize, usize), usize, bool); 7] = [
+    ((1, 3), 1, false),
+    ((2, 5), 1, false),
+    ((5, 5), 1, false),
+    ((5, 10), 7, false),
+    ((5, 13), 11, false),
+    ((6, 2), 1, true),
+    ((8, 1), 1, false),
+];
+
+/// A block whose name ends with a backslash, after which a comma ends no item.
+const UNUSABLE: &[u8] = b"xt\\,am,\nb|xu|last,use=";
+
+/// The names that an item `use=` can give.
+const USABLE: [&str; 2] = ["b", "xu"];
+
+/// Where they are offered.
+const UNUSABLE_ROWS: [((usize, usize), usize, bool); 1] = [((1, 14), 14, true)];
+
 /// Whether these are the names that are offered.
-fn are_names(names: &[String]) -> bool {
-    names.len() == NAMES.len()
+fn are_names(names: &[String], others: &[&str]) -> bool {
+    names.len() == others.len()
         && names
             .iter()
-            .zip(&NAMES)
+            .zip(others)
             .all(|(name, other)| name.as_str() == *other)
 }
 
 /// Whether a completion is as it is wanted.
-fn is_wanted(found: &Completion, range: Range, named: bool) -> bool {
+fn is_wanted(found: &Completion, range: Range, named: bool, others: &[&str]) -> bool {
     let offered = match &found.offers {
         Offers::Capabilities => !named,
-        Offers::Names(names) => named && are_names(names),
+        Offers::Names(names) => named && are_names(names, others),
     };
     offered && found.range == range
 }
 
-#[test]
-fn completions(rt: HostRuntime) -> Result<(), AllocError> {
-    let document = document_of(rt.alloc(), SOURCE)?;
-    for ((line, column), start, named) in ROWS {
+/// At each place there is a completion as it is wanted.
+fn expect_rows(
+    rt: &impl Abort,
+    alloc: Global,
+    source: &[u8],
+    rows: &[((usize, usize), usize, bool)],
+    names: &[&str],
+) -> Result<(), AllocError> {
+    let document = document_of(alloc, source)?;
+    for ((line, column), start, named) in rows {
+        let end = Position {
+            line: *line,
+            column: *column,
+        };
         let range = Range {
             start: Position {
-                line,
-                column: start,
+                line: *line,
+                column: *start,
             },
-            end: Position { line, column },
+            end,
         };
-        let found = completion_of(rt.alloc(), &document, Position { line, column })?;
-        assert!(rt; found.is_some_and(|found| is_wanted(&found, range, named)));
+        let found = completion_of(alloc, &document, end)?;
+        assert!(rt;
+            found.is_some_and(|found| is_wanted(&found, range, *named, names)),
+            "{line} {column}"
+        );
     }
     Ok(())
+}
+
+#[test]
+fn completions(rt: HostRuntime) -> Result<(), AllocError> {
+    expect_rows(&rt, rt.alloc(), SOURCE, &ROWS, &NAMES)?;
+    expect_rows(&rt, rt.alloc(), WRAPPED, &WRAPPED_ROWS, &ONE_NAME)?;
+    expect_rows(&rt, rt.alloc(), UNUSABLE, &UNUSABLE_ROWS, &USABLE)
 }
 
 /// Places at which nothing is offered: in the preface, in a head, at the start of a line, in a

@@ -40,7 +40,7 @@ c|c,\n\
 
 /// Places, by line and column, new names, and the parts that get them.
 #[rattlefmt::skip]
-const RENAMED: [((usize, usize), &[u8], &[Part]); 10] = [
+const RENAMED: [((usize, usize), &[u8], &[Part]); 9] = [
     // A name of a head, twice in it, and its use; the head of the second block keeps it.
     ((2, 0), b"new", &[(2, 0, 1), (2, 5, 6), (8, 5, 6)]),
     ((2, 6), b"n+1", &[(2, 0, 1), (2, 5, 6), (8, 5, 6)]),
@@ -52,10 +52,9 @@ const RENAMED: [((usize, usize), &[u8], &[Part]); 10] = [
     ((9, 9), b"x\\\\", &[(3, 9, 10), (4, 0, 1), (9, 9, 10)]),
     // The description is no name.
     ((7, 0), b"c^", &[(7, 0, 1)]),
-    // Names that the block has already, and one that is used and that no block has.
+    // Names that the block has already.
     ((2, 0), b"a", &[(2, 0, 1), (2, 5, 6), (8, 5, 6)]),
     ((2, 0), b"aa", &[(2, 0, 1), (2, 5, 6), (8, 5, 6)]),
-    ((2, 0), b"zz", &[(2, 0, 1), (2, 5, 6), (8, 5, 6)]),
 ];
 
 #[test]
@@ -79,7 +78,7 @@ fn renamed(rt: HostRuntime) -> Result<(), AllocError> {
 }
 
 /// New names of the first block, and why they are refused.
-const REFUSED: [(&[u8], Failure); 14] = [
+const REFUSED: [(&[u8], Failure); 15] = [
     // No lookup names.
     (b"", Failure::NoName),
     (b".", Failure::NoName),
@@ -97,6 +96,8 @@ const REFUSED: [(&[u8], Failure); 14] = [
     // Names of other blocks.
     (b"b", Failure::NameTaken),
     (b"c", Failure::NameTaken),
+    // No block has it, and a use of it would lead to the renamed one.
+    (b"zz", Failure::NameTaken),
 ];
 
 #[test]

@@ -3,8 +3,10 @@ use Rattle.std.specs.Rc.{rc_slice_items}
 use Rattle.std.specs.String.{string_bytes}
 use Rattle.base_meaning.specs.Owner.{is_owner, readings}
 use Rattle.base_meaning.specs.Report.{shown_detail}
+use Rattle.lsp_features.specs.Renaming.{can_be_given}
 use Rattle.lsp_features.proofs.completions.push_names.Given as goal
 
 abbrev pub invariant-loop-name : goal.invariant-loop-name
 invariant-loop-name l = map string_bytes l.names.items
-    ≡ map string_bytes l.fn.names.items ++ map shown_detail (filter (λ (name : List ℕ). is_owner (readings l.database) name l.at) (map (λ name. rc_slice_items name.now) (take l.name-index l.name-items)))
+    ≡ map string_bytes l.fn.names.items
+    ++ map shown_detail (filter can_be_given (filter (λ (name : List ℕ). is_owner (readings l.database) name l.at) (map (λ name. rc_slice_items name.now) (take l.name-index l.name-items))))

@@ -1,7 +1,7 @@
 use Rattle.std.proofs.Common.{map, arith}
 use Rattle.std.specs.String.{string_bytes}
 use Rattle.lsp_features.proofs.Naming.{names_next}
-use Rattle.lsp_features.proofs.completions.all_names.Goals as goal
+use Rattle.lsp_features.proofs.completions.offered_names.Goals as goal
 
 pub loop-at-preserved : goal.loop-at-preserved
 loop-at-preserved c =
