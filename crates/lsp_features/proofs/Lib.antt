@@ -12,6 +12,7 @@ pub mod Naming
 pub mod OnceNamed
 pub mod Outlines
 pub mod Printing
+pub mod Renamed
 pub mod SaidAlong
 pub mod Selections
 pub mod Spotting

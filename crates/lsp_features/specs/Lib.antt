@@ -6,6 +6,7 @@ pub mod Holdings
 pub mod Hovers
 pub mod Meanings
 pub mod Names
+pub mod Renamed
 pub mod Renaming
 pub mod Spots
 pub mod Symbols

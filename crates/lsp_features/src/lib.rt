@@ -33,6 +33,8 @@ pub use holdings::{Entry, Holding};
 pub use hovers::{About, Hover, hover_of};
 pub use meanings::Meaning;
 pub use names::{definition_of, references_of};
-pub use renaming::{Renaming, renamable_at, renamed_parts_follow, renaming_of};
+pub use renaming::{
+    Renaming, renamable_at, renamed_parts_follow, renames_keep_entries, renaming_of,
+};
 pub use spots::{Spot, offset_in, range_in, spot_at};
 pub use symbols::{Symbol, selections_are_inside, symbols_of};

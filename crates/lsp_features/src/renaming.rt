@@ -5,6 +5,7 @@ ghost use Rattle.ti_source.specs.Reading.{item_of, said_of};
 ghost use Rattle.base_meaning.specs.Owner.{owner, readings};
 ghost use Rattle.base_meaning.specs.Reaching.{any_use, use_passes, used_name};
 ghost use Rattle.lsp_document.specs.Documents.{held};
+ghost use Rattle.lsp_features.specs.Renamed.{BlocksSayWhatTheyDid, EntriesHoldWhatTheyDid, UsesLeadWhereTheyDid};
 ghost use Rattle.lsp_features.specs.Renaming as spec;
 ghost use Rattle.lsp_features.specs.Renaming.{block_with, can_be_given, failure_of, is_taken, is_used, renamed, renaming_seen};
 
@@ -195,3 +196,12 @@ pub fn renamed_parts_follow()
 {
     held_blocks_fit();
 }
+
+/// A law, with no code, on blocks as they are read before and after a rename that is accepted: each
+/// use leads to the block that it led to, each block says what it said once its uses are expanded,
+/// and so its entry is what it was, but for its names field.
+pub fn renames_keep_entries()
+    ensures uses { UsesLeadWhereTheyDid }
+    ensures sayings { BlocksSayWhatTheyDid }
+    ensures entries { EntriesHoldWhatTheyDid }
+{}
