@@ -1,5 +1,5 @@
 -- The block that decides a capability: as it is looked for, and that it is the one.
-use Rattle.std.proofs.Common.{◌≡◌, ℕ, zero, suc, ◌+◌, ◌-◌, ◌<◌, List, [], ◌∷◌, ◌++◌, Option, Some, None, map, slice_get, refl, sym, ap, subst, ◌∙◌, add-one, arith}
+use Rattle.std.proofs.Common.{◌≡◌, ℕ, zero, suc, ◌+◌, ◌-◌, ◌<◌, List, [], ◌∷◌, ◌++◌, Option, Some, None, length, map, slice_get, refl, sym, ap, subst, ◌∙◌, add-one, arith}
 use Rattle.std.specs.Prelude.{option_and_then, option_map}
 use Rattle.std.specs.Option.{option_map_or}
 use Rattle.std.proofs.lemmas.Option.{none-some, same_Some}
@@ -10,7 +10,7 @@ use Rattle.ti_source.specs.Reading.{Reading, ReadItem, item_of}
 use Rattle.ti_source.specs.declared.parsing.Item.{Item}
 use Rattle.ti_layout.specs.Values.{Contents}
 use Rattle.base_meaning.specs.ValueTables.{HasTable}
-use Rattle.lsp_features.specs.Deciding.{Decides, decides_it, hands_it_on, is_silent, decider_by, decider_in, inherited_below, inherited_one, items_of, said_by, say_of}
+use Rattle.lsp_features.specs.Deciding.{Decides, OneBlockDecides, decides_it, hands_it_on, decider, decider_by, decider_in, first_say, inherited_below, inherited_one, items_of, said_by, say_at, say_before, say_of}
 use Rattle.lsp_features.specs.declared.deciding.Say.{Say}
 use Rattle.lsp_features.specs.declared.deciding.Say.TheVariants.{Silent, Decisive, HandsOn}
 
@@ -32,45 +32,25 @@ items_there blocks at items e = by_block (slice_get blocks at) items e
 
 -- ---- one more item
 
+pub say_here : (blocks : List Reading) (c : Capability) (item : ReadItem) (items : List ReadItem) (say whole : Say) → say ≡ say_of blocks c item.said
+    → first_say blocks c (item ∷ items) ≡ whole → say_before say (first_say blocks c items) ≡ whole
+say_here blocks c item items say whole is so = ap (λ (s : Say). say_before s (first_say blocks c items)) is ∙ so
+
+-- ---- one more block
+
 left : (most passed : ℕ) → passed < most → most - passed ≡ suc (most - (passed + 1))
 left most passed less = omega (arith, less)
 
-pub walk_ends : (blocks : List Reading) (c : Capability) (most passed at : ℕ) → passed < most → decider_in blocks c (most - passed) at [] ≡ None
+pub walk_by : (blocks : List Reading) (c : Capability) (most passed at : ℕ) (say : Say) (whole : Option ℕ) → passed < most → say ≡ say_at blocks c at
+    → decider_in blocks c (most - passed) at ≡ whole → decider_by say at (decider_in blocks c (most - (passed + 1))) ≡ whole
 unfolding decider_in
-walk_ends blocks c most passed at less = rw (left most passed less) refl
+walk_by blocks c most passed at say whole less is so =
+    ap (λ (s : Say). decider_by s at (decider_in blocks c (most - (passed + 1)))) is
+    ∙ sym (ap (λ (n : ℕ). decider_in blocks c n at) (left most passed less)) ∙ so
 
-pub walk_goes : (blocks : List Reading) (c : Capability) (most passed at : ℕ) (item : ReadItem) (items : List ReadItem) → passed < most
-    → decider_in blocks c (most - passed) at (item ∷ items)
-    ≡ decider_by (say_of blocks c item.said) at (λ next. decider_in blocks c (most - (passed + 1)) next (items_of blocks next)) (decider_in blocks c (most - (passed + 1)) at items)
+pub walk_over : (blocks : List Reading) (c : Capability) (at : ℕ) → decider_in blocks c 0 at ≡ None
 unfolding decider_in
-walk_goes blocks c most passed at item items less = rw (left most passed less) refl
-
--- what the item says is known, of items in memory
-walk_by : (blocks : List Reading) (c : Capability) (most passed at : ℕ) (all : List Item) (item : Item) (rest : List Item) (seen say : Say) (whole : Option ℕ) → passed < most → all ≡ item ∷ rest
-    → seen ≡ say_of blocks c (reading.said_of item.what) → seen ≡ say → decider_in blocks c (most - passed) at (map item_of all) ≡ whole
-    → decider_by say at (λ next. decider_in blocks c (most - (passed + 1)) next (items_of blocks next)) (decider_in blocks c (most - (passed + 1)) at (map item_of rest)) ≡ whole
-walk_by blocks c most passed at all item rest seen say whole less is says told so =
-    ap (λ (s : Say). decider_by s at (λ next. decider_in blocks c (most - (passed + 1)) next (items_of blocks next)) (decider_in blocks c (most - (passed + 1)) at (map item_of rest))) (sym told ∙ says)
-    ∙ sym (walk_goes blocks c most passed at (item_of item) (map item_of rest) less) ∙ ap (λ (items : List Item). decider_in blocks c (most - passed) at (map item_of items)) (sym is) ∙ so
-
-pub walk_decides : (blocks : List Reading) (c : Capability) (most passed at : ℕ) (all : List Item) (item : Item) (rest : List Item) (seen : Say) (whole : Option ℕ) → passed < most → all ≡ item ∷ rest
-    → seen ≡ say_of blocks c (reading.said_of item.what) → decider_in blocks c (most - passed) at (map item_of all) ≡ whole → seen ≡ Decisive → Some at ≡ whole
-walk_decides blocks c most passed at all item rest seen whole less is says so told = walk_by blocks c most passed at all item rest seen Decisive whole less is says told so
-
-pub walk_on : (blocks : List Reading) (c : Capability) (most passed at : ℕ) (all : List Item) (item : Item) (rest : List Item) (seen : Say) (whole : Option ℕ) → passed < most → all ≡ item ∷ rest
-    → seen ≡ say_of blocks c (reading.said_of item.what) → decider_in blocks c (most - passed) at (map item_of all) ≡ whole → (next : ℕ) (items : List ReadItem) → seen ≡ HandsOn next
-    → option_map (λ (block : Reading). block.items) (slice_get blocks next) ≡ Some items → decider_in blocks c (most - (passed + 1)) next items ≡ whole
-walk_on blocks c most passed at all item rest seen whole less is says so next items told there =
-    ap (λ (xs : List ReadItem). decider_in blocks c (most - (passed + 1)) next xs) (sym (items_there blocks next items there))
-    ∙ walk_by blocks c most passed at all item rest seen (HandsOn next) whole less is says told so
-
-pub walk_later : (blocks : List Reading) (c : Capability) (most passed at : ℕ) (all : List Item) (item : Item) (rest : List Item) (seen : Say) (whole : Option ℕ) → passed < most → all ≡ item ∷ rest
-    → seen ≡ say_of blocks c (reading.said_of item.what) → decider_in blocks c (most - passed) at (map item_of all) ≡ whole → seen ≡ Silent → decider_in blocks c (most - (passed + 1)) at (map item_of rest) ≡ whole
-walk_later blocks c most passed at all item rest seen whole less is says so told = walk_by blocks c most passed at all item rest seen Silent whole less is says told so
-
-pub walk_over : (blocks : List Reading) (c : Capability) (at : ℕ) (items : List ReadItem) → decider_in blocks c 0 at items ≡ None
-unfolding decider_in
-walk_over blocks c at items = refl
+walk_over blocks c at = refl
 
 -- ---- one more capability
 
@@ -84,55 +64,59 @@ below_one blocks at kind n = rw (add-one n) refl
 
 -- ---- laws
 
-by_say : (say : Say) (at : ℕ) (on more_on : ℕ → Option ℕ) (later more_later : Option ℕ) (one other : ℕ)
-    → ((next : ℕ) → on next ≡ Some one → more_on next ≡ Some other → one ≡ other) → (later ≡ Some one → more_later ≡ Some other → one ≡ other)
-    → decider_by say at on later ≡ Some one → decider_by say at more_on more_later ≡ Some other → one ≡ other
-by_say Decisive at on more_on later more_later one other through silent e f = sym (same_Some at one e) ∙ same_Some at other f
-by_say (HandsOn next) at on more_on later more_later one other through silent e f = through next e f
-by_say Silent at on more_on later more_later one other through silent e f = silent e f
+clash_on : (say : Say) (next : ℕ) → say ≡ Decisive → say ≡ HandsOn next → ⊥
+clash_on say next e f = let g : Decisive ≡ HandsOn next = sym e ∙ f in cc
 
--- two searches find one block
-same_decider : (blocks : List Reading) (c : Capability) (most more at : ℕ) (items : List ReadItem) (one other : ℕ)
-    → decider_in blocks c most at items ≡ Some one → decider_in blocks c more at items ≡ Some other → one ≡ other
-unfolding decider_in
-same_decider blocks c zero more at items one other e f = absurd (none-some one e)
-same_decider blocks c (suc most) zero at items one other e f = absurd (none-some other f)
-same_decider blocks c (suc most) (suc more) at [] one other e f = absurd (none-some one e)
-same_decider blocks c (suc most) (suc more) at (item ∷ items) one other e f =
-    by_say (say_of blocks c item.said) at (λ next. decider_in blocks c most next (items_of blocks next)) (λ next. decider_in blocks c more next (items_of blocks next))
-    (decider_in blocks c most at items) (decider_in blocks c more at items) one other
-    (λ next g h. same_decider blocks c most more next (items_of blocks next) one other g h) (λ g h. same_decider blocks c most more at items one other g h) e f
+same_next : (say : Say) (one other : ℕ) → say ≡ HandsOn one → say ≡ HandsOn other → one ≡ other
+same_next say one other e f = let g : HandsOn one ≡ HandsOn other = sym e ∙ f in cc
 
--- what decides is found
-pub decided_found : (blocks : List Reading) (c : Capability) (most at : ℕ) (items : List ReadItem) (by : ℕ) → Decides blocks c most at items by → decider_in blocks c most at items ≡ Some by
-unfolding decider_in
-decided_found blocks c _ _ _ _ (decides_it {most = most} {at = at} {item = item} {items = items} says) =
-    ap (λ (say : Say). decider_by say at (λ next. decider_in blocks c most next (items_of blocks next)) (decider_in blocks c most at items)) says
-decided_found blocks c _ _ _ _ (hands_it_on {most = most} {at = at} {next = next} {by = by} {item = item} {items = items} says decides) =
-    ap (λ (say : Say). decider_by say at (λ next. decider_in blocks c most next (items_of blocks next)) (decider_in blocks c most at items)) says
-    ∙ decided_found blocks c most next (items_of blocks next) by decides
-decided_found blocks c _ _ _ _ (is_silent {most = most} {at = at} {by = by} {item = item} {items = items} says decides) =
-    ap (λ (say : Say). decider_by say at (λ next. decider_in blocks c most next (items_of blocks next)) (decider_in blocks c most at items)) says
-    ∙ decided_found blocks c most at items by decides
+-- the rest of a way to the block that decides
+data Rest (blocks : List Reading) (c : Capability) (at by : ℕ) : Type 0 where
+  ends : say_at blocks c at ≡ Decisive → at ≡ by → Rest blocks c at by
+  goes_on : (next : ℕ) → say_at blocks c at ≡ HandsOn next → Decides blocks c next by → Rest blocks c at by
+
+rest_of : (blocks : List Reading) (c : Capability) (at by : ℕ) → Decides blocks c at by → Rest blocks c at by
+rest_of blocks c _ _ (decides_it {at = at} says) = ends says refl
+rest_of blocks c _ _ (hands_it_on {at = at} {next = next} {by = by} says decides) = goes_on next says decides
+
+pub one_decides : OneBlockDecides
+one_decides blocks c _ _ other (decides_it {at = at} says) e =
+    elim (rest_of blocks c at other e) [
+      | ends _ is ↦ is
+      | goes_on next on _ ↦ absurd (clash_on (say_at blocks c at) next says on)
+    ]
+one_decides blocks c _ _ other (hands_it_on {at = at} {next = next} {by = by} says decides) e =
+    elim (rest_of blocks c at other e) [
+      | ends decisive _ ↦ absurd (clash_on (say_at blocks c at) next decisive says)
+      | goes_on further on more ↦
+          one_decides blocks c next by other decides (subst (λ (n : ℕ). Decides blocks c n other) (same_next (say_at blocks c at) further next on says) more)
+    ]
 
 -- what is found decides
-say_decides : (blocks : List Reading) (c : Capability) (most at by : ℕ) (item : ReadItem) (items : List ReadItem) (say : Say) → say_of blocks c item.said ≡ say
-    → ((next : ℕ) → decider_in blocks c most next (items_of blocks next) ≡ Some by → Decides blocks c most next (items_of blocks next) by)
-    → (decider_in blocks c most at items ≡ Some by → Decides blocks c most at items by)
-    → decider_by say at (λ next. decider_in blocks c most next (items_of blocks next)) (decider_in blocks c most at items) ≡ Some by
-    → Decides blocks c (suc most) at (item ∷ items) by
-say_decides blocks c most at by item items Decisive says through silent e = subst (λ (n : ℕ). Decides blocks c (suc most) at (item ∷ items) n) (same_Some at by e) (decides_it says)
-say_decides blocks c most at by item items (HandsOn next) says through silent e = hands_it_on says (through next e)
-say_decides blocks c most at by item items Silent says through silent e = is_silent says (silent e)
+say_decides : (blocks : List Reading) (c : Capability) (at by : ℕ) (say : Say) (on : ℕ → Option ℕ) → say_at blocks c at ≡ say
+    → ((next : ℕ) → on next ≡ Some by → Decides blocks c next by) → decider_by say at on ≡ Some by → Decides blocks c at by
+say_decides blocks c at by Silent on says through e = absurd (none-some by e)
+say_decides blocks c at by Decisive on says through e = subst (λ (n : ℕ). Decides blocks c at n) (same_Some at by e) (decides_it says)
+say_decides blocks c at by (HandsOn next) on says through e = hands_it_on says (through next e)
 
-pub found_decides : (blocks : List Reading) (c : Capability) (most at : ℕ) (items : List ReadItem) (by : ℕ) → decider_in blocks c most at items ≡ Some by → Decides blocks c most at items by
+in_decides : (blocks : List Reading) (c : Capability) (most at by : ℕ) → decider_in blocks c most at ≡ Some by → Decides blocks c at by
 unfolding decider_in
-found_decides blocks c zero at items by e = absurd (none-some by e)
-found_decides blocks c (suc most) at [] by e = absurd (none-some by e)
-found_decides blocks c (suc most) at (item ∷ items) by e =
-    say_decides blocks c most at by item items (say_of blocks c item.said) refl (λ next f. found_decides blocks c most next (items_of blocks next) by f)
-    (λ f. found_decides blocks c most at items by f) e
+in_decides blocks c zero at by e = absurd (none-some by e)
+in_decides blocks c (suc most) at by e = say_decides blocks c at by (say_at blocks c at) (decider_in blocks c most) refl (λ next f. in_decides blocks c most next by f) e
 
-pub one_decides : (blocks : List Reading) (c : Capability) (most more at : ℕ) (items : List ReadItem) (one other : ℕ) → Decides blocks c most at items one → Decides blocks c more at items other → one ≡ other
-one_decides blocks c most more at items one other d e =
-    same_decider blocks c most more at items one other (decided_found blocks c most at items one d) (decided_found blocks c more at items other e)
+pub found_decides : (blocks : List Reading) (c : Capability) (at by : ℕ) → decider blocks c at ≡ Some by → Decides blocks c at by
+found_decides blocks c at by e =
+    say_decides blocks c at by (say_at blocks c at) (decider_in blocks c (length blocks)) refl (λ next f. in_decides blocks c (length blocks) next by f) e
+
+-- what decides within so many blocks is found
+pub in_here : (blocks : List Reading) (c : Capability) (most at : ℕ) → say_at blocks c at ≡ Decisive → decider_in blocks c (suc most) at ≡ Some at
+unfolding decider_in
+in_here blocks c most at e = ap (λ (s : Say). decider_by s at (decider_in blocks c most)) e
+
+pub in_later : (blocks : List Reading) (c : Capability) (most at next : ℕ) → say_at blocks c at ≡ HandsOn next → decider_in blocks c (suc most) at ≡ decider_in blocks c most next
+unfolding decider_in
+in_later blocks c most at next e = ap (λ (s : Say). decider_by s at (decider_in blocks c most)) e
+
+pub found_in : (blocks : List Reading) (c : Capability) (at : ℕ) → decider blocks c at ≡ decider_in blocks c (suc (length blocks)) at
+unfolding decider_in
+found_in blocks c at = refl

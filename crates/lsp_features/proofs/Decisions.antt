@@ -6,21 +6,21 @@ use Rattle.ti_caps.specs.declared.capability.Kind.{Kind}
 use Rattle.ti_source.specs.Parsing.{reading_of_text}
 use Rattle.ti_source.specs.Reading.{Reading}
 use Rattle.lsp_document.specs.Diagnostics.{text_at}
-use Rattle.lsp_features.specs.Deciding.{SourceSeen, decided_by, inherited_below, inherited_from, inherited_one, other_decider, source_with, sources_from}
+use Rattle.lsp_features.specs.Deciding.{SourceSeen, inherited_below, inherited_from, inherited_one, other_decider, source_at, sources_from}
 use Rattle.lsp_features.specs.declared.deciding.Inherited.{Inherited}
 use Rattle.lsp_features.proofs.Deciders.{below_one}
 use Rattle.lsp_features.proofs.Outlines.{blocks_more}
 
 -- those of one more block
 pub source_next : (texts : List (List ℕ)) (at : ℕ) (inherited : List Inherited) (before now whole : List SourceSeen) → at < length texts
-    → before ++ sources_from inherited at (drop at texts) ≡ whole → now ≡ before ++ source_with (reading_of_text (text_at texts at)).names (decided_by at inherited)
-    → now ++ sources_from inherited (at + 1) (drop (at + 1) texts) ≡ whole
+    → before ++ sources_from texts inherited at (drop at texts) ≡ whole → now ≡ before ++ source_at texts inherited at (reading_of_text (text_at texts at)).names
+    → now ++ sources_from texts inherited (at + 1) (drop (at + 1) texts) ≡ whole
 source_next texts at inherited before now whole within so e =
-    let own = source_with (reading_of_text (text_at texts at)).names (decided_by at inherited) in
-    let rest = sources_from inherited (at + 1) (drop (at + 1) texts) in
+    let own = source_at texts inherited at (reading_of_text (text_at texts at)).names in
+    let rest = sources_from texts inherited (at + 1) (drop (at + 1) texts) in
     ap (λ (t : List SourceSeen). t ++ rest) e ∙ append_assoc before own rest
-    ∙ ap (λ (n : ℕ). before ++ (own ++ sources_from inherited n (drop (at + 1) texts))) (add-one at)
-    ∙ ap (λ (t : List (List ℕ)). before ++ sources_from inherited at t) (sym (blocks_more texts at within)) ∙ so
+    ∙ ap (λ (n : ℕ). before ++ (own ++ sources_from texts inherited n (drop (at + 1) texts))) (add-one at)
+    ∙ ap (λ (t : List (List ℕ)). before ++ sources_from texts inherited at t) (sym (blocks_more texts at within)) ∙ so
 
 -- those of one more capability
 pub below_next : (blocks : List Reading) (at : ℕ) (kind : Kind) (n : ℕ) (c : Capability) (found : Option ℕ) (start before now : List Inherited) → c ≡ capability kind n → found ≡ other_decider blocks at c

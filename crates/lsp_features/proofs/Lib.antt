@@ -8,6 +8,7 @@ pub mod EntriesRead
 pub mod EntryParts
 pub mod Firsts
 pub mod Following
+pub mod Handing
 pub mod Naming
 pub mod OnceNamed
 pub mod Outlines
@@ -15,4 +16,5 @@ pub mod Printing
 pub mod Renamed
 pub mod SaidAlong
 pub mod Selections
+pub mod Sources
 pub mod Spotting

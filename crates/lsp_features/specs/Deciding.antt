@@ -1,7 +1,8 @@
 -- Which block decides what an entry has of a capability (own; terminfo(5), "Similar Terminals"):
 -- the first item of a block that says something of the capability. An item that gives it a value or
 -- a cancel decides it in that block; a use hands it on to the block that owns the name.
-use Rattle.std.specs.Prelude.{ℕ, zero, suc, ◌≡◌, ◌↔◌, nat_eq, is_some, List, [], ◌∷◌, ◌++◌, filter, map, Option, None, Some, if◌then◌else◌, option_and_then, slice_get}
+use Rattle.std.specs.Prelude.{ℕ, zero, suc, ◌≡◌, ◌↔◌, nat_eq, is_some, All, List, [], ◌∷◌, ◌++◌, filter, map, Option, None, Some, if◌then◌else◌, length, option_and_then, slice_get}
+use Rattle.std.specs.List.{find}
 use Rattle.std.specs.Option.{option_map_or}
 use Rattle.std.specs.String.{string_bytes}
 use Rattle.ti_caps.specs.Tables.{Capability, capability, count_of, same_capability}
@@ -13,7 +14,7 @@ use Rattle.ti_layout.specs.Image.{is_there}
 use Rattle.ti_layout.specs.Values.{Content, Mention, contents}
 use Rattle.base_meaning.specs.Compiled.{compiled}
 use Rattle.base_meaning.specs.Expansion.{expansion}
-use Rattle.base_meaning.specs.Owner.{owner, readings}
+use Rattle.base_meaning.specs.Owner.{is_owner, owner, readings}
 use Rattle.base_meaning.specs.Report.{shown_detail}
 use Rattle.lsp_features.specs.declared.deciding.Inherited.{Inherited}
 use Rattle.lsp_features.specs.declared.deciding.Say.{Say}
@@ -51,39 +52,44 @@ say_of blocks c (said_text other value) = say_of_mention c other
 say_of blocks c (said_cancel other) = say_of_mention c other
 say_of blocks c (said_import name) = say_of_use blocks c (owner blocks name)
 
--- a capability, given these items of the block `at`, is decided by the block `by`; at most so many
--- items are on the way
-pub data Decides (blocks : List Reading) (c : Capability) : (most at : ℕ) → List ReadItem → (by : ℕ) → Type 0 where
-  decides_it : {most at : ℕ} {item : ReadItem} {items : List ReadItem} → say_of blocks c item.said ≡ Decisive → Decides blocks c (suc most) at (item ∷ items) at
-  hands_it_on : {most at next by : ℕ} {item : ReadItem} {items : List ReadItem} → say_of blocks c item.said ≡ HandsOn next
-      → Decides blocks c most next (items_of blocks next) by → Decides blocks c (suc most) at (item ∷ items) by
-  is_silent : {most at by : ℕ} {item : ReadItem} {items : List ReadItem} → say_of blocks c item.said ≡ Silent → Decides blocks c most at items by
-      → Decides blocks c (suc most) at (item ∷ items) by
+-- what is said first: that, unless it is nothing, else what is said later
+abbrev pub say_before : Say → Say → Say
+say_before Silent later = later
+say_before Decisive later = Decisive
+say_before (HandsOn next) later = HandsOn next
+
+-- what the first of some items that says something of a capability says of it
+abbrev pub first_say : List Reading → Capability → List ReadItem → Say
+first_say blocks c [] = Silent
+first_say blocks c (item ∷ items) = say_before (say_of blocks c item.said) (first_say blocks c items)
+
+-- what the block at that position says first of a capability
+abbrev pub say_at : List Reading → Capability → ℕ → Say
+say_at blocks c at = first_say blocks c (items_of blocks at)
+
+-- a capability of the block `at` is decided by the block `by`
+pub data Decides (blocks : List Reading) (c : Capability) : (at by : ℕ) → Type 0 where
+  decides_it : {at : ℕ} → say_at blocks c at ≡ Decisive → Decides blocks c at at
+  hands_it_on : {at next by : ℕ} → say_at blocks c at ≡ HandsOn next → Decides blocks c next by → Decides blocks c at by
 
 -- ---- computed
 
--- the deciding block, given what an item of the block `at` says: that block, the one that decides
--- for the owner, or the one that a later item leads to
-abbrev pub decider_by : Say → ℕ → (ℕ → Option ℕ) → Option ℕ → Option ℕ
-decider_by Decisive at on later = Some at
-decider_by (HandsOn next) at on later = on next
-decider_by Silent at on later = later
+-- the deciding block, given what the block `at` says first: that block, or the one that decides for
+-- the block that it hands on to
+abbrev pub decider_by : Say → ℕ → (ℕ → Option ℕ) → Option ℕ
+decider_by Silent at on = None
+decider_by Decisive at on = Some at
+decider_by (HandsOn next) at on = on next
 
--- the block that decides a capability, given these items of the block `at`, if at most so many
--- items are on the way
-unfoldable pub decider_in : List Reading → Capability → (most at : ℕ) → List ReadItem → Option ℕ
-decider_in blocks c zero at items = None
-decider_in blocks c (suc most) at [] = None
-decider_in blocks c (suc most) at (item ∷ items) =
-    decider_by (say_of blocks c item.said) at (λ next. decider_in blocks c most next (items_of blocks next)) (decider_in blocks c most at items)
+-- the block that decides a capability for the block `at`, if it is one of so many that follow
+unfoldable pub decider_in : List Reading → Capability → (most at : ℕ) → Option ℕ
+decider_in blocks c zero at = None
+decider_in blocks c (suc most) at = decider_by (say_at blocks c at) at (decider_in blocks c most)
 
--- how many items may be on the way from a block to the one that decides
-abbrev pub reach : ℕ
-reach = 1024
-
--- the block that decides a capability for the block at that position, if it is within reach
+-- the block that decides a capability for the block at that position: by the laws below one is
+-- found if the block says something of the capability
 abbrev pub decider : List Reading → Capability → ℕ → Option ℕ
-decider blocks c at = decider_in blocks c reach at (items_of blocks at)
+decider blocks c at = decider_by (say_at blocks c at) at (decider_in blocks c (length blocks))
 
 -- ---- what is inherited
 
@@ -121,7 +127,8 @@ inherited_of blocks at = inherited_kind blocks at Flag ++ inherited_kind blocks 
 
 -- ---- by their blocks
 
--- a block, by its first lookup name as a report shows it, and the capabilities that it decides
+-- a block, by the first of its lookup names that it owns as a report shows it, and the capabilities
+-- that it decides
 pub record SourceSeen : Type 0 where
   pub name : List ℕ
   pub capabilities : List Capability
@@ -134,25 +141,27 @@ source_seen source = record { name = string_bytes source.name; capabilities = so
 abbrev pub decided_by : ℕ → List Inherited → List Capability
 decided_by by inherited = map (λ (one : Inherited). one.capability) (filter (λ (one : Inherited). nat_eq one.by by) inherited)
 
--- the first of some names, as a report shows it
-abbrev pub first_name : List (List ℕ) → List ℕ
-first_name [] = []
-first_name (name ∷ names) = shown_detail name
+-- the first of some names that the block at that position owns, as a report shows it
+abbrev pub own_name : List (List ℕ) → (at : ℕ) → List (List ℕ) → List ℕ
+own_name texts at names = option_map_or shown_detail (find (λ name. is_owner (readings texts) name at) names) []
 
--- a block with the capabilities that it decides, if there are any
-abbrev pub source_with : List (List ℕ) → List Capability → List SourceSeen
-source_with names [] = []
-source_with names (c ∷ cs) = record { name = first_name names; capabilities = c ∷ cs } ∷ []
+-- a block of that name with the capabilities that it decides, if there are any
+abbrev pub source_with : List ℕ → List Capability → List SourceSeen
+source_with name [] = []
+source_with name (c ∷ cs) = record { name = name; capabilities = c ∷ cs } ∷ []
 
--- the blocks that decide any of the capabilities, given by their texts; the first of them is at
--- position `at`
-abbrev pub sources_from : List Inherited → (at : ℕ) → List (List ℕ) → List SourceSeen
-sources_from inherited at [] = []
-sources_from inherited at (text ∷ texts) = source_with (reading_of_text text).names (decided_by at inherited) ++ sources_from inherited (suc at) texts
+-- what the block at that position of the texts decides of the capabilities, if it has these names
+abbrev pub source_at : List (List ℕ) → List Inherited → (at : ℕ) → List (List ℕ) → List SourceSeen
+source_at texts inherited at names = source_with (own_name texts at names) (decided_by at inherited)
+
+-- the blocks of the texts that decide any of the capabilities: those from position `at` on
+abbrev pub sources_from : List (List ℕ) → List Inherited → (at : ℕ) → List (List ℕ) → List SourceSeen
+sources_from texts inherited at [] = []
+sources_from texts inherited at (text ∷ rest) = source_at texts inherited at (reading_of_text text).names ++ sources_from texts inherited (suc at) rest
 
 -- the blocks that decide what the block at that position inherits, in the order of the list
 abbrev pub sources_of : List (List ℕ) → ℕ → List SourceSeen
-sources_of texts at = sources_from (inherited_of (readings texts) at) 0 texts
+sources_of texts at = sources_from texts (inherited_of (readings texts) at) 0 texts
 
 -- those of the block at a position, if it has an entry
 abbrev pub sources_at : List (List ℕ) → ℕ → List SourceSeen
@@ -166,18 +175,34 @@ sources_named texts name = option_map_or (sources_at texts) (owner (readings tex
 
 -- at most one block decides a capability
 abbrev pub OneBlockDecides : Type 0
-OneBlockDecides =
-    (blocks : List Reading) (c : Capability) (most more at : ℕ) (items : List ReadItem) (one other : ℕ)
-    → Decides blocks c most at items one → Decides blocks c more at items other → one ≡ other
+OneBlockDecides = (blocks : List Reading) (c : Capability) (at one other : ℕ) → Decides blocks c at one → Decides blocks c at other → one ≡ other
 
--- the computed one is the block that decides
+-- if a block says something of a capability, the computed one is the block that decides
 abbrev pub DecidersAreFound : Type 0
 DecidersAreFound =
-    (blocks : List Reading) (c : Capability) (most at : ℕ) (items : List ReadItem) (by : ℕ)
-    → (decider_in blocks c most at items ≡ Some by) ↔ Decides blocks c most at items by
+    (blocks : List Reading) (c : Capability) (at by : ℕ) (said : Content) → said_by blocks c at ≡ Some said
+    → (decider blocks c at ≡ Some by) ↔ Decides blocks c at by
 
 -- what a block says of a capability is what the block says that decides it
 abbrev pub DecidersSayIt : Type 0
 DecidersSayIt =
-    (blocks : List Reading) (c : Capability) (most at by : ℕ) (said : Content) → said_by blocks c at ≡ Some said
-    → Decides blocks c most at (items_of blocks at) by → said_by blocks c by ≡ Some said
+    (blocks : List Reading) (c : Capability) (at by : ℕ) (said : Content) → said_by blocks c at ≡ Some said → Decides blocks c at by
+    → said_by blocks c by ≡ Some said
+
+-- a capability that a block says something of is decided by some block
+abbrev pub SomeBlockDecides : Type 0
+SomeBlockDecides =
+    (blocks : List Reading) (c : Capability) (at : ℕ) (said : Content) → said_by blocks c at ≡ Some said
+    → (by : ℕ) × Decides blocks c at by
+
+-- a block that decides capabilities which the block at that position inherits, as it is told of
+pub record IsSource (texts : List (List ℕ)) (at : ℕ) (source : SourceSeen) : Type 0 where
+  pub by : ℕ
+  pub name : List ℕ
+  pub owns : owner (readings texts) name ≡ Some by
+  pub shown : source.name ≡ shown_detail name
+  pub decides : source.capabilities ≡ decided_by by (inherited_of (readings texts) at)
+
+-- a block is told of by a name that it owns
+abbrev pub SourcesOwnTheirNames : Type 0
+SourcesOwnTheirNames = (texts : List (List ℕ)) (at : ℕ) → All (IsSource texts at) (sources_of texts at)

@@ -2,24 +2,22 @@
 ghost use Rattle.std.specs.Prelude.{◌≡◌, ◌<◌, ◌++◌, ℕ, OnOk, IfOk, length, map, option_map};
 ghost use Rattle.std.specs.Rc.{rc_slice_items};
 ghost use Rattle.std.specs.String.{string_bytes};
-ghost use Rattle.ti_source.specs.Reading.{said_of};
+ghost use Rattle.ti_source.specs.Reading.{item_of, said_of};
 ghost use Rattle.ti_layout.specs.Image.{is_there};
 ghost use Rattle.ti_layout.specs.Values.{content_of};
 ghost use Rattle.base_meaning.specs.Owner.{owner, readings};
 ghost use Rattle.lsp_features.specs.Deciding as spec;
-ghost use Rattle.lsp_features.specs.Deciding.{decided_by, decider, first_name, inherited_kind, other_decider, said_by, say_of, say_of_mention, say_of_use, source_seen, source_with, sources_from};
+ghost use Rattle.lsp_features.specs.Deciding.{decided_by, decider, decider_in, first_say, inherited_kind, other_decider, own_name, said_by, say_at, say_of, say_of_mention, say_of_use, source_seen, source_with, sources_from};
 
 use crate::holdings::cap_at;
+use crate::names::is_owner;
 use lsp_document::shown_detail;
 use std::alloc::{AllocError, Global};
 use std::rc::RcSlice;
 use ti_base::Database;
 use ti_caps::{Cap, Kind, count};
 use ti_layout::Value;
-use ti_source::What;
-
-// How many items may be on the way from a block to the one that decides.
-const REACH: usize = 1_024;
+use ti_source::{Item, What};
 
 /// What an item says of a capability.
 #[derive(Clone, Copy)]
@@ -44,7 +42,7 @@ pub(crate) struct Inherited {
 /// A block, and the capabilities that it decides for another.
 #[derive(Debug, Drop)]
 pub struct Source {
-    /// The first lookup name of the block, in ASCII.
+    /// The first of the block's lookup names that it owns, in ASCII.
     pub name: String,
     /// The capabilities, in the order of the compiled entry.
     pub capabilities: Vec<Cap>,
@@ -113,27 +111,56 @@ fn say_of(database: &Database, cap: Cap, what: &What) -> Say
     }
 }
 
-// The block that decides a capability for the block at a position, if it is within reach.
+// What the first of some items that says something of a capability says of it.
+fn first_say(database: &Database, cap: Cap, items: &[Item]) -> Say
+    ensures within { (at : ℕ) → result ≡ Say.HandsOn at → at < length database.now }
+    ensures said { result ≡ first_say (readings database.now) cap (map item_of items.now) }
+{
+    for item in items {
+        match say_of(database, cap, &item.what) {
+            Say::Silent => {}
+            Say::Decisive => return Say::Decisive,
+            Say::HandsOn(next) => return Say::HandsOn(next),
+        }
+    }
+    Say::Silent
+}
+
+// What a block says first of a capability.
+fn say_at(database: &Database, cap: Cap, at: usize) -> Say
+    requires { at < length database.now }
+    ensures within { (next : ℕ) → result ≡ Say.HandsOn next → next < length database.now }
+    ensures said { result ≡ say_at (readings database.now) cap at }
+{
+    first_say(database, cap, database.items(at))
+}
+
+// The block that decides a capability for a block, if it is one of as many as there are.
+fn decider_in(database: &Database, cap: Cap, at: usize) -> Option<usize>
+    requires { at < length database.now }
+    ensures { result ≡ decider_in (readings database.now) cap (length database.now) at }
+{
+    let mut here = at;
+    for _passed in 0..database.len() {
+        match say_at(database, cap, here) {
+            Say::Silent => return None,
+            Say::Decisive => return Some(here),
+            Say::HandsOn(next) => here = next,
+        }
+    }
+    None
+}
+
+// The block that decides a capability for the block at a position.
 fn decider(database: &Database, cap: Cap, at: usize) -> Option<usize>
     requires { at < length database.now }
     ensures { result ≡ decider (readings database.now) cap at }
 {
-    let mut here = at;
-    let mut items = database.items(at);
-    for _passed in 0..REACH {
-        let Some((item, rest)) = items.split_first() else {
-            return None;
-        };
-        match say_of(database, cap, &item.what) {
-            Say::Decisive => return Some(here),
-            Say::HandsOn(next) => {
-                here = next;
-                items = database.items(next);
-            }
-            Say::Silent => items = rest,
-        }
+    match say_at(database, cap, at) {
+        Say::Silent => None,
+        Say::Decisive => Some(at),
+        Say::HandsOn(next) => decider_in(database, cap, next),
     }
-    None
 }
 
 // The block that decides a capability for another, which has a value of it.
@@ -194,30 +221,40 @@ fn decided_by(alloc: Global, by: usize, inherited: &[Inherited]) -> Result<Vec<C
     Ok(found)
 }
 
-// The first of some names, as a report shows it.
-fn first_name(alloc: Global, names: &[RcSlice<u8>]) -> Result<String, AllocError>
-    ensures { IfOk result (λ name. string_bytes name ≡ first_name (map rc_slice_items names.now)) }
+// The first of some names that the block at a position owns, as a report shows it.
+fn own_name(
+    alloc: Global,
+    database: &Database,
+    at: usize,
+    names: &[RcSlice<u8>],
+) -> Result<String, AllocError>
+    ensures { IfOk result (λ name. string_bytes name ≡ own_name database.now at (map rc_slice_items names.now)) }
 {
-    match names.first() {
-        Some(name) => shown_detail(alloc, name.as_slice()),
-        None => Ok(String::new(alloc)),
+    for name in names {
+        if is_owner(database, name.as_slice(), at) {
+            return shown_detail(alloc, name.as_slice());
+        }
     }
+    Ok(String::new(alloc))
 }
 
 // Adds a block with the capabilities that it decides, if there are any.
 fn push_source(
     alloc: Global,
     sources: &mut Vec<Source>,
+    database: &Database,
+    by: usize,
     names: &[RcSlice<u8>],
     capabilities: Vec<Cap>,
 ) -> Result<(), AllocError>
-    ensures { OnOk result (map source_seen sources.new.items ≡ map source_seen sources.old.items ++ source_with (map rc_slice_items names.now) capabilities.items) }
+    ensures { OnOk result (map source_seen sources.new.items
+        ≡ map source_seen sources.old.items ++ source_with (own_name database.now by (map rc_slice_items names.now)) capabilities.items) }
 {
     if capabilities.is_empty() {
         return Ok(());
     }
     sources.push(Source {
-        name: first_name(alloc, names)?,
+        name: own_name(alloc, database, by, names)?,
         capabilities,
     })?;
     Ok(())
@@ -229,12 +266,13 @@ fn sources_from(
     database: &Database,
     inherited: &[Inherited],
 ) -> Result<Vec<Source>, AllocError>
-    ensures { IfOk result (λ sources. map source_seen sources.items ≡ sources_from inherited.now 0 database.now) }
+    ensures { IfOk result (λ sources. map source_seen sources.items ≡ sources_from database.now inherited.now 0 database.now) }
 {
     let mut sources = Vec::new(alloc);
     for by in 0..database.len() {
         let capabilities = decided_by(alloc, by, inherited)?;
-        push_source(alloc, &mut sources, database.names(by), capabilities)?;
+        let names = database.names(by);
+        push_source(alloc, &mut sources, database, by, names, capabilities)?;
     }
     Ok(sources)
 }
@@ -250,7 +288,7 @@ fn sources_of(alloc: Global, database: &Database, at: usize) -> Result<Vec<Sourc
 
 /// The blocks that decide what the entry of the owner of a name inherits, in the order of the
 /// source, each with the capabilities in the order of the compiled entry; none if there is no such
-/// entry. A capability is left out if more than 1,024 items are on the way to its block.
+/// entry.
 pub(crate) fn sources_named(
     alloc: Global,
     database: &Database,
@@ -269,13 +307,21 @@ pub fn one_block_decides()
     ensures { spec.OneBlockDecides }
 {}
 
-/// A law, with no code: the block that is looked for is the one that decides.
+/// A law, with no code: a capability that a block says something of once its uses are expanded is
+/// decided by some block, and that is the block that is looked for.
 pub fn deciders_are_found()
-    ensures { spec.DecidersAreFound }
+    ensures found { spec.DecidersAreFound }
+    ensures some { spec.SomeBlockDecides }
 {}
 
 /// A law, with no code: what a block says of a capability once its uses are expanded is what the
 /// block says that decides it.
 pub fn deciders_say_it()
     ensures { spec.DecidersSayIt }
+{}
+
+/// A law, with no code: a block that decides what another inherits is told of by a name that it
+/// owns.
+pub fn sources_own_their_names()
+    ensures { spec.SourcesOwnTheirNames }
 {}

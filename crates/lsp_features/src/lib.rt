@@ -28,7 +28,9 @@ pub use causes::missing_entries_have_a_cause;
 pub use completions::{
     Completion, Offers, completion_of, completions_stay_in_the_line, names_are_offered_once,
 };
-pub use deciding::{Source, deciders_are_found, deciders_say_it, one_block_decides};
+pub use deciding::{
+    Source, deciders_are_found, deciders_say_it, one_block_decides, sources_own_their_names,
+};
 pub use holdings::{Entry, Holding};
 pub use hovers::{About, Hover, hover_of};
 pub use meanings::Meaning;

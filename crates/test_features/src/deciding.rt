@@ -104,6 +104,29 @@ fn deciding_blocks(rt: HostRuntime) -> Result<(), AllocError> {
     Ok(())
 }
 
+/// Blocks whose first name, or first two, an earlier block owns.
+const SHARED: &[u8] = b"x|one,am,
+x|z|two,cols#80,
+x|z|y|three,it#8,
+user,use=z,use=y,
+";
+
+/// They are told of by the first name that they own.
+#[rattlefmt::skip]
+const BY_OWN_NAMES: [((usize, usize), &[Decided]); 2] = [
+    ((1, 2), &[]),
+    ((3, 0), &[("z", &["cols"]), ("y", &["it"])]),
+];
+
+#[test]
+fn blocks_are_named_by_what_they_own(rt: HostRuntime) -> Result<(), AllocError> {
+    let document = document_of(rt.alloc(), SHARED)?;
+    for (place, wanted) in BY_OWN_NAMES {
+        expect_sources(&rt, rt.alloc(), &document, place, wanted)?;
+    }
+    Ok(())
+}
+
 /// A source with an entry that is over the limit, for its string has 4,096 bytes, between two
 /// others.
 fn source_with_large(alloc: Global) -> Result<Vec<u8>, AllocError> {
