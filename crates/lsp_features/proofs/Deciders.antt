@@ -1,13 +1,11 @@
 -- The block that decides a capability: as it is looked for, and that it is the one.
-use Rattle.std.proofs.Common.{◌≡◌, ℕ, zero, suc, ◌+◌, ◌-◌, ◌<◌, List, [], ◌∷◌, ◌++◌, Option, Some, None, length, map, slice_get, refl, sym, ap, subst, ◌∙◌, add-one, arith}
+use Rattle.std.proofs.Common.{◌≡◌, ℕ, zero, suc, ◌+◌, ◌-◌, ◌<◌, List, [], ◌∷◌, ◌++◌, Option, Some, None, length, slice_get, refl, sym, ap, subst, ◌∙◌, add-one, arith}
 use Rattle.std.specs.Prelude.{option_and_then, option_map}
 use Rattle.std.specs.Option.{option_map_or}
 use Rattle.std.proofs.lemmas.Option.{none-some, same_Some}
 use Rattle.ti_caps.specs.Tables.{Capability, IsCapability, capability}
 use Rattle.ti_caps.specs.declared.capability.Kind.{Kind}
-use Rattle.ti_source.specs.Reading as reading
-use Rattle.ti_source.specs.Reading.{Reading, ReadItem, item_of}
-use Rattle.ti_source.specs.declared.parsing.Item.{Item}
+use Rattle.ti_source.specs.Reading.{Reading, ReadItem}
 use Rattle.ti_layout.specs.Values.{Contents}
 use Rattle.base_meaning.specs.ValueTables.{HasTable}
 use Rattle.lsp_features.specs.Deciding.{Decides, OneBlockDecides, decides_it, hands_it_on, decider, decider_by, decider_in, first_say, inherited_below, inherited_one, items_of, said_by, say_at, say_before, say_of}

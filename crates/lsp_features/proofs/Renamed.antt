@@ -1,7 +1,6 @@
 -- What a rename leaves as it is.
 use Rattle.std.proofs.Common.{◌≡◌, ℕ, zero, suc, ◌+◌, ◌==◌, ◌||◌, ◌⊎◌, Bool, true, false, cond, not, inl, inr, List, [], ◌∷◌, length, map, Option, None, Some, slice_get, refl, sym, subst, ap, ◌∙◌, arith}
 use Rattle.std.specs.Prelude.{option_and_then}
-use Rattle.std.specs.List.{list_any}
 use Rattle.std.specs.Option.{option_map, option_map_or}
 use Rattle.std.specs.Str.{bytes_eq}
 use Rattle.std.proofs.lemmas.Bool.{cases_Bool, eq-eqb, eqb-true, ne_eqb}
@@ -18,7 +17,7 @@ use Rattle.base_meaning.proofs.Depth.{names_at}
 use Rattle.base_meaning.proofs.Leading.{used-any_use}
 use Rattle.base_meaning.proofs.Owning.{owning, somebody, nobody, nobody_to_none, owner_to_owned}
 use Rattle.lsp_features.specs.Renamed.{AreRenamed, BlocksSayWhatTheyDid, EntriesHoldWhatTheyDid, IsAccepted, IsRenamed, UsesLeadWhereTheyDid, renamed_name, renamed_said}
-use Rattle.lsp_features.specs.Renaming.{is_taken, is_used}
+use Rattle.lsp_features.specs.Renaming.{is_used}
 
 -- ---- names
 

@@ -1,12 +1,12 @@
 -- A block that is told of owns the name by which it is.
-use Rattle.std.proofs.Common.{◌≡◌, ℕ, zero, suc, ◌+◌, ◌||◌, ◌⊎◌, All, Bool, true, false, cond, inl, inr, List, [], ◌∷◌, ◌++◌, filter, map, nat_eq, Option, None, Some, slice_get, refl, sym, subst, ap, ◌∙◌, zero-add, arith}
+use Rattle.std.proofs.Common.{◌≡◌, ℕ, zero, suc, ◌+◌, ◌||◌, ◌⊎◌, All, Bool, true, false, cond, inl, inr, List, [], ◌∷◌, ◌++◌, nat_eq, Option, None, Some, slice_get, refl, sym, subst, ap, ◌∙◌, zero-add, arith}
 use Rattle.std.specs.Prelude.{option_and_then}
 use Rattle.std.specs.List.{find}
 use Rattle.std.specs.Option.{option_map, option_map_or}
 use Rattle.std.specs.Str.{bytes_eq}
 use Rattle.std.proofs.lemmas.Bool.{cases_Bool, eq-eqb, eqb-true}
 use Rattle.std.proofs.lemmas.List.Elements.{All-append, All-cons, All-head, All-nil, All-tail}
-use Rattle.std.proofs.lemmas.Option.{none-some, same_Some, slice_get-map}
+use Rattle.std.proofs.lemmas.Option.{same_Some, slice_get-map}
 use Rattle.std.proofs.lemmas.Slice.Eq.{bytes_eq-Decides}
 use Rattle.ti_caps.specs.Tables.{Capability, capability, count_of, same_capability}
 use Rattle.ti_caps.specs.declared.capability.Kind.{Kind}
@@ -18,7 +18,6 @@ use Rattle.base_meaning.specs.Owner.{is_among, is_owner, owner, readings}
 use Rattle.base_meaning.specs.Report.{shown_detail}
 use Rattle.lsp_features.specs.Deciding.{Decides, decides_it, hands_it_on, IsSource, SourceSeen, SourcesOwnTheirNames, decided_by, decider, first_say, if_another, inherited_below, inherited_from, inherited_kind, inherited_of, inherited_one, items_of, other_decider, own_name, said_by, say_before, say_of, source_at, source_with, sources_from}
 use Rattle.lsp_features.specs.declared.deciding.Inherited.{Inherited}
-use Rattle.lsp_features.specs.declared.deciding.Say.{Say}
 use Rattle.lsp_features.specs.declared.deciding.Say.TheVariants.{Silent, Decisive, HandsOn}
 use Rattle.lsp_features.proofs.Deciders.{found_decides}
 use Rattle.lsp_features.proofs.Handing.{use_on}
