@@ -1,9 +1,10 @@
+pub mod CaretsHeal
+pub mod Ending
 pub mod Exchanging
 pub mod InOrder
 pub mod Listing
 pub mod Marks
 pub mod NamesFit
-pub mod Opening
 pub mod OthersOwn
 pub mod Printing
 pub mod Ranging

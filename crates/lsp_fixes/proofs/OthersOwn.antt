@@ -15,7 +15,8 @@ use Rattle.base_meaning.specs.Owner.{is_among, is_owner, owner, readings}
 use Rattle.lsp_spans.specs.Parts.{spanned}
 use Rattle.lsp_spans.specs.declared.parts.Part.{Part}
 use Rattle.lsp_fixes.specs.Edits.{EditSeen, renames_in}
-use Rattle.lsp_fixes.specs.Fixes.{other_names, others_in}
+use Rattle.lsp_features.specs.Renaming.{can_be_given}
+use Rattle.lsp_fixes.specs.Fixes.{given_names, other_names, others_in}
 use Rattle.lsp_fixes.specs.Laws.{NamesAreOfOtherBlocks}
 use Rattle.lsp_fixes.specs.Shown.{shown}
 use Rattle.lsp_fixes.proofs.Exchanging.{no_edit}
@@ -76,11 +77,12 @@ module _ (blocks : List (List ℕ)) (own : ℕ) (sound : EachIsWellRead) where
       (each_in at block (All-head OneBlock block rest all)) (each_from (at + 1) rest (All-tail OneBlock block rest all))
 
 renamed_in : (blocks : List (List ℕ)) (own : ℕ) (name : List ℕ) (part : Option Part) (edit : EditSeen) → EachIsWellRead → All OneBlock blocks
-    → Contains (renames_in name (other_names blocks own) part) edit → Owns blocks own edit.text
+    → Contains (renames_in name (given_names blocks own) part) edit → Owns blocks own edit.text
 unfolding Shows
 renamed_in blocks own name None edit sound all has = absurd (no_edit edit has)
 renamed_in blocks own name (Some part) edit sound all has =
-    each_edit (λ e. Owns blocks own e.text) name part (other_names blocks own) edit (each_from blocks own sound 0 blocks all) has
+    each_edit (λ e. Owns blocks own e.text) name part (given_names blocks own) edit
+    (All-filter can_be_given (Shows blocks own sound) (other_names blocks own) (each_from blocks own sound 0 blocks all)) has
 
 pub others_own : EachIsWellRead → NamesAreOfOtherBlocks
 unfolding Owns

@@ -83,10 +83,10 @@ read_back sound writes name raw rest value c none on other named kind are spells
 
 -- ---- each item
 
-plain_claim : (text raw : List ℕ) → (plain_statement text).claim ≡ claims_text raw → ⊥
+pub plain_claim : (text raw : List ℕ) → (plain_statement text).claim ≡ claims_text raw → ⊥
 plain_claim text raw e = elim (cases_Bool (last_byte 0 text == 64)) [ inl t ↦ let no = rw t at e in cc | inr f ↦ let no = rw f at e in cc ]
 
-text_claim : (name value raw : List ℕ) (mark : ℕ) → is_mark mark ≡ true → (statement_with_value name mark value).claim ≡ claims_text raw → (mark ≡ 61) × (value ≡ raw)
+pub text_claim : (name value raw : List ℕ) (mark : ℕ) → is_mark mark ≡ true → (statement_with_value name mark value).claim ≡ claims_text raw → (mark ≡ 61) × (value ≡ raw)
 text_claim name value raw mark is e =
     elim (cases_Bool (mark == 35)) [
       | inl t ↦ let no = rw t at e in cc

@@ -17,7 +17,7 @@ use Rattle.ti_source.specs.declared.code.Code.TheVariants as code
 use Rattle.lsp_spans.specs.Parts.{spanned}
 use Rattle.lsp_spans.specs.declared.parts.Part.{Part}
 use Rattle.lsp_fixes.specs.Candidates.{names_for}
-use Rattle.lsp_fixes.specs.Carets.{caret_at_end}
+use Rattle.lsp_fixes.specs.Carets.{healing_caret}
 use Rattle.lsp_fixes.specs.Nearest.{nearest}
 use Rattle.lsp_fixes.specs.Pieces.{after_name, value_of, written_name}
 use Rattle.lsp_fixes.specs.Shown.{shown}
@@ -113,9 +113,10 @@ abbrev pub caret_in : Option Part → List EditSeen
 caret_in None = []
 caret_in (Some part) = record { advice = advises_caret; part = part; text = ascii.backslash ∷ ascii.caret ∷ [] } ∷ []
 
--- the same of the `^` at the end of an item's value that takes nothing, if there is one
+-- the same of the `^` at the end of an item's value that takes nothing, if there is one and the
+-- value is read then
 abbrev pub carets : List PlacedByte → List EditSeen
-carets item = caret_in (caret_at_end (value_of item))
+carets item = caret_in (healing_caret (value_of item))
 
 -- ---- an item
 

@@ -1,6 +1,6 @@
 -- What an editor offers against the faults of a document's items (own; Language Server Protocol
 -- 3.17, "Code Action Request").
-use Rattle.std.specs.Prelude.{ℕ, ◌==◌, ◌&&◌, not, nat_le, is_none, Bool, false, List, [], ◌++◌, flat_map, map, Option, None, Some, option_and_then, option_map, if◌then◌else◌}
+use Rattle.std.specs.Prelude.{ℕ, ◌==◌, ◌&&◌, not, nat_le, is_none, Bool, false, List, [], ◌++◌, filter, flat_map, map, Option, None, Some, option_and_then, option_map, if◌then◌else◌}
 use Rattle.std.specs.List.{enumerate_from, find}
 use Rattle.std.specs.Option.{option_map_or}
 use Rattle.std.specs.String.{string_bytes}
@@ -20,6 +20,7 @@ use Rattle.lsp_types.specs.declared.places.Position.{Position}
 use Rattle.lsp_types.specs.declared.places.Range.{Range}
 use Rattle.lsp_document.specs.Diagnostics.{text_at}
 use Rattle.lsp_document.specs.Documents.{held}
+use Rattle.lsp_features.specs.Renaming.{can_be_given}
 use Rattle.lsp_features.specs.Spots.{offset_in, range_in, spot_at}
 use Rattle.lsp_features.specs.declared.spots.Spot.{Spot}
 use Rattle.lsp_fixes.specs.Edits.{AdviceSeen, EditSeen, advice_seen, edits_for, renames}
@@ -62,11 +63,15 @@ others_in blocks own placed = if placed.0 == own then [] else own_names (reading
 abbrev pub other_names : List (List ℕ) → ℕ → List (List ℕ)
 other_names blocks own = flat_map (others_in blocks own) (enumerate_from 0 blocks)
 
+-- those of them that a source can give
+abbrev pub given_names : List (List ℕ) → ℕ → List (List ℕ)
+given_names blocks own = filter can_be_given (other_names blocks own)
+
 -- the nearest of these names in place of one that the block at that position uses, if no block has
 -- it
 abbrev pub used_edits : List (List ℕ) → ℕ → Option (List PlacedByte) → List EditSeen
 used_edits blocks at None = []
-used_edits blocks at (Some name) = if is_none (owner (readings blocks) (bytes name)) then renames name (other_names blocks at) else []
+used_edits blocks at (Some name) = if is_none (owner (readings blocks) (bytes name)) then renames name (given_names blocks at) else []
 
 -- ---- the items of a block
 

@@ -5,14 +5,14 @@ use Rattle.ti_caps.specs.Tables.{Capability}
 use Rattle.ti_source.specs.Cutting.{OneBlock}
 use Rattle.ti_source.specs.Folding.{PlacedByte}
 use Rattle.ti_source.specs.Items.{Statement, States, bytes}
-use Rattle.ti_source.specs.Reading.{said_text}
+use Rattle.ti_source.specs.Reading.{Said, said_text}
 use Rattle.ti_source.specs.Sound.{IsRising}
-use Rattle.ti_source.specs.Verdicts.{Judges, Verdict, accepted, accepted_odd, refused}
+use Rattle.ti_source.specs.Verdicts.{Judges, Verdict, accepted, accepted_odd, refused, said_by}
 use Rattle.ti_source.specs.declared.code.Code.TheVariants as code
 use Rattle.base_meaning.specs.Owner.{owner, readings}
 use Rattle.lsp_spans.specs.Folding.{folded_of}
 use Rattle.lsp_spans.specs.Subjects.{items_of}
-use Rattle.lsp_fixes.specs.Edits.{EditSeen, kind_signs, known_names, spellings}
+use Rattle.lsp_fixes.specs.Edits.{EditSeen, carets, kind_signs, known_names, spellings}
 use Rattle.lsp_fixes.specs.Fixes.{used_edits}
 
 -- an item of this text states something, on which this is the verdict
@@ -69,3 +69,17 @@ SpellingsReadBack =
     (item : List PlacedByte) (c : Capability) (value : List ℕ) (edit : EditSeen) → IsInOrder item → AreBytes (bytes item)
     → IsRead (bytes item) (accepted_odd (said_text c value)) → Contains (spellings item value) edit
     → IsRead (edited item edit) (accepted (said_text c value))
+
+-- an item of this text is read and accepted, and says something
+pub record IsAccepted (text : List ℕ) : Type 0 where
+  pub said : Said
+  pub verdict : Verdict
+  pub is_read : IsRead text verdict
+  pub accepts : said_by verdict ≡ Some said
+
+-- a string that cannot be read is read with a backslash before the `^` at its end, if that is
+-- offered
+abbrev pub CaretsHeal : Type 0
+CaretsHeal =
+    (item : List PlacedByte) (edit : EditSeen) → IsInOrder item → IsRead (bytes item) (refused code.BadString) → Contains (carets item) edit
+    → IsAccepted (edited item edit)

@@ -1,30 +1,13 @@
 //! The `^` at the end of a string that takes nothing.
-ghost use Rattle.std.specs.Prelude.{◌≡◌, ◌<◌, ◌^◌, ◌&&◌, All, not};
+ghost use Rattle.std.specs.Prelude.{◌≡◌, ◌<◌, ◌^◌, All, IfOk};
 ghost use Rattle.ti_source.specs.Items.{bytes};
 ghost use Rattle.lsp_fixes.specs.Carets as spec;
-ghost use Rattle.lsp_fixes.specs.Carets.{is_open};
+ghost use Rattle.lsp_fixes.specs.Carets.{with_backslash};
 
+use crate::pieces::bytes_of;
 use lsp_spans::Part;
-
-// Whether a byte takes the next one, if `taken` says whether one takes it.
-fn takes(taken: bool, before: u8, byte: u8) -> bool
-    ensures { result ≡ (not taken && is_open before byte) }
-{
-    !taken && (byte == b'\\' || byte == b'^' && before != b'%')
-}
-
-// Whether a text takes the byte after it.
-fn takes_next(text: &[(u8, usize)]) -> bool
-    ensures { result ≡ spec.takes_next (bytes text.now) }
-{
-    let mut before = 0;
-    let mut taken = false;
-    for byte in text {
-        taken = takes(taken, before, byte.0);
-        before = byte.0;
-    }
-    taken
-}
+use std::alloc::{AllocError, Global};
+use ti_source::{UnescapeError, unescape};
 
 // Where a byte is, if it is a `^`.
 fn caret_at(byte: (u8, usize)) -> Option<Part>
@@ -40,13 +23,51 @@ fn caret_at(byte: (u8, usize)) -> Option<Part>
     })
 }
 
-/// Where the last byte of a value is, if it is a `^` that takes nothing and that nothing takes.
-pub(crate) fn caret_at_end(value: &[(u8, usize)]) -> Option<Part>
+// Where the last byte of a value is, if it is a `^`.
+fn caret_at_end(value: &[(u8, usize)]) -> Option<Part>
     requires { All (λ x. x.1 < 2 ^ 63) value.now }
     ensures { result ≡ spec.caret_at_end value.now }
 {
     match value.last() {
-        Some(byte) if takes_next(value) => caret_at(*byte),
-        _ => None,
+        Some(byte) => caret_at(*byte),
+        None => None,
     }
+}
+
+// Whether a text spells a string.
+fn can_be_read(alloc: Global, text: &[u8]) -> Result<bool, AllocError>
+    ensures { IfOk result (λ can. can ≡ spec.can_be_read text.now) }
+{
+    match unescape(alloc, text) {
+        Ok(_) => return Ok(true),
+        Err(UnescapeError::Memory) => return Err(AllocError),
+        Err(_) => return Ok(false),
+    }
+}
+
+// Whether a value that ends with a `^` is read once a backslash is before that.
+fn heals(alloc: Global, value: &[(u8, usize)]) -> Result<bool, AllocError>
+    ensures { IfOk result (λ heals. heals ≡ spec.can_be_read (with_backslash (bytes value.now))) }
+{
+    let front = &value[..value.len().saturating_sub(1)];
+    let mut text = bytes_of(alloc, front)?;
+    text.extend_from_slice(b"\\^")?;
+    can_be_read(alloc, &text)
+}
+
+/// Where the `^` at the end of a value is, if the value is read once a backslash is before it.
+///
+/// # Errors
+/// Out of memory.
+pub(crate) fn healing_caret(
+    alloc: Global,
+    value: &[(u8, usize)],
+) -> Result<Option<Part>, AllocError>
+    requires { All (λ x. x.1 < 2 ^ 63) value.now }
+    ensures { IfOk result (λ caret. caret ≡ spec.healing_caret value.now) }
+{
+    if !heals(alloc, value)? {
+        return Ok(None);
+    }
+    Ok(caret_at_end(value))
 }

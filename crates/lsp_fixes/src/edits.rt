@@ -5,7 +5,7 @@ ghost use Rattle.lsp_fixes.specs.Edits as spec;
 ghost use Rattle.lsp_fixes.specs.Edits.{carets, edit_seen, edits_for, is_digit, kind_signs, known_names, rename, renames, sign_for, signs, spellings};
 
 use crate::candidates::names_for;
-use crate::carets::caret_at_end;
+use crate::carets::healing_caret;
 use crate::distances::nearest;
 use crate::pieces::{after_name, bytes_of, span, value_of, written_name};
 use crate::texts::shown;
@@ -197,12 +197,13 @@ fn push_spelling(
     Ok(())
 }
 
-// Adds `\^` in place of the `^` at the end of an item's value that takes nothing, if there is one.
+// Adds `\^` in place of the `^` at the end of an item's value that takes nothing, if there is one
+// and the value is read then.
 fn push_caret(alloc: Global, edits: &mut Vec<Edit>, item: &[(u8, usize)]) -> Result<(), AllocError>
     requires { All (λ x. x.1 < 2 ^ 63) item.now }
     ensures { OnOk result (map edit_seen edits.new.items ≡ map edit_seen edits.old.items ++ carets item.now) }
 {
-    let Some(part) = caret_at_end(value_of(item)) else {
+    let Some(part) = healing_caret(alloc, value_of(item))? else {
         return Ok(());
     };
     let mut text = String::new(alloc);

@@ -1,5 +1,5 @@
 //! Laws of the definitions on which the contracts of this crate depend. They compute nothing.
-ghost use Rattle.lsp_fixes.specs.Laws.{ItemsAreInOrder, ItemsHaveOneVerdict, NamesAreOfCapabilities, NamesAreOfOtherBlocks, SignsFitTheKind, SpellingsReadBack};
+ghost use Rattle.lsp_fixes.specs.Laws.{CaretsHeal, ItemsAreInOrder, ItemsHaveOneVerdict, NamesAreOfCapabilities, NamesAreOfOtherBlocks, SignsFitTheKind, SpellingsReadBack};
 
 use ti_source::{each_is_well_read, one_outcome, written_spells};
 
@@ -28,6 +28,12 @@ pub fn spellings_read_back()
     one_outcome();
     written_spells();
 }
+
+/// A string that cannot be read is read with a backslash before the `^` at its end, if that is
+/// offered.
+pub fn carets_heal()
+    ensures { CaretsHeal }
+{}
 
 /// There is one verdict on an item.
 pub fn items_have_one_verdict()

@@ -7,6 +7,7 @@
 //! - `carets`: the `^` at the end of a string that takes nothing
 //! - `texts`: bytes as an editor is sent them
 //! - `edits`: what is offered against the fault of an item, as edits of its block
+//! - `giving`: the names that a source can give
 //! - `uses`: what is offered against a use of a name that no block has
 //! - `fixes`: what is offered for the items that a range touches
 //! - `laws`: an item that is edited as it is offered has lost its fault
@@ -17,6 +18,7 @@ mod carets;
 mod distances;
 mod edits;
 mod fixes;
+mod giving;
 mod laws;
 mod pieces;
 mod texts;
@@ -26,6 +28,6 @@ pub use distances::nearest;
 pub use edits::Advice;
 pub use fixes::{Fix, fixes_of};
 pub use laws::{
-    items_are_in_order, items_have_one_verdict, names_are_of_capabilities,
+    carets_heal, items_are_in_order, items_have_one_verdict, names_are_of_capabilities,
     names_are_of_other_blocks, signs_fit_the_kind, spellings_read_back,
 };

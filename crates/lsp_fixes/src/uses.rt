@@ -11,6 +11,7 @@ ghost use Rattle.lsp_fixes.specs.Fixes as spec;
 ghost use Rattle.lsp_fixes.specs.Fixes.{others_in, used_edits};
 
 use crate::edits::{Edit, push_nearest};
+use crate::giving::given_names;
 use crate::pieces::{bytes_of, used_of};
 use std::alloc::{AllocError, Global};
 use ti_base::{Database, distinct_names};
@@ -75,7 +76,7 @@ fn other_names(alloc: Global, database: &Database, own: usize) -> Result<Vec<&[u
     Ok(names)
 }
 
-/// Adds the nearest lookup names in place of one that an item of the block at that position uses,
+/// Adds the nearest lookup names that a source can give in place of one that an item of the block at that position uses,
 /// if no block has it.
 pub(crate) fn push_used(
     alloc: Global,
@@ -95,5 +96,6 @@ pub(crate) fn push_used(
         return Ok(());
     }
     let others = other_names(alloc, database, at)?;
-    push_nearest(alloc, edits, name, &others)
+    let given = given_names(alloc, &others)?;
+    push_nearest(alloc, edits, name, &given)
 }

@@ -26,7 +26,7 @@ base,
 \tbel=\xF0\x9F\x98\x80, li
 #
 \tne#2,
-\tbel=^, cr=a^, ht=%^, el=\\400\\^, ed=\\\\^,
+\tbel=^, cr=a^, ht=%^, el=\\400\\^, ed=\\\\^, oc=\\400^,
 ";
 
 /// What is advised, as it is wanted.
@@ -45,7 +45,7 @@ type Row = (
 );
 
 #[rattlefmt::skip]
-const ROWS: [Row; 34] = [
+const ROWS: [Row; 35] = [
     // the preface, names, and an item without a fault
     (((0, 0), (0, 3)), &[]),
     (((1, 0), (1, 3)), &[]),
@@ -104,6 +104,21 @@ const ROWS: [Row; 34] = [
     // an octal value over 255, with a `^` that a backslash takes; one after a backslash that is taken
     (((12, 23), (12, 23)), &[]),
     (((12, 34), (12, 34)), &[(Wanted::Caret, ((12, 38), (12, 39)), "\\^")]),
+    // a `^` that takes nothing, with an octal value over 255, which stays
+    (((12, 42), (12, 42)), &[]),
+];
+
+#[rattlefmt::skip]
+const CASES: [(&'static [u8], Row); 5] = [
+    // the nearest name ends with a backslash, which would take the comma after it
+    (b"xt\\,am,\nb,use=xtt,cols#80,\n", (((1, 3), (1, 3)), &[])),
+    (b"xt\\,am,\nxts,am,\nb,use=xtt,cols#80,\n", (((2, 3), (2, 3)), &[(Wanted::Name("xtt"), ((2, 6), (2, 9)), "xts")])),
+    // a block has the name that is used
+    (b"vt1,am,\nvt2,am,\nb,use=vt1,\n", (((2, 3), (2, 3)), &[])),
+    // `in` is a boolean, and `ip` a string
+    (b"a,ix#8,\n", (((0, 3), (0, 3)), &[(Wanted::Name("ix"), ((0, 2), (0, 4)), "it")])),
+    // the names field has a fault too
+    (b"a b,clearr=x,\n", (((0, 5), (0, 5)), &[(Wanted::Name("clearr"), ((0, 4), (0, 10)), "clear")])),
 ];
 
 // A range of a line and a column each.
@@ -156,6 +171,17 @@ fn what_is_offered(rt: HostRuntime) -> Result<(), AllocError> {
     let alloc = rt.alloc();
     let document = document_of(alloc, SOURCE)?;
     for (range, wanted) in &ROWS {
+        let found = fixes_of(alloc, &document, range_of(*range))?;
+        assert!(rt; are_wanted(&found, wanted));
+    }
+    Ok(())
+}
+
+#[test]
+fn what_is_offered_in_other_sources(rt: HostRuntime) -> Result<(), AllocError> {
+    let alloc = rt.alloc();
+    for (source, (range, wanted)) in &CASES {
+        let document = document_of(alloc, source)?;
         let found = fixes_of(alloc, &document, range_of(*range))?;
         assert!(rt; are_wanted(&found, wanted));
     }
