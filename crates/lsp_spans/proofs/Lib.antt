@@ -1,4 +1,6 @@
 pub mod Computing
+pub mod Escaping
+pub mod Exchanging
 pub mod Fielding
 pub mod Itemizing
 pub mod Joining
@@ -8,5 +10,9 @@ pub mod Marking
 pub mod Naming
 pub mod Ordinals
 pub mod Parting
+pub mod Plain
+pub mod Recutting
+pub mod Refolding
+pub mod Rereading
 pub mod Seeing
 pub mod Spanning

@@ -21,7 +21,7 @@ use Rattle.ti_source.proofs.JudgingLaws.{one_verdict}
 use Rattle.ti_source.proofs.ReadingLaws.{has_reading}
 use Rattle.lsp_spans.specs.Folding.{bytes_at, folded_of, in_comment, without_breaks, without_comments}
 use Rattle.lsp_spans.specs.Ordinals.{IsTextOf, OrdinalsAreOfItems, OrdinalsAreOfTouched, SayingsAreRead, SeenItemsAreRead}
-use Rattle.lsp_spans.specs.Parts.{items_after, rest_of, with_first}
+use Rattle.lsp_spans.specs.Parts.{field_of, items_after, rest_of, with_first}
 use Rattle.lsp_spans.specs.Subjects.{is_on, items_of}
 use Rattle.lsp_spans.proofs.Computing.{left_of}
 use Rattle.lsp_spans.proofs.Itemizing.{items_are, rest_is}
@@ -92,6 +92,23 @@ plain_reads (item ∷ items) = ap₂ (λ (t : List ℕ) (ts : List (List ℕ)). 
 texts_in : (text : List PlacedByte) → map text_read (items_after 44 (rest_of text)) ≡ map text_read (items_after 44 (rest_of (map plain text)))
 texts_in text =
     plain_reads (items_after 44 (rest_of text)) ∙ ap (map text_read) (plain_items 44 (rest_of text) ∙ ap (items_after 44) (plain_rest text))
+
+-- the same bytes have the same items and the same names field
+pub same_texts : (one other : List PlacedByte) → bytes one ≡ bytes other → map (λ (item : List PlacedByte). bytes (without_front item)) (items_after 44 (rest_of one)) ≡ map (λ (item : List PlacedByte). bytes (without_front item)) (items_after 44 (rest_of other))
+same_texts one other e =
+    let same : map plain one ≡ map plain other =
+    sym (map-map (λ (b : ℕ). (b, 0)) (λ (x : PlacedByte). x.0) one) ∙ ap (map (λ (b : ℕ). (b, 0))) e ∙ map-map (λ (b : ℕ). (b, 0)) (λ (x : PlacedByte). x.0) other in
+    texts_in one ∙ ap (λ (t : List PlacedByte). map text_read (items_after 44 (rest_of t))) same ∙ sym (texts_in other)
+
+pub same_field : (one other : List PlacedByte) → bytes one ≡ bytes other → bytes (field_of one) ≡ bytes (field_of other)
+same_field [] [] e = refl
+same_field [] (y ∷ ys) e = absurd cc
+same_field (x ∷ xs) [] e = absurd cc
+same_field (x ∷ xs) (y ∷ ys) e =
+    let same : x.0 ≡ y.0 = cc in
+    let rest : bytes xs ≡ bytes ys = cc in
+    either_way bytes (x.0 == 44) [] (x ∷ field_of xs) ∙ ap₂ (λ (n : ℕ) (t : List ℕ). cond (n == 44) [] (n ∷ t)) same (same_field xs ys rest)
+    ∙ sym (either_way bytes (y.0 == 44) [] (y ∷ field_of ys))
 
 -- ---- a block
 

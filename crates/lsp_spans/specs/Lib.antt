@@ -2,6 +2,7 @@
 pub mod Folding
 pub mod Ordinals
 pub mod Parts
+pub mod Replacing
 pub mod Subjects
 pub mod Touching
 pub mod Words
