@@ -1,0 +1,4 @@
+pub mod Readings
+pub mod Warnings
+pub mod Sound
+pub mod NameBytes

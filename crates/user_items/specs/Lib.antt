@@ -1,0 +1,7 @@
+pub mod Names
+pub mod Verdicts
+pub mod Reading
+pub mod Parsing
+pub mod Sound
+pub mod Laws
+pub mod inside
