@@ -1,0 +1,40 @@
+use Rattle.std.proofs.Common.{◌≡◌, true, false, ◌+◌, ◌/◌, length, drop, ℕ, refl, ap, sym, subst, ◌∙◌, arith}
+use Rattle.ti_layout.proofs.Whole.{offsets_end}
+use Rattle.user_extension.specs.Reading.{AreNames}
+use Rattle.user_extension.specs.inside.Sections.{parts_cut}
+use Rattle.user_extension.proofs.Whole.{bad_flag, counts, is_extension, leads, lengths_cut, names_of, tail_is}
+use Rattle.user_extension.proofs.view.Extension.of.Goals as goal
+
+pub returns-then-not-are_flags-clause-none : goal.returns-then-not-are_flags-clause-none
+returns-then-not-are_flags-clause-none c = λ e. bad_flag c.args.format _ _ c.in_ok-sections.ensures.found _ _ refl refl e c.if-not-are_flags.ensures
+
+pub returns-then-not-are_names-clause-none : goal.returns-then-not-are_names-clause-none
+returns-then-not-are_names-clause-none c =
+    let s = c.in_ok-sections.sections in
+    let tail = tail_is s.table.now c.values_size-size.result c.min.result c.min.ensures ∙ ap (λ (n : ℕ). drop n s.table.now) c.values_size-size.ensures in
+    λ e.
+    let names = names_of c.args.format _ s c.in_ok-sections.ensures.found _ _ refl (ap (λ (n : ℕ). length s.flags.now + length s.numbers.now / n) c.width.ensures.value) e in
+    let never : false ≡ true = c.if-not-are_names.ensures.1 (subst (λ t. AreNames (length s.flags.now) (length s.flags.now + length s.numbers.now / c.width.result) s.names.now t) (sym tail) names) in
+    absurd cc
+
+pub invariant_of-result : goal.invariant_of-result
+invariant_of-result c =
+    let s = c.in_ok-sections.sections in
+    let tail = tail_is s.table.now c.values_size-size.result c.min.result c.min.ensures ∙ ap (λ (n : ℕ). drop n s.table.now) c.values_size-size.ensures in
+    let names = c.if-not-are_names.ensures.0 refl in
+    let cut = c.in_ok-sections.ensures.found in
+    let n = counts c.args.format _ (parts_cut s) (lengths_cut c.args.format _ s cut) in
+    record {
+      ends = offsets_end _ _ c.if-not-are_offsets.ensures;
+      rest = tail;
+      lead = λ k lt. leads _ _ (names.ended k lt);
+      few = omega (arith, n.names_are, cut.few_names);
+      named = omega (arith, n.names_are, n.flags_are, n.numbers_are, n.values_are);
+    }
+
+pub returns-clause-found : goal.returns-clause-found
+returns-clause-found c =
+    let s = c.in_ok-sections.sections in
+    let tail = tail_is s.table.now c.values_size-size.result c.min.result c.min.ensures ∙ ap (λ (n : ℕ). drop n s.table.now) c.values_size-size.ensures in
+    is_extension c.args.format _ s c.in_ok-sections.ensures.found _ _ refl (ap (λ (n : ℕ). length s.flags.now + length s.numbers.now / n) c.width.ensures.value)
+    c.if-not-are_flags.ensures c.if-not-are_numbers.ensures c.if-not-are_offsets.ensures (subst (λ t. AreNames (length s.flags.now) (length s.flags.now + length s.numbers.now / c.width.result) s.names.now t) tail (c.if-not-are_names.ensures.0 refl))

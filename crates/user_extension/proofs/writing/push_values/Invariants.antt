@@ -1,0 +1,7 @@
+use Rattle.std.proofs.Common.{◌≡◌, ◌++◌}
+use Rattle.user_extension.specs.Extension.{texts, table}
+use Rattle.user_extension.proofs.Fronts.{front}
+use Rattle.user_extension.proofs.writing.push_values.Given as goal
+
+abbrev pub invariant-loop-row : goal.invariant-loop-row
+invariant-loop-row l = l.image.items ≡ l.initial.image.items ++ table (texts (front l.row-index l.rows))

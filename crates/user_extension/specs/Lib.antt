@@ -1,0 +1,6 @@
+pub mod UserDefined
+pub mod Extension
+pub mod Reading
+pub mod View
+pub mod Laws
+pub mod inside

@@ -1,0 +1,12 @@
+//! Laws of the definitions on which the contracts of this crate depend. They compute nothing.
+ghost use Rattle.user_extension.specs.Laws.{EntriesAreRead, ExtensionsAreRead};
+
+/// What is written of user-defined capabilities is read as these, whatever follows it.
+pub fn extensions_are_read()
+    ensures { ExtensionsAreRead }
+{}
+
+/// What is written is read again, with its names, its table and its user-defined capabilities.
+pub fn entries_are_read()
+    ensures { EntriesAreRead }
+{}
