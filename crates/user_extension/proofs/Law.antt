@@ -1,5 +1,5 @@
 -- What is written of user-defined capabilities is read as these.
-use Rattle.std.proofs.Common.{◌≡◌, ◌≢◌, ℕ, suc, ◌+◌, ◌-◌, ◌*◌, ◌/◌, ◌<◌, ◌≤◌, Bool, true, false, ltb, ◌&&◌, ◌||◌, ◌==◌, List, [], ◌++◌, length, get_or, Option, Some, None, refl, sym, ap, ◌∙◌, subst, arith, append-nil, length-append, inl, inr}
+use Rattle.std.proofs.Common.{◌≡◌, ◌≢◌, ℕ, zero, suc, ◌+◌, ◌-◌, ◌*◌, ◌/◌, ◌<◌, ◌≤◌, Bool, true, false, ltb, ◌&&◌, ◌||◌, ◌==◌, List, [], ◌∷◌, ◌++◌, length, get_or, Option, Some, None, refl, sym, ap, ◌∙◌, subst, arith, append-nil, length-append, inl, inr}
 use Rattle.std.specs.Prelude.{All, IsTrue, nat_le}
 use Rattle.std.specs.Ordering.{nat_cmp, is_lt}
 use Rattle.std.specs.Cmp.Lexicographic.{slice_cmp}
@@ -18,12 +18,20 @@ use Rattle.ti_layout.proofs.Spelled.{counted, length-spelled, number_read}
 use Rattle.user_extension.specs.UserDefined.{AreUserDefined, IsValue, Row, kind_rank}
 use Rattle.user_items.specs.Names.{is_user_defined_name}
 use Rattle.user_items.proofs.NameBytes.{names_have_no_nul}
-use Rattle.user_extension.specs.Extension.{extension, flags, names, numbers, places, table, texts}
+use Rattle.user_extension.proofs.Fronts.{length-ended}
+use Rattle.user_extension.specs.Extension.{ended, extension, flags, names, numbers, places, table, texts}
 use Rattle.user_extension.specs.Reading.{AreNames, IsExtension, Parts, ReadRow, flag_count, name_in, name_table, number_count, parts_in, rows_in, value_in}
 use Rattle.user_extension.specs.Laws.{ExtensionsAreRead, HoldsNumbers, as_read}
 use Rattle.user_extension.proofs.Again.{Clean, Cut, cut, SmallCounts, small_counts, spelled, names_are_rest, place_read, places_counted, sound_places, text_found, text_read}
 use Rattle.user_extension.proofs.ByKind as by_kind
 use Rattle.user_extension.proofs.ByKind.{Split, join, split}
+
+-- a text begins after the one before it
+places_next : (at : ℕ) (ts : List (List ℕ)) (k : ℕ) → suc k < length ts → get_or (places at ts) (suc k) 0 ≡ get_or (places at ts) k 0 + length (get_or ts k []) + 1
+places_next at [] k lt = absurd (omega (arith, lt))
+places_next at (t ∷ []) k lt = absurd (omega (arith, lt))
+places_next at (t ∷ s ∷ ts) zero lt = let e = length-ended t in omega (arith, e)
+places_next at (t ∷ s ∷ ts) (suc k) lt = places_next (at + length (ended t)) (s ∷ ts) k (omega (arith, lt))
 
 under : (w : Format) → first_negative w ≤ absent_mark w
 under Legacy = omega arith
@@ -165,6 +173,12 @@ module _ (w : Format) (fs : List (List ℕ)) (ns : List (List ℕ × ℕ)) (ts :
         user_defined = λ k lt.
             let l : k < length rows = omega (arith, lt, counted_names, names_long) in
             subst (λ n. IsTrue (is_user_defined_name n)) (sym (name_read k l)) (are.names k no_row l);
+        adjoin = λ k lt.
+            let l : suc k < length (names rows) = omega (arith, lt, counted_names) in
+            let here = place_read (names rows) [] k small_names clean_names (omega (arith, l)) in
+            let next = place_read (names rows) [] (suc k) small_names clean_names l in
+            let name = ap (λ (x : List ℕ). length x) (text_read (names rows) [] k small_names clean_names (omega (arith, l))) in
+            omega (arith, here, next, name, places_next 0 (names rows) k l);
         rise = λ k lt a b.
             let l : suc k < length rows = omega (arith, lt, counted_names, names_long) in
             let h = before_same _ _ (is_lt (slice_cmp nat_cmp (get_or rows k no_row).0 (get_or rows (suc k) no_row).0)) (same_kind k l a b) (are.rise k (suc k) no_row (omega arith) l) in

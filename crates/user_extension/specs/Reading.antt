@@ -1,7 +1,8 @@
 -- What the bytes after a compiled entry say of user-defined capabilities (term(5), "Extended storage
 -- format"), and which bytes do.
-use Rattle.std.specs.Prelude.{◌≢◌, ℕ, zero, suc, ◌+◌, ◌*◌, ◌-◌, ◌%◌, ◌<◌, ◌≤◌, nat_lt, bytes_eq, if◌then◌else◌, IsTrue, List, [], ◌∷◌, map, length, drop, slice_index, slice_range, Option, None}
+use Rattle.std.specs.Prelude.{◌≡◌, ◌≢◌, ℕ, zero, suc, ◌+◌, ◌*◌, ◌-◌, ◌%◌, ◌<◌, ◌≤◌, nat_lt, bytes_eq, if◌then◌else◌, IsTrue, List, [], ◌∷◌, map, length, drop, slice_index, slice_range, Option, None}
 use Rattle.std.specs.List.{range_with_len}
+use Rattle.std.specs.Option.{option_or}
 use Rattle.std.specs.Ordering.{nat_cmp, is_lt}
 use Rattle.std.specs.Cmp.Lexicographic.{slice_cmp}
 use Rattle.ti_layout.specs.declared.layout.Format.{Format}
@@ -17,15 +18,19 @@ use Rattle.user_items.specs.Names.{is_user_defined_name}
 
 -- ---- the sections, by the five numbers of the header
 
+-- how many booleans
 abbrev pub flag_count : List ℕ → ℕ
 flag_count rest = word_at 0 rest
 
+-- how many numbers
 abbrev pub number_count : List ℕ → ℕ
 number_count rest = word_at 2 rest
 
+-- how many strings
 abbrev pub text_count : List ℕ → ℕ
 text_count rest = word_at 4 rest
 
+-- how many bytes the table has
 abbrev pub table_size : List ℕ → ℕ
 table_size rest = word_at 8 rest
 
@@ -37,18 +42,23 @@ name_count rest = flag_count rest + number_count rest + text_count rest
 abbrev pub header_size : ℕ
 header_size = 10
 
+-- where the numbers begin, after a zero byte if the booleans are odd
 abbrev pub numbers_begin : List ℕ → ℕ
 numbers_begin rest = header_size + flag_count rest + flag_count rest % 2
 
+-- where the offsets of the values begin
 abbrev pub values_begin : Format → List ℕ → ℕ
 values_begin format rest = numbers_begin rest + width format * number_count rest
 
+-- where the offsets of the names begin
 abbrev pub names_begin : Format → List ℕ → ℕ
 names_begin format rest = values_begin format rest + 2 * text_count rest
 
+-- where the table begins
 abbrev pub table_begin : Format → List ℕ → ℕ
 table_begin format rest = names_begin format rest + 2 * name_count rest
 
+-- where the table ends
 abbrev pub table_end : Format → List ℕ → ℕ
 table_end format rest = table_begin format rest + table_size rest
 
@@ -105,21 +115,23 @@ ReadRow = List ℕ × Option Content
 abbrev pub rows_in : Format → Parts → List ReadRow
 rows_in format p = map (λ i. (name_in p.names (name_table p.values p.table) i, value_in format p i)) (range_with_len 0 (count_in Legacy p.names))
 
--- what the first read_row of a name has, if it has one
+-- what the first row of a name that is present has, if one is
 abbrev pub said : List ReadRow → List ℕ → Option Content
 said [] name = None
-said (r ∷ rs) name = if bytes_eq r.0 name then r.1 else said rs name
+said (r ∷ rs) name = if bytes_eq r.0 name then option_or r.1 (said rs name) else said rs name
 
 -- ---- which bytes are an extension (own)
 
--- the offsets lead to names that may be user-defined, and the names of a kind rise; the second and
--- the third kind begin at these places
+-- the offsets lead to user-defined names, each of which begins where the one before it ends, and
+-- the names of a kind rise; the second and the third kind begin at these places
 pub record AreNames (second third : ℕ) (names table : List ℕ) : Type 0 where
   pub plain : (k : ℕ) → k < count_in Legacy names → word_at (2 * k) names < first_negative Legacy
   pub ended : (k : ℕ) → k < count_in Legacy names → HasEnd table (word_at (2 * k) names)
   pub user_defined : (k : ℕ) → k < count_in Legacy names → IsTrue (is_user_defined_name (name_in names table k))
+  pub adjoin : (k : ℕ) → suc k < count_in Legacy names → word_at (2 * suc k) names ≡ word_at (2 * k) names + length (name_in names table k) + 1
   pub rise : (k : ℕ) → suc k < count_in Legacy names → suc k ≢ second → suc k ≢ third → IsTrue (is_lt (slice_cmp nat_cmp (name_in names table k) (name_in names table (suc k))))
 
+-- the bytes after an entry are an extension: as long as its header says, with sound sections
 pub record IsExtension (format : Format) (rest : List ℕ) : Type 0 where
   pub long : header_size ≤ length rest
   pub few_names : name_count rest < first_negative Legacy

@@ -12,6 +12,7 @@ use Rattle.user_extension.specs.declared.user_defined.UserDefined.{UserDefined}
 abbrev pub Row : Type 0
 Row = List ℕ × Content
 
+-- what is given of one, as plain data
 abbrev pub row_of : UserDefined → Row
 row_of u = (u.name.now, content_seen u.value)
 

@@ -90,7 +90,8 @@ fn ends(table: &[u8]) -> usize
     }
 }
 
-/// Whether each offset leads to a name that may be user-defined, and the names of a kind rise.
+/// Whether each offset leads to a user-defined name, each of which begins where the one before it
+/// ends, and the names of a kind rise.
 pub fn are_names(names: &[u8], table: &[u8], second: usize, third: usize) -> bool
     requires { length table.now < first_negative Legacy }
     ensures { IsTrue result ↔ AreNames second third names.now table.now }
@@ -105,9 +106,16 @@ pub fn are_names(names: &[u8], table: &[u8], second: usize, third: usize) -> boo
         if !is_user_defined_name(name) {
             return false;
         }
-        if place > 0 && place != second && place != third {
+        if place > 0 {
             let before = word(names, 2 * (place - 1));
-            if before >= ends || !text(table, before).cmp(name).is_lt() {
+            if before >= ends {
+                return false;
+            }
+            let previous = text(table, before);
+            if offset != before + previous.len() + 1 {
+                return false;
+            }
+            if place != second && place != third && !previous.cmp(name).is_lt() {
                 return false;
             }
         }

@@ -1,15 +1,16 @@
 //! User-defined capabilities read where they are.
-ghost use Rattle.std.specs.Prelude.{◌≡◌, ◌<◌, ◌*◌, ◌+◌, [], length, option_map, drop, slice_index, OnSome, IfSome, IfNone};
+ghost use Rattle.std.specs.Prelude.{◌≡◌, ◌≢◌, ◌<◌, ◌≤◌, ◌*◌, ◌+◌, ◌-◌, ℕ, [], length, option_map, take, drop, slice_index, slice_get, OnSome, IfSome, IfNone, IsTrue};
 ghost use Rattle.ti_layout.specs.Layout.{first_negative, width};
 ghost use Rattle.ti_layout.specs.declared.layout.Format.TheVariants.{Legacy};
 ghost use Rattle.ti_layout.specs.Reading.{count_in, number_at as number_of, word_at, stored_flag, stored_number, stored_text};
 ghost use Rattle.ti_layout.specs.Values.{content_seen};
 ghost use Rattle.ti_layout.specs.inside.View.{OffsetsEnd};
 ghost use Rattle.user_extension.specs.Reading.{IsExtension, name_table, name_in, parts_in, rows_in, value_in, said};
-ghost use Rattle.user_extension.specs.inside.View.{LeadInto, EachIsNamed};
+ghost use Rattle.user_extension.specs.inside.View.{LeadInto, EachIsNamed, AreUserDefinedNames, RiseByKind};
 
 use crate::checks::{NEGATIVE_WORD, are_names, cut, values_size};
 use crate::texts::text;
+use std::cmp::Ordering;
 use ti_layout::{Content, Format, are_flags, are_numbers, are_offsets, number, word};
 
 /// The user-defined capabilities of an entry, read where they are. It holds slices of the bytes
@@ -30,6 +31,10 @@ pub struct Extension<'a> {
     ghost rest: { tail.now ≡ name_table values.now table.now },
     // each offset of a name leads into it
     ghost lead: { LeadInto names.now tail.now },
+    // each name is user-defined
+    ghost user_defined: { AreUserDefinedNames names.now tail.now },
+    // the names of a kind rise
+    ghost rise: { RiseByKind (length flags.now) (length flags.now + count_in format numbers.now) names.now tail.now },
     // there are no more than a header can say
     ghost few: { count_in Legacy names.now < first_negative Legacy },
     // each capability has a name
@@ -37,9 +42,13 @@ pub struct Extension<'a> {
 }
 
 impl<'a> Extension<'a> {
+    ghost use Rattle.ti_text.specs.Texts.{HasNoNul};
     ghost use Rattle.ti_layout.specs.View.{shown_flag, shown_number, shown_text};
     ghost use Rattle.std.specs.Option.{option_copied};
+    ghost use Rattle.user_extension.specs.UserDefined.{IsValue};
     ghost use Rattle.user_extension.specs.View.{parts_of, read_rows};
+    ghost use Rattle.user_extension.specs.inside.View.{IsOfOneKind};
+    ghost use Rattle.user_items.specs.Names.{is_user_defined_name};
 
     /// The user-defined capabilities that the bytes after an entry say, or `None` if they are not
     /// an extension.
@@ -91,24 +100,60 @@ impl<'a> Extension<'a> {
         }
     }
 
-    /// How many names there are.
+    /// How many rows there are: each has a name, and a value if it is present. They are in the
+    /// order of booleans, numbers and strings, and of the names of each.
     pub fn len(&self) -> usize
         ensures { result ≡ length (read_rows self.now) }
     {
         self.names.len() / 2
     }
 
-    /// The name at a place.
+    /// The name of the row at a place.
     pub fn name(&self, place: usize) -> &'a [u8]
         requires { place < length (read_rows self.now) }
-        ensures { result.now ≡ name_in self.now.names.now (name_table self.now.values.now self.now.table.now) place }
+        ensures name { Some result.now ≡ option_map (λ row. row.0) (slice_get (read_rows self.now) place) }
+        ensures user_defined { IsTrue (is_user_defined_name result.now) }
+    {
+        self.name_at(place)
+    }
+
+    /// The value of the row at a place; `None` if it is absent or cancelled.
+    pub fn value(&self, place: usize) -> Option<Content<'a>>
+        requires { place < length (read_rows self.now) }
+        ensures value { Some (option_map content_seen result) ≡ option_map (λ row. row.1) (slice_get (read_rows self.now) place) }
+        ensures sound { IfSome result (λ value. IsValue (content_seen value)) }
+    {
+        self.value_at(place)
+    }
+
+    /// The value of a name; `None` if no row of it is present. It takes a binary search for each
+    /// kind.
+    pub fn get(&self, name: &[u8]) -> Option<Content<'a>>
+        ensures value { option_map content_seen result ≡ said (read_rows self.now) name.now }
+        ensures sound { IfSome result (λ value. IsValue (content_seen value)) }
+    {
+        let second = self.flags.len();
+        let third = second + self.numbers.len() / self.format.width();
+        if let Some(flag) = self.get_between(name, 0, second) {
+            return Some(flag);
+        }
+        if let Some(number) = self.get_between(name, second, third) {
+            return Some(number);
+        }
+        self.get_between(name, third, self.len())
+    }
+
+    // The name at a place.
+    fn name_at(&self, place: usize) -> &'a [u8]
+        requires { place < count_in Legacy self.now.names.now }
+        ensures { result.now ≡ name_in self.now.names.now self.now.tail.now place }
     {
         text(self.tail, word(self.names, 2 * place))
     }
 
-    /// What the capability at a place has; `None` if it is absent or cancelled.
-    pub fn value(&self, place: usize) -> Option<Content<'a>>
-        requires { place < length (read_rows self.now) }
+    // The value at a place.
+    fn value_at(&self, place: usize) -> Option<Content<'a>>
+        requires { place < count_in Legacy self.now.names.now }
         ensures { option_map content_seen result ≡ value_in self.now.format (parts_of self.now) place }
     {
         if place < self.flags.len() {
@@ -121,13 +166,34 @@ impl<'a> Extension<'a> {
         text_at(self.values, self.table, place - numbers)
     }
 
-    /// What the capability of a name has; `None` if no name is it, or it is absent or cancelled.
-    pub fn get(&self, name: &[u8]) -> Option<Content<'a>>
-        ensures { option_map content_seen result ≡ said (read_rows self.now) name.now }
+    // The value of a name among the rows between two places, which are of one kind.
+    fn get_between(&self, name: &[u8], low: usize, high: usize) -> Option<Content<'a>>
+        requires within { high ≤ count_in Legacy self.now.names.now }
+        requires kind { IsOfOneKind (length self.now.flags.now) (length self.now.flags.now + count_in self.now.format self.now.numbers.now) low high }
+        ensures value { option_map content_seen result ≡ said (take (high - low) (drop low (read_rows self.now))) name.now }
+        ensures sound { IfSome result (λ value. IsValue (content_seen value)) }
     {
-        for place in 0..self.len() {
-            if self.name(place) == name {
-                return self.value(place);
+        match self.find_between(name, low, high) {
+            Some(place) => self.value_at(place),
+            None => None,
+        }
+    }
+
+    // The place of a name among the rows between two places, which are of one kind.
+    fn find_between(&self, name: &[u8], low: usize, high: usize) -> Option<usize>
+        requires within { high ≤ count_in Legacy self.now.names.now }
+        requires kind { IsOfOneKind (length self.now.flags.now) (length self.now.flags.now + count_in self.now.format self.now.numbers.now) low high }
+        ensures found { IfSome result (λ place. (low ≤ place) × (place < high) × (name_in self.now.names.now self.now.tail.now place ≡ name.now)) }
+        ensures none { IfNone result ((k : ℕ) → low ≤ k → k < high → name_in self.now.names.now self.now.tail.now k ≢ name.now) }
+    {
+        let mut first = low;
+        let mut end = high;
+        while first < end {
+            let middle = first + (end - first) / 2;
+            match self.name_at(middle).cmp(name) {
+                Ordering::Less => first = middle + 1,
+                Ordering::Equal => return Some(middle),
+                Ordering::Greater => end = middle,
             }
         }
         None
@@ -152,7 +218,8 @@ impl<'a> Extension<'a> {
 
     /// The string of that name.
     pub fn text(&self, name: &[u8]) -> Option<&'a [u8]>
-        ensures { option_copied result ≡ shown_text (said (read_rows self.now) name.now) }
+        ensures no_nul { IfSome result (λ text. HasNoNul text.now) }
+        ensures text { option_copied result ≡ shown_text (said (read_rows self.now) name.now) }
     {
         match self.get(name) {
             Some(Content::Text(text)) => Some(text),

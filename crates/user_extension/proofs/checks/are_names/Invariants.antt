@@ -1,4 +1,4 @@
-use Rattle.std.proofs.Common.{◌≢◌, ℕ, suc, ◌<◌, ◌*◌}
+use Rattle.std.proofs.Common.{◌≡◌, ◌≢◌, ℕ, suc, ◌+◌, ◌<◌, ◌*◌, length}
 use Rattle.std.specs.Prelude.{IsTrue}
 use Rattle.std.specs.Ordering.{nat_cmp, is_lt}
 use Rattle.std.specs.Cmp.Lexicographic.{slice_cmp}
@@ -11,5 +11,6 @@ abbrev pub invariant-loop-place : goal.invariant-loop-place
 invariant-loop-place l = record {
   before : (k : ℕ) → k < l.place → word_at (2 * k) l.names < l.ends;
   user_defined : (k : ℕ) → k < l.place → IsTrue (is_user_defined_name (name_in l.names l.table k));
+  adjoin : (k : ℕ) → suc k < l.place → word_at (2 * suc k) l.names ≡ word_at (2 * k) l.names + length (name_in l.names l.table k) + 1;
   rise : (k : ℕ) → suc k < l.place → suc k ≢ l.second → suc k ≢ l.third → IsTrue (is_lt (slice_cmp nat_cmp (name_in l.names l.table k) (name_in l.names l.table (suc k))));
 }

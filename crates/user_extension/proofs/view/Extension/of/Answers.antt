@@ -1,7 +1,9 @@
-use Rattle.std.proofs.Common.{◌≡◌, true, false, ◌+◌, ◌/◌, length, drop, ℕ, refl, ap, sym, subst, ◌∙◌, arith}
+use Rattle.std.proofs.Common.{◌≡◌, true, false, ◌+◌, ◌/◌, ◌-◌, length, take, drop, ℕ, refl, ap, sym, subst, ◌∙◌, arith}
+use Rattle.ti_layout.specs.Reading.{count_in}
 use Rattle.ti_layout.proofs.Whole.{offsets_end}
 use Rattle.user_extension.specs.Reading.{AreNames}
 use Rattle.user_extension.specs.inside.Sections.{parts_cut}
+use Rattle.user_extension.specs.inside.View.{RiseByKind}
 use Rattle.user_extension.proofs.Whole.{bad_flag, counts, is_extension, leads, lengths_cut, names_of, tail_is}
 use Rattle.user_extension.proofs.view.Extension.of.Goals as goal
 
@@ -24,10 +26,14 @@ invariant_of-result c =
     let names = c.if-not-are_names.ensures.0 refl in
     let cut = c.in_ok-sections.ensures.found in
     let n = counts c.args.format _ (parts_cut s) (lengths_cut c.args.format _ s cut) in
+    let third : length s.flags.now + length s.numbers.now / c.width.result ≡ length s.flags.now + count_in c.args.format s.numbers.now =
+    ap (λ (n : ℕ). length s.flags.now + length s.numbers.now / n) c.width.ensures.value in
     record {
       ends = offsets_end _ _ c.if-not-are_offsets.ensures;
       rest = tail;
       lead = λ k lt. leads _ _ (names.ended k lt);
+      user_defined = names.user_defined;
+      rise = subst (λ (k : ℕ). RiseByKind (length s.flags.now) k s.names.now (take (length s.table.now - c.min.result) (drop c.min.result s.table.now))) third names.rise;
       few = omega (arith, n.names_are, cut.few_names);
       named = omega (arith, n.names_are, n.flags_are, n.numbers_are, n.values_are);
     }
