@@ -1,0 +1,5 @@
+pub mod Saying
+pub mod Depth
+pub mod Resolving
+pub mod Making
+pub mod Ordering

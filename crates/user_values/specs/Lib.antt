@@ -1,0 +1,5 @@
+pub mod Expansion
+pub mod Tables
+pub mod Uses
+pub mod Laws
+pub mod inside

@@ -1,0 +1,47 @@
+-- When a table is that of a block.
+use Rattle.std.specs.Prelude.{ℕ, ◌≡◌, List, [], ◌∷◌, length, Option, Some, None, slice_get, if◌then◌else◌}
+use Rattle.std.specs.Option.{option_map, option_or}
+use Rattle.std.specs.Str.{bytes_eq}
+use Rattle.std.specs.BTreeMap.{get_by}
+use Rattle.std.specs.Cmp.Lexicographic.{slice_cmp}
+use Rattle.std.specs.Ordering.{nat_cmp}
+use Rattle.ti_layout.specs.Values.{Content, content_of}
+use Rattle.user_items.specs.Verdicts.{UserSaid}
+use Rattle.user_values.specs.Expansion.{UserMention, first_said, mentions_of, expansion, owner_text}
+use Rattle.std.specs.Prelude.{option_and_then}
+use Rattle.user_values.specs.declared.table.UserTable.{UserTable}
+
+-- what is said of each name
+abbrev pub Said : Type 0
+Said = List ℕ → Option Content
+
+-- what a table says of a name
+abbrev pub said_at : UserTable → Said
+said_at table name = option_map content_of (get_by (λ key. slice_cmp nat_cmp name key.items) table.entries)
+
+-- what is said if one thing is
+abbrev pub said_once : List ℕ → Content → Said
+said_once name content other = if bytes_eq name other then Some content else None
+
+-- a block of the list resolves, and the table says what its mentions say
+abbrev pub IsUserTableOf : List (List ℕ) → List ℕ → Said → Type 0
+IsUserTableOf texts text said = (mentions : List UserMention) × (expansion texts text ≡ Some mentions) × ((name : List ℕ) → said name ≡ first_said mentions name)
+
+-- a block has a table exactly if it resolves
+abbrev pub HasUserTable : List (List ℕ) → List ℕ → Option UserTable → Type 0
+HasUserTable texts text None = expansion texts text ≡ None
+HasUserTable texts text (Some table) = IsUserTableOf texts text (said_at table)
+
+-- each block of the list has its table
+pub record AreUserTables (texts : List (List ℕ)) (tables : List (Option UserTable)) : Type 0 where
+  pub as_many : length tables ≡ length texts
+  pub each : (at : ℕ) (text : List ℕ) (table : Option UserTable) → slice_get texts at ≡ Some text → slice_get tables at ≡ Some table → HasUserTable texts text table
+
+-- the mentions of the block that owns a name
+abbrev pub names_at : List (List ℕ) → List ℕ → Option (List UserMention)
+names_at texts name = option_and_then (expansion texts) (owner_text texts name)
+
+-- what an item says is said where nothing was
+abbrev pub AddsSaid : List (List ℕ) → UserSaid → Said → Said → Type 0
+AddsSaid texts said old new =
+    (mentions : List UserMention) × (mentions_of (names_at texts) said ≡ Some mentions) × ((name : List ℕ) → new name ≡ option_or (old name) (first_said mentions name))
