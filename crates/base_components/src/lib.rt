@@ -13,9 +13,8 @@
 
 mod components;
 mod graph;
-mod laws;
+pub mod laws;
 mod search;
 
 pub use components::Components;
 pub use graph::Graph;
-pub use laws::{components_are_determined, cycles_share_a_number, numbers_fall, walks_join};

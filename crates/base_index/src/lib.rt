@@ -9,11 +9,10 @@
 #![tactic(auto)]
 
 mod labels;
-mod laws;
+pub mod laws;
 mod listing;
 mod names;
 mod order;
 
-pub use laws::{firsts_are_first, lists_agree, lists_are_among, lists_fit, lists_stay};
 pub use names::NameIndex;
-pub use order::Order;
+pub use order::BlockOrder;

@@ -3,10 +3,10 @@ ghost use Rattle.std.specs.Prelude.{◌<◌, ◌≤◌, ◌+◌, ◌⊎◌, vec_
 ghost use Rattle.ti_text.specs.Lists.{Has};
 ghost use Rattle.base_index.specs.Listing.{AreAmong, Lists, ListsNoMore, ListsToo};
 
-use crate::order::Order;
+use crate::order::BlockOrder;
 
 /// Puts an id into a list, unless it is there. If it is not, the list has room for it.
-pub(crate) fn put_in(order: &Order, list: &mut Vec<u32>, id: u32)
+pub(crate) fn put_in(order: &BlockOrder, list: &mut Vec<u32>, id: u32)
     requires stands { Has order.now.listed id }
     requires among { AreAmong list.old.items order.now.listed }
     requires room { (vec_len list.old < vec_capacity list.old) ⊎ Lists order.now.listed list.old.items id }
@@ -22,7 +22,7 @@ pub(crate) fn put_in(order: &Order, list: &mut Vec<u32>, id: u32)
 }
 
 /// Takes an id out of a list, if it is there.
-pub(crate) fn take_out(order: &Order, list: &mut Vec<u32>, id: u32)
+pub(crate) fn take_out(order: &BlockOrder, list: &mut Vec<u32>, id: u32)
     requires stands { Has order.now.listed id }
     requires among { AreAmong list.old.items order.now.listed }
     ensures items { ListsNoMore order.now.listed list.old.items list.new.items id }

@@ -5,7 +5,7 @@ ghost use Rattle.base_index.specs.Listing.{AreAmong, Lists, ListsNoMore, ListsTo
 ghost use Rattle.base_index.specs.Names.{holders_at, users_at, mentions_at, HasHolderRoom, HasUserRoom, IsForgotten, IsSeenSame, KeepsCapacity, KeepsOthers};
 
 use crate::listing::{put_in, take_out};
-use crate::order::Order;
+use crate::order::BlockOrder;
 use std::alloc::{AllocError, Global};
 use std::collections::BTreeMap;
 
@@ -58,7 +58,7 @@ impl NameIndex {
     }
 
     /// Puts a block among those that have a name. Room is needed if it is not one of them yet.
-    pub fn add_holder(&mut self, order: &Order, name: &[u8], id: u32)
+    pub fn add_holder(&mut self, order: &BlockOrder, name: &[u8], id: u32)
         requires stands { Has order.now.listed id }
         requires among { AreAmong (holders_at self.old name.now) order.now.listed }
         requires room { HasHolderRoom self.old name.now ⊎ Lists order.now.listed (holders_at self.old name.now) id }
@@ -73,7 +73,7 @@ impl NameIndex {
     }
 
     /// Puts a block among those that use a name. Room is needed if it is not one of them yet.
-    pub fn add_user(&mut self, order: &Order, name: &[u8], id: u32)
+    pub fn add_user(&mut self, order: &BlockOrder, name: &[u8], id: u32)
         requires stands { Has order.now.listed id }
         requires among { AreAmong (users_at self.old name.now) order.now.listed }
         requires room { HasUserRoom self.old name.now ⊎ Lists order.now.listed (users_at self.old name.now) id }
@@ -88,7 +88,7 @@ impl NameIndex {
     }
 
     /// Takes a block from among those that have a name. No capacity is lost.
-    pub fn remove_holder(&mut self, order: &Order, name: &[u8], id: u32)
+    pub fn remove_holder(&mut self, order: &BlockOrder, name: &[u8], id: u32)
         requires stands { Has order.now.listed id }
         requires among { AreAmong (holders_at self.old name.now) order.now.listed }
         ensures holders { ListsNoMore order.now.listed (holders_at self.old name.now) (holders_at self.new name.now) id }
@@ -102,7 +102,7 @@ impl NameIndex {
     }
 
     /// Takes a block from among those that use a name. No capacity is lost.
-    pub fn remove_user(&mut self, order: &Order, name: &[u8], id: u32)
+    pub fn remove_user(&mut self, order: &BlockOrder, name: &[u8], id: u32)
         requires stands { Has order.now.listed id }
         requires among { AreAmong (users_at self.old name.now) order.now.listed }
         ensures users { ListsNoMore order.now.listed (users_at self.old name.now) (users_at self.new name.now) id }

@@ -11,7 +11,7 @@ use std::marker::Model;
 /// again after its block has gone. Its position in the list is found by a label that rises along
 /// the list, as is which of two ids comes first.
 #[derive(Drop)]
-pub struct Order {
+pub struct BlockOrder {
     /// The ids in the order of the list.
     ids: Vec<u32>,
     // The label of each id.
@@ -20,7 +20,7 @@ pub struct Order {
     free: Vec<u32>,
 }
 
-impl Model for Order {
+impl Model for BlockOrder {
     ghost use Rattle.std.specs.Prelude.{ℕ, vec_capacity};
     ghost use Rattle.base_index.specs.inside.Order.{Ids, IsOrder};
 
@@ -31,13 +31,13 @@ impl Model for Order {
     ghost invariant = { λ o. IsOrder o.ids.items o.labels.items o.free.items (vec_capacity o.ids) (vec_capacity o.free) };
 }
 
-impl Order {
+impl BlockOrder {
     /// No ids. It takes no memory.
-    pub fn new(alloc: Global) -> Order
+    pub fn new(alloc: Global) -> BlockOrder
         ensures listed { result.listed ≡ [] }
         ensures free { result.free ≡ [] }
     {
-        Order {
+        BlockOrder {
             ids: Vec::new(alloc),
             labels: Vec::new(alloc),
             free: Vec::new(alloc),

@@ -13,7 +13,7 @@ use Rattle.ti_source.specs.declared.numbers.NumberError.{NumberError}
 use Rattle.ti_source.specs.declared.numbers.NumberError.TheVariants.{Bad, TooLarge}
 use Rattle.ti_source.specs.Folding.{PlacedByte}
 use Rattle.ti_source.specs.Items.{Claim, Statement, piece_of, without_outer_space}
-use Rattle.ti_source.specs.inside.Items.{statement_of}
+use Rattle.ti_source.specs.Stating.{statement_of}
 use Rattle.ti_source.specs.inside.Header.{header_names}
 use Rattle.ti_source.specs.Reading.{Said, said_import, ReadItem, ReadFault}
 use Rattle.ti_source.specs.Parsing.{accepted, is_import, said_by, code_by, item_fault, header_fault, reading_of_text}
@@ -21,7 +21,8 @@ use Rattle.ti_text.specs.Limits.{names_max}
 use Rattle.ti_source.specs.Verdicts.{ReadClaim, reads_flag, reads_number, reads_text, reads_cancel, number_verdict, text_verdict, fitting_verdict, named_verdict, claimed_text}
 use Rattle.ti_source.specs.inside.Verdicts.{read_claim, verdict_of}
 use Rattle.ti_source.specs.Judging.{Judged, items_at, faults_at, items_from, faults_from, header_faults}
-use Rattle.ti_source.specs.inside.Parsing.{judged_as, judged_of, block_field, block_items}
+use Rattle.ti_source.specs.inside.Parsing.{judged_as, judged_of, block_field}
+use Rattle.ti_source.specs.Walking.{block_items}
 use Rattle.base_meaning.specs.Reaching.{used_name}
 use Rattle.base_meaning.specs.Faults.{is_kept}
 use Rattle.base_meaning.specs.Laws.{Climbs}

@@ -1,6 +1,17 @@
 //! Laws of the definitions on which the contracts of this crate depend. They compute nothing.
 ghost use Rattle.base_meaning.specs.Laws.{ItemFaultsAreInOrder, ExpansionsAreFound, ExpansionsStay, OwnersAreFirst, OwnersAreTold, UseFaultsAreFound, UsesAreFound, WaysAreFound};
 
+pub use crate::edit_laws::{
+    dependents_are_determined, dependents_are_found, edits_are_exchanges, edits_have_one_cause,
+    rebuilds_are_determined, touched_names_are_reached_in_both_lists, untouched_blocks_are_kept,
+    users_of_dependents_depend,
+};
+pub use crate::item_laws::{item_faults_go_by_ordinal, names_are_distinct, read_items_are_ordered};
+pub use crate::use_laws::{
+    circular_uses_share_a_component, leading_is_reaching, leading_is_walking,
+    unresolved_blocks_have_a_cause,
+};
+
 /// A name belongs to the first block that has it.
 pub fn owners_are_first()
     ensures { OwnersAreFirst }

@@ -15,22 +15,8 @@ mod edit_laws;
 mod edits;
 mod faults;
 mod item_laws;
-mod laws;
+pub mod laws;
 mod use_laws;
 
-pub use edit_laws::{
-    dependents_are_determined, dependents_are_found, edits_are_exchanges, edits_have_one_cause,
-    rebuilds_are_determined, touched_names_are_reached_in_both_lists, untouched_blocks_are_kept,
-    users_of_dependents_depend,
-};
 pub use edits::{Edit, EditError, Edited, Outcome};
 pub use faults::Fault;
-pub use item_laws::{item_faults_go_by_ordinal, names_are_distinct, read_items_are_ordered};
-pub use laws::{
-    expansions_are_found, expansions_stay, item_faults_are_in_order, owners_are_first,
-    use_faults_are_found, uses_and_owners_are_told, ways_are_found,
-};
-pub use use_laws::{
-    circular_uses_share_a_component, leading_is_reaching, leading_is_walking,
-    unresolved_blocks_have_a_cause,
-};

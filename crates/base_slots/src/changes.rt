@@ -5,12 +5,12 @@ ghost use Rattle.base_slots.specs.inside.Fields.{slot_stored};
 
 use crate::indexing::{add, forget, remove, reserve};
 use crate::slots::{Slot, Slots};
-use base_index::Order;
+use base_index::BlockOrder;
 use std::alloc::AllocError;
 use ti_source::Parsed;
 
 // Makes sure that an id is free, and that each id has a place among the slots.
-fn make_place(order: &mut Order, slots: &mut Vec<Option<Slot>>) -> Result<(), AllocError>
+fn make_place(order: &mut BlockOrder, slots: &mut Vec<Option<Slot>>) -> Result<(), AllocError>
     requires few { length order.old.listed < 2 ^ 31 }
     requires places { length order.old.listed + length order.old.free ≤ length slots.old.items }
     ensures listed { order.new.listed ≡ order.old.listed }

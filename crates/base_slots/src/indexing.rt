@@ -3,7 +3,7 @@ ghost use Rattle.std.specs.Prelude.{◌≡◌, ◌<◌, ◌+◌, ℕ, List, leng
 ghost use Rattle.ti_text.specs.Lists.{Has};
 ghost use Rattle.base_slots.specs.inside.Indexing.{all_said, ids_at, says_of, AddsId, Forgets, HasRoomAt, IsGrown, IsPart, Removes};
 
-use base_index::{NameIndex, Order};
+use base_index::{BlockOrder, NameIndex};
 use std::alloc::AllocError;
 use ti_source::{Parsed, What};
 
@@ -32,7 +32,7 @@ fn said_at(block: &Parsed, place: usize) -> Option<(Role, &[u8])>
 }
 
 /// Lists a block at the names that it says.
-pub(crate) fn add(index: &mut NameIndex, order: &Order, block: &Parsed, id: u32)
+pub(crate) fn add(index: &mut NameIndex, order: &BlockOrder, block: &Parsed, id: u32)
     requires stands { Has order.now.listed id }
     requires parts { (role : Role) (name : List ℕ) → IsPart order.now.listed (ids_at role index.old name) }
     requires room { HasRoomAt (says_of block.now) index.old }
@@ -48,7 +48,7 @@ pub(crate) fn add(index: &mut NameIndex, order: &Order, block: &Parsed, id: u32)
 }
 
 /// Takes a block from the lists of the names that it says.
-pub(crate) fn remove(index: &mut NameIndex, order: &Order, block: &Parsed, id: u32)
+pub(crate) fn remove(index: &mut NameIndex, order: &BlockOrder, block: &Parsed, id: u32)
     requires stands { Has order.now.listed id }
     requires parts { (role : Role) (name : List ℕ) → IsPart order.now.listed (ids_at role index.old name) }
     ensures { Removes order.now.listed (says_of block.now) id index.old index.new }

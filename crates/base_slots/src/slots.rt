@@ -4,7 +4,7 @@ ghost use Rattle.std.specs.Rc.{rc_slice_items};
 
 use crate::entries::BlockEntry;
 use crate::positions::positions_of;
-use base_index::{NameIndex, Order};
+use base_index::{BlockOrder, NameIndex};
 use std::alloc::{AllocError, Global};
 use std::marker::Model;
 use std::mem;
@@ -87,7 +87,7 @@ pub struct Slot {
 #[derive(Drop)]
 pub struct Slots {
     // The ids in the order of the list.
-    pub(crate) order: Order,
+    pub(crate) order: BlockOrder,
     // The blocks that have a name, and those that use it.
     pub(crate) names: NameIndex,
     // The slot of each id of the list.
@@ -119,7 +119,7 @@ impl Slots {
         ensures free { result.free ≡ [] }
     {
         Slots {
-            order: Order::new(alloc),
+            order: BlockOrder::new(alloc),
             names: NameIndex::new(alloc),
             slots: Vec::new(alloc),
         }
@@ -193,7 +193,7 @@ impl Slots {
     }
 
     /// Exchanges what was found out about a block.
-    pub fn settle(&mut self, id: u32, settled: &mut Settled)
+    pub fn exchange_settled(&mut self, id: u32, settled: &mut Settled)
         requires { Has (ids_of self.old) id }
         ensures { self.new ≡ settled_in self.old id settled.old }
     {

@@ -5,7 +5,8 @@
 #![tactic(auto)]
 
 mod descriptions;
+pub mod laws;
 mod words;
 
-pub use descriptions::{Description, description_of, rows_have_the_names};
+pub use descriptions::{Description, description_of};
 pub use words::{detail_of, documentation_of};

@@ -18,7 +18,7 @@ use std::alloc::{AllocError, Global};
 use std::rc::RcSlice;
 use ti_base::{Database, Fault, write_detail};
 use ti_source::Code;
-use tools_sources::{SourceError, check, first_line, sources_have_one_refusal};
+use tools_sources::{SourceError, check, first_line};
 
 /// What is wrong.
 #[derive(Clone, Copy, Debug, PartialEq, Eq)]
@@ -231,7 +231,7 @@ pub(crate) fn source_diagnostics(
     requires { database.now ≡ held text.now }
     ensures { IfOk result (λ all. map diagnostic_seen all.items ≡ diagnostics_of text.now) }
 {
-    sources_have_one_refusal();
+    tools_sources::laws::sources_have_one_refusal();
     match check(text) {
         Ok(()) => fault_diagnostics(alloc, database, first_line(text)),
         Err(error) => {

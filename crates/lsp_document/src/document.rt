@@ -14,8 +14,8 @@ use crate::exchanging::exchange;
 use std::alloc::{AllocError, Global};
 use std::marker::Model;
 use ti_base::{Database, EditError};
-use ti_source::{blocks, blocks_are_single, each_has_cut};
-use tools_sources::{check, database_of, ended_texts_end, is_ended, sources_have_one_refusal};
+use ti_source::blocks;
+use tools_sources::{check, database_of, is_ended};
 
 // The most blocks that are exchanged one by one; of more the database is loaded anew.
 const EDITS_MAX: usize = 64;
@@ -85,7 +85,7 @@ fn load(alloc: Global, ended: &[u8]) -> Result<Database, EditError>
     ensures held { IfOk result (λ database. database ≡ source_texts ended.now) }
     ensures refused { IfErr result (λ error. error ≡ Memory) }
 {
-    sources_have_one_refusal();
+    tools_sources::laws::sources_have_one_refusal();
     database_of(alloc, ended)
 }
 
@@ -115,7 +115,7 @@ fn change_to(alloc: Global, database: &mut Database, ended: &[u8]) -> Result<usi
     ensures edits { IfOk result (λ edits. source_refusal ended.now ≡ None → Exchanged database.old (source_texts ended.now) edits) }
     ensures refused { IfErr result (λ error. error ≡ Memory) }
 {
-    sources_have_one_refusal();
+    tools_sources::laws::sources_have_one_refusal();
     match check(ended) {
         Ok(()) => exchange_all(alloc, database, ended),
         Err(_) => {
@@ -137,7 +137,7 @@ fn change_to_text(
     ensures edits { IfOk result (λ edits. source_refusal text.old.items ≡ None → Exchanged database.old (source_texts text.old.items) edits) }
     ensures refused { IfErr result (λ error. error ≡ Memory) }
 {
-    ended_texts_end();
+    tools_sources::laws::ended_texts_end();
     if is_ended(text) {
         return change_to(alloc, database, text);
     }
@@ -238,7 +238,7 @@ impl Document {
 pub fn held_blocks_fit()
     ensures { HeldBlocksFit }
 {
-    each_has_cut();
-    blocks_are_single();
-    ended_texts_end();
+    ti_source::laws::each_has_cut();
+    ti_source::laws::blocks_are_single();
+    tools_sources::laws::ended_texts_end();
 }

@@ -16,15 +16,12 @@ mod cut;
 mod diagnostics;
 mod document;
 mod exchanging;
+pub mod laws;
 mod lines;
 mod position;
 mod splicing;
 
-pub use diagnostics::{Diagnostic, Problem, diagnostics_are_the_faults, shown_detail};
-pub use document::{Document, held_blocks_fit};
-pub use exchanging::one_change_is_one_edit;
-pub use lines::{
-    columns_have_one_offset, lines_have_one_start, places_are_measured, widths_are_utf16,
-};
-pub use position::{offset_of, position_of, positions_are_inverse};
+pub use diagnostics::{Diagnostic, Problem, shown_detail};
+pub use document::Document;
+pub use position::{offset_of, position_of};
 pub use splicing::spliced;

@@ -19,7 +19,7 @@ use Rattle.base_meaning.specs.Report.{shown_detail}
 use Rattle.lsp_features.specs.declared.deciding.Inherited.{Inherited}
 use Rattle.lsp_features.specs.declared.deciding.Say.{Say}
 use Rattle.lsp_features.specs.declared.deciding.Say.TheVariants.{Silent, Decisive, HandsOn}
-use Rattle.lsp_features.specs.declared.deciding.Source.{Source}
+use Rattle.lsp_features.specs.declared.deciding.DecidingBlock.{DecidingBlock}
 
 -- what a block of the list says of a capability once its uses are expanded
 abbrev pub said_of : List Reading → Capability → Reading → Option Content
@@ -134,7 +134,7 @@ pub record SourceSeen : Type 0 where
   pub capabilities : List Capability
 
 -- what holds its name in memory, as plain data
-abbrev pub source_seen : Source → SourceSeen
+abbrev pub source_seen : DecidingBlock → SourceSeen
 source_seen source = record { name = string_bytes source.name; capabilities = source.capabilities.items }
 
 -- those of the capabilities that the block decides

@@ -8,7 +8,6 @@ ghost use Rattle.lsp_document.specs.Documents.{held};
 ghost use Rattle.lsp_features.specs.Causes as spec;
 ghost use Rattle.lsp_features.specs.Causes.{is_error_of};
 
-use base_meaning::unresolved_blocks_have_a_cause;
 use lsp_document::{Diagnostic, Document};
 use std::alloc::{AllocError, Global};
 use ti_base::Fault;
@@ -45,5 +44,5 @@ pub(crate) fn cause_told(
 pub fn missing_entries_have_a_cause()
     ensures { spec.MissingEntriesHaveACause }
 {
-    unresolved_blocks_have_a_cause();
+    base_meaning::laws::unresolved_blocks_have_a_cause();
 }

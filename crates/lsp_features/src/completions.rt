@@ -13,7 +13,6 @@ ghost use Rattle.lsp_document.specs.Diagnostics.{text_at};
 use crate::names::is_owner;
 use crate::renaming::can_be_given;
 use crate::spots::{range_in, spot_at};
-use base_meaning::names_are_distinct;
 use lsp_document::{Document, shown_detail};
 use lsp_spans::{Part, Word, word_before};
 use lsp_types::{Position, Range};
@@ -159,7 +158,7 @@ pub fn completion_of(
 pub fn names_are_offered_once()
     ensures { spec.NamesAreOfferedOnce }
 {
-    names_are_distinct();
+    base_meaning::laws::names_are_distinct();
 }
 
 /// A law, with no code: what a completion replaces is a part of the line that the cursor is on, as

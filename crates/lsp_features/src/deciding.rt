@@ -41,7 +41,7 @@ pub(crate) struct Inherited {
 
 /// A block, and the capabilities that it decides for another.
 #[derive(Debug, Drop)]
-pub struct Source {
+pub struct DecidingBlock {
     /// The first of the block's lookup names that it owns, in ASCII.
     pub name: String,
     /// The capabilities, in the order of the compiled entry.
@@ -241,7 +241,7 @@ fn own_name(
 // Adds a block with the capabilities that it decides, if there are any.
 fn push_source(
     alloc: Global,
-    sources: &mut Vec<Source>,
+    sources: &mut Vec<DecidingBlock>,
     database: &Database,
     by: usize,
     names: &[RcSlice<u8>],
@@ -253,7 +253,7 @@ fn push_source(
     if capabilities.is_empty() {
         return Ok(());
     }
-    sources.push(Source {
+    sources.push(DecidingBlock {
         name: own_name(alloc, database, by, names)?,
         capabilities,
     })?;
@@ -265,7 +265,7 @@ fn sources_from(
     alloc: Global,
     database: &Database,
     inherited: &[Inherited],
-) -> Result<Vec<Source>, AllocError>
+) -> Result<Vec<DecidingBlock>, AllocError>
     ensures { IfOk result (λ sources. map source_seen sources.items ≡ sources_from database.now inherited.now 0 database.now) }
 {
     let mut sources = Vec::new(alloc);
@@ -278,7 +278,11 @@ fn sources_from(
 }
 
 // The blocks that decide what a block inherits.
-fn sources_of(alloc: Global, database: &Database, at: usize) -> Result<Vec<Source>, AllocError>
+fn sources_of(
+    alloc: Global,
+    database: &Database,
+    at: usize,
+) -> Result<Vec<DecidingBlock>, AllocError>
     requires { at < length database.now }
     ensures { IfOk result (λ sources. map source_seen sources.items ≡ spec.sources_of database.now at) }
 {
@@ -293,7 +297,7 @@ pub(crate) fn sources_named(
     alloc: Global,
     database: &Database,
     name: &[u8],
-) -> Result<Vec<Source>, AllocError>
+) -> Result<Vec<DecidingBlock>, AllocError>
     ensures { IfOk result (λ sources. map source_seen sources.items ≡ spec.sources_named database.now name.now) }
 {
     match database.owner(name) {

@@ -11,11 +11,10 @@ ghost use Rattle.lsp_features.specs.Holdings.{count_there, entry_seen, holding};
 ghost use Rattle.lsp_features.specs.inside.Entries.{IsEntry};
 
 use crate::causes::cause_told;
-use lsp_document::{Diagnostic, Document, held_blocks_fit};
+use lsp_document::{Diagnostic, Document};
 use std::alloc::{AllocError, Global};
 use ti_caps::{Cap, Kind, count};
-use ti_layout::{View, images_are_read};
-use ti_source::each_is_well_read;
+use ti_layout::View;
 
 /// What an entry holds.
 #[derive(Clone, Copy, Debug, PartialEq, Eq)]
@@ -102,9 +101,9 @@ fn entry_at(alloc: Global, document: &Document, at: usize) -> Result<Entry, Allo
     requires { at < length (held document.now) }
     ensures { IfOk result (λ entry. entry_seen entry ≡ spec.entry_at document.now at) }
 {
-    held_blocks_fit();
-    each_is_well_read();
-    images_are_read();
+    lsp_document::laws::held_blocks_fit();
+    ti_source::laws::each_is_well_read();
+    ti_layout::laws::images_are_read();
     match document.database().compiled(at) {
         Some(bytes) => Ok(Entry::Held(held_in(bytes))),
         None => Ok(Entry::Faulty(cause_told(alloc, document, at)?)),

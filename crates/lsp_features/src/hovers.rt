@@ -7,12 +7,12 @@ ghost use Rattle.lsp_spans.specs.Touching.{item_seen};
 ghost use Rattle.lsp_features.specs.Hovers as spec;
 ghost use Rattle.lsp_features.specs.Hovers.{hover_seen, item_told, name_told, told_at};
 
-use crate::deciding::{Source, sources_named};
+use crate::deciding::{DecidingBlock, sources_named};
 use crate::holdings::{Entry, entry_named};
 use crate::meanings::{Meaning, meaning_at};
 use crate::names::name_of;
 use crate::spots::{range_in, spot_at};
-use lsp_document::{Document, held_blocks_fit, shown_detail};
+use lsp_document::{Document, shown_detail};
 use lsp_spans::{Item, Touched, item_at, subject_at};
 use lsp_types::{Position, Range};
 use std::alloc::{AllocError, Global};
@@ -37,7 +37,7 @@ pub enum About {
         /// What became of it.
         entry: Entry,
         /// The blocks that decide what its owner's entry inherits, in the order of the source.
-        sources: Vec<Source>,
+        sources: Vec<DecidingBlock>,
     },
 }
 
@@ -132,7 +132,7 @@ pub fn hover_of(
 ) -> Result<Option<Hover>, AllocError>
     ensures { IfOk result (λ told. option_map hover_seen told ≡ spec.hover_of document.now place) }
 {
-    held_blocks_fit();
+    lsp_document::laws::held_blocks_fit();
     let Some(spot) = spot_at(document, place) else {
         return Ok(None);
     };

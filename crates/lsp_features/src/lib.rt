@@ -18,25 +18,19 @@ mod completions;
 mod deciding;
 mod holdings;
 mod hovers;
+pub mod laws;
 mod meanings;
 mod names;
 mod renaming;
 mod spots;
 mod symbols;
 
-pub use causes::missing_entries_have_a_cause;
-pub use completions::{
-    Completion, Offers, completion_of, completions_stay_in_the_line, names_are_offered_once,
-};
-pub use deciding::{
-    Source, deciders_are_found, deciders_say_it, one_block_decides, sources_own_their_names,
-};
+pub use completions::{Completion, Offers, completion_of};
+pub use deciding::DecidingBlock;
 pub use holdings::{Entry, Holding};
 pub use hovers::{About, Hover, hover_of};
 pub use meanings::Meaning;
 pub use names::{definition_of, references_of};
-pub use renaming::{
-    Renaming, renamable_at, renamed_parts_follow, renames_keep_entries, renaming_of,
-};
+pub use renaming::{Renaming, renamable_at, renaming_of};
 pub use spots::{Spot, offset_in, range_in, spot_at};
-pub use symbols::{Symbol, selections_are_inside, symbols_of};
+pub use symbols::{Symbol, symbols_of};

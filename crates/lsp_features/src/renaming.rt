@@ -11,7 +11,7 @@ ghost use Rattle.lsp_features.specs.Renaming.{block_with, can_be_given, failure_
 
 use crate::names::{Sought, name_of, owner_of, push_all, touched_at};
 use crate::spots::{head_line, range_in, spot_at};
-use lsp_document::{Document, held_blocks_fit};
+use lsp_document::Document;
 use lsp_spans::{subject_at, uses_of};
 use lsp_types::{Failure, Position, Range};
 use std::alloc::{AllocError, Global};
@@ -194,7 +194,7 @@ pub fn renamable_at(
 pub fn renamed_parts_follow()
     ensures { spec.RenamedPartsFollow }
 {
-    held_blocks_fit();
+    lsp_document::laws::held_blocks_fit();
 }
 
 /// A law, with no code, on blocks as they are read before and after a rename that is accepted: each

@@ -7,7 +7,7 @@ ghost use Rattle.lsp_document.specs.Documents.{held};
 ghost use Rattle.lsp_features.specs.Spots as spec;
 ghost use Rattle.lsp_features.specs.inside.Counting.{CanCount};
 
-use lsp_document::{Document, held_blocks_fit, offset_of, position_of};
+use lsp_document::{Document, offset_of, position_of};
 use lsp_spans::Part;
 use lsp_types::{Position, Range};
 use ti_base::Database;
@@ -30,7 +30,7 @@ pub(crate) fn head_line(document: &Document) -> usize
     ensures line { result ≡ spec.head_line document.now }
     ensures count { CanCount result (held document.now) }
 {
-    held_blocks_fit();
+    lsp_document::laws::held_blocks_fit();
     first_line(document.text()) - 1
 }
 

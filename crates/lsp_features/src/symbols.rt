@@ -8,7 +8,7 @@ ghost use Rattle.lsp_features.specs.Symbols.{symbol_at, symbol_seen, symbols_fro
 ghost use Rattle.lsp_features.specs.inside.Counting.{CanCount};
 
 use crate::spots::{head_line, range_in};
-use lsp_document::{Document, held_blocks_fit, shown_detail};
+use lsp_document::{Document, shown_detail};
 use lsp_spans::{Part, head_of};
 use lsp_types::Range;
 use std::alloc::{AllocError, Global};
@@ -95,5 +95,5 @@ pub fn symbols_of(alloc: Global, document: &Document) -> Result<Vec<Symbol>, All
 pub fn selections_are_inside()
     ensures { spec.SelectionsAreInside }
 {
-    held_blocks_fit();
+    lsp_document::laws::held_blocks_fit();
 }

@@ -17,7 +17,7 @@ use Rattle.ti_source.specs.Verdicts.{IsReadAs, ReadClaim, Verdict, cancel_read, 
 use Rattle.ti_source.specs.declared.code.Code.TheVariants as code
 use Rattle.ti_source.specs.declared.numbers.NumberError.{NumberError}
 use Rattle.ti_source.specs.declared.numbers.NumberError.TheVariants.{Bad, TooLarge}
-use Rattle.ti_source.specs.inside.Items.{plain_statement, statement_by_mark, statement_with_value}
+use Rattle.ti_source.specs.Stating.{plain_statement, statement_by_mark, statement_with_value}
 use Rattle.ti_source.specs.inside.Verdicts.{read_claim, verdict_of}
 use Rattle.ti_source.specs.WhiteSpace.{without_trailing_space}
 use Rattle.ti_source.proofs.JudgingLaws.{has_verdict}

@@ -9,7 +9,7 @@ use Rattle.ti_text.specs.WhiteSpace.{is_white_space}
 use Rattle.ti_source.specs.WhiteSpace.{without_trailing_space}
 use Rattle.ti_source.specs.Folding.{PlacedByte}
 use Rattle.ti_source.specs.Items.{HasNoMark, IsEnabled, IsWhite, bytes, is_mark}
-use Rattle.ti_source.specs.inside.Items.{before_mark, from_mark}
+use Rattle.ti_source.specs.Stating.{before_mark, from_mark}
 use Rattle.lsp_spans.specs.Subjects.{without_end}
 use Rattle.lsp_spans.specs.Touching.{marked_name, name_of, name_or}
 use Rattle.lsp_fixes.specs.Pieces.{after_name, value_of, written_name}

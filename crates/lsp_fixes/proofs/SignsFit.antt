@@ -11,7 +11,7 @@ use Rattle.ti_source.specs.Folding.{PlacedByte}
 use Rattle.ti_source.specs.Items.{HasNoMark, IsEnabled, Statement, bytes}
 use Rattle.ti_source.specs.Verdicts.{refused}
 use Rattle.ti_source.specs.declared.code.Code.TheVariants as code
-use Rattle.ti_source.specs.inside.Items.{plain_statement, statement_by_mark, without_last}
+use Rattle.ti_source.specs.Stating.{plain_statement, statement_by_mark, without_last}
 use Rattle.ti_source.specs.inside.Verdicts.{verdict_of}
 use Rattle.ti_source.specs.WhiteSpace.{without_trailing_space}
 use Rattle.ti_source.proofs.JudgingLaws.{one_verdict}

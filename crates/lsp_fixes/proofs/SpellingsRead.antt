@@ -14,7 +14,7 @@ use Rattle.ti_source.specs.Items.{HasNoMark, IsEnabled, Statement, bytes, claims
 use Rattle.ti_source.specs.Reading.{said_text}
 use Rattle.ti_source.specs.Verdicts.{accepted, accepted_odd, is_import}
 use Rattle.ti_source.specs.WhiteSpace.{without_trailing_space}
-use Rattle.ti_source.specs.inside.Items.{plain_statement, statement_by_mark, statement_with_value}
+use Rattle.ti_source.specs.Stating.{plain_statement, statement_by_mark, statement_with_value}
 use Rattle.ti_source.proofs.JudgingLaws.{judged_text}
 use Rattle.lsp_spans.specs.Parts.{end_of, spanned}
 use Rattle.lsp_fixes.specs.Edits.{EditSeen, advises_spelling, spelling_in, spellings}

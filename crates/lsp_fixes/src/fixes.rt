@@ -12,7 +12,7 @@ ghost use Rattle.lsp_fixes.specs.Fixes.{fix_of, fix_seen, stretch_to, text_said,
 use crate::edits::{Advice, Edit, push_edits};
 use crate::pieces::span;
 use crate::uses::push_used;
-use lsp_document::{Document, held_blocks_fit};
+use lsp_document::Document;
 use lsp_features::{Spot, offset_in, range_in, spot_at};
 use lsp_spans::{Part, folded, visible_items};
 use lsp_types::{Position, Range};
@@ -203,7 +203,7 @@ fn fixes_from(
 pub fn fixes_of(alloc: Global, document: &Document, range: Range) -> Result<Vec<Fix>, AllocError>
     ensures { IfOk result (λ fixes. map fix_seen fixes.items ≡ spec.fixes_of document.now range) }
 {
-    held_blocks_fit();
+    lsp_document::laws::held_blocks_fit();
     match spot_at(document, range.start) {
         Some(spot) => fixes_from(alloc, document.database(), range.end, spot),
         None => Ok(Vec::new(alloc)),

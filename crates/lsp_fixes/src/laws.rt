@@ -1,8 +1,6 @@
 //! Laws of the definitions on which the contracts of this crate depend. They compute nothing.
 ghost use Rattle.lsp_fixes.specs.Laws.{CaretsHeal, ItemsAreInOrder, ItemsHaveOneVerdict, NamesAreOfCapabilities, NamesAreOfOtherBlocks, SignsFitTheKind, SpellingsReadBack};
 
-use ti_source::{each_is_well_read, one_outcome, written_spells};
-
 /// An item is of a capability of its kind with a name that is offered for its own.
 pub fn names_are_of_capabilities()
     ensures { NamesAreOfCapabilities }
@@ -12,7 +10,7 @@ pub fn names_are_of_capabilities()
 pub fn names_are_of_other_blocks()
     ensures { NamesAreOfOtherBlocks }
 {
-    each_is_well_read();
+    ti_source::laws::each_is_well_read();
 }
 
 /// An item of the wrong kind is of the right one with the sign that is offered for it.
@@ -25,8 +23,8 @@ pub fn signs_fit_the_kind()
 pub fn spellings_read_back()
     ensures { SpellingsReadBack }
 {
-    one_outcome();
-    written_spells();
+    ti_source::laws::one_outcome();
+    ti_source::laws::written_spells();
 }
 
 /// A string that cannot be read is read with a backslash before the `^` at its end, if that is

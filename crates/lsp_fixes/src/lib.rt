@@ -19,7 +19,7 @@ mod distances;
 mod edits;
 mod fixes;
 mod giving;
-mod laws;
+pub mod laws;
 mod pieces;
 mod texts;
 mod uses;
@@ -27,7 +27,3 @@ mod uses;
 pub use distances::nearest;
 pub use edits::Advice;
 pub use fixes::{Fix, fixes_of};
-pub use laws::{
-    carets_heal, items_are_in_order, items_have_one_verdict, names_are_of_capabilities,
-    names_are_of_other_blocks, signs_fit_the_kind, spellings_read_back,
-};

@@ -31,35 +31,35 @@ pub enum Frame {
 
 /// Why no frame was read or written.
 #[derive(Clone, Copy, Debug, PartialEq, Eq)]
-pub enum FrameFault {
+pub enum FrameError {
     /// Memory ran out.
     Memory,
     /// The input failed, ended or has no frame here, or the output takes no more.
     Broken,
 }
 
-impl From<AllocError> for FrameFault {
-    ghost use Rattle.lsp_frames.specs.declared.frames.FrameFault.TheVariants.{Memory};
+impl From<AllocError> for FrameError {
+    ghost use Rattle.lsp_frames.specs.declared.frames.FrameError.TheVariants.{Memory};
 
     ghost from_gives = { λ _ fault. fault ≡ Memory };
 
-    fn from(_: AllocError) -> FrameFault {
-        FrameFault::Memory
+    fn from(_: AllocError) -> FrameError {
+        FrameError::Memory
     }
 }
 
-impl From<io::Error> for FrameFault {
-    ghost use Rattle.lsp_frames.specs.declared.frames.FrameFault.TheVariants.{Broken};
+impl From<io::Error> for FrameError {
+    ghost use Rattle.lsp_frames.specs.declared.frames.FrameError.TheVariants.{Broken};
 
     ghost from_gives = { λ _ fault. fault ≡ Broken };
 
-    fn from(_: io::Error) -> FrameFault {
-        FrameFault::Broken
+    fn from(_: io::Error) -> FrameError {
+        FrameError::Broken
     }
 }
 
 // The next byte.
-fn read_byte<R: Read>(reader: &mut R) -> Result<u8, FrameFault>
+fn read_byte<R: Read>(reader: &mut R) -> Result<u8, FrameError>
     ensures { IfOk result (λ byte. Consumes (R.remaining reader.old) (R.remaining reader.new) (byte ∷ [])) }
 {
     let mut byte = [0_u8];
@@ -75,17 +75,17 @@ fn push(line: &mut Vec<u8>, byte: u8) -> Result<(), AllocError>
 }
 
 // A line without the CR at its end, which it must have.
-fn without_return(mut line: Vec<u8>) -> Result<Vec<u8>, FrameFault>
+fn without_return(mut line: Vec<u8>) -> Result<Vec<u8>, FrameError>
     ensures { IfOk result (λ rest. line.items ≡ rest.items ++ 13 ∷ []) }
 {
     match line.pop() {
         Some(b'\r') => Ok(line),
-        _ => Err(FrameFault::Broken),
+        _ => Err(FrameError::Broken),
     }
 }
 
 // Reads a line of a header, without its end, which is counted in the room.
-fn read_line<R: Read>(alloc: Global, reader: &mut R, room: usize) -> Result<Vec<u8>, FrameFault>
+fn read_line<R: Read>(alloc: Global, reader: &mut R, room: usize) -> Result<Vec<u8>, FrameError>
     ensures read { IfOk result (λ line. Consumes (R.remaining reader.old) (R.remaining reader.new)
         (line.items ++ line_end)) }
     ensures line { IfOk result (λ line. HasNoNewline line.items) }
@@ -99,7 +99,7 @@ fn read_line<R: Read>(alloc: Global, reader: &mut R, room: usize) -> Result<Vec<
         }
         push(&mut line, byte)?;
     }
-    Err(FrameFault::Broken)
+    Err(FrameError::Broken)
 }
 
 // What a line says of the length, if its name is `Content-Length`.
@@ -183,21 +183,21 @@ fn first_value(
 }
 
 // The length that a value gives.
-fn announced(value: Option<Vec<u8>>) -> Result<u64, FrameFault>
+fn announced(value: Option<Vec<u8>>) -> Result<u64, FrameError>
     ensures { IfOk result (λ len. (bytes : List ℕ) × (option_map (λ v. v.items) value ≡ Some bytes)
         × (number_of bytes ≡ Some len)) }
 {
     let Some(value) = value else {
-        return Err(FrameFault::Broken);
+        return Err(FrameError::Broken);
     };
     match number(&value) {
         Some(len) => Ok(len),
-        None => Err(FrameFault::Broken),
+        None => Err(FrameError::Broken),
     }
 }
 
 // Reads a header. The answer is the length that it announces.
-fn read_header<R: Read>(alloc: Global, reader: &mut R) -> Result<u64, FrameFault>
+fn read_header<R: Read>(alloc: Global, reader: &mut R) -> Result<u64, FrameError>
     ensures { IfOk result (λ len. (header : List ℕ) × IsHeader header len
         × Consumes (R.remaining reader.old) (R.remaining reader.new) header) }
 {
@@ -211,7 +211,7 @@ fn read_header<R: Read>(alloc: Global, reader: &mut R) -> Result<u64, FrameFault
         room -= line.len() + 2;
         value = first_value(alloc, value, &line)?;
     }
-    Err(FrameFault::Broken)
+    Err(FrameError::Broken)
 }
 
 // Reads a piece of a body, and puts it at the end of what came before.
@@ -219,7 +219,7 @@ fn read_piece<R: Read>(
     reader: &mut R,
     piece: &mut [u8],
     body: &mut Vec<u8>,
-) -> Result<(), FrameFault>
+) -> Result<(), FrameError>
     ensures read { OnOk result (Consumes (R.remaining reader.old) (R.remaining reader.new) piece.new) }
     ensures body { OnOk result (body.new.items ≡ body.old.items ++ piece.new) }
 {
@@ -229,7 +229,7 @@ fn read_piece<R: Read>(
 }
 
 // Reads a body of this length. Memory grows with what comes.
-fn read_body<R: Read>(alloc: Global, reader: &mut R, len: usize) -> Result<Vec<u8>, FrameFault>
+fn read_body<R: Read>(alloc: Global, reader: &mut R, len: usize) -> Result<Vec<u8>, FrameError>
     ensures read { IfOk result (λ body. Consumes (R.remaining reader.old) (R.remaining reader.new) body.items) }
     ensures len { IfOk result (λ body. length body.items ≡ len) }
 {
@@ -243,7 +243,7 @@ fn read_body<R: Read>(alloc: Global, reader: &mut R, len: usize) -> Result<Vec<u
 }
 
 // Reads this number of bytes, and drops them.
-fn skip_body<R: Read>(reader: &mut R, len: u64) -> Result<(), FrameFault>
+fn skip_body<R: Read>(reader: &mut R, len: u64) -> Result<(), FrameError>
     ensures { OnOk result ((bytes : List ℕ) × Consumes (R.remaining reader.old) (R.remaining reader.new) bytes
         × (length bytes ≡ len)) }
 {
@@ -264,7 +264,7 @@ fn skip_body<R: Read>(reader: &mut R, len: u64) -> Result<(), FrameFault>
 /// # Errors
 /// `Broken` if the reader fails or ends, if a line does not end with CR LF, and if the header is
 /// longer or gives no length; `Memory`.
-pub fn read_frame<R: Read>(alloc: Global, reader: &mut R) -> Result<Frame, FrameFault>
+pub fn read_frame<R: Read>(alloc: Global, reader: &mut R) -> Result<Frame, FrameError>
     ensures { IfOk result (λ frame. Reads (R.remaining reader.old) (R.remaining reader.new) frame) }
 {
     let len = read_header(alloc, reader)?;
@@ -292,7 +292,7 @@ pub fn make_frame(alloc: Global, body: &[u8]) -> Result<Vec<u8>, AllocError>
 ///
 /// # Errors
 /// `Broken` if the writer fails; `Memory`.
-pub fn write_frame<W: Write>(alloc: Global, writer: &mut W, body: &[u8]) -> Result<(), FrameFault>
+pub fn write_frame<W: Write>(alloc: Global, writer: &mut W, body: &[u8]) -> Result<(), FrameError>
     ensures { OnOk result (Appends (W.contents writer.old) (W.contents writer.new) (framed body.now)) }
 {
     let bytes = make_frame(alloc, body)?;

@@ -6,7 +6,6 @@
 #![tactic(auto)]
 
 pub mod frames;
-mod laws;
+pub mod laws;
 
-pub use frames::{Frame, FrameFault, make_frame, read_frame, write_frame};
-pub use laws::{frames_have_one_reading, one_header};
+pub use frames::{Frame, FrameError, make_frame, read_frame, write_frame};

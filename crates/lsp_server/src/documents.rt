@@ -9,7 +9,7 @@ ghost use Rattle.lsp_server.specs.Steps.{changed_at, closed_at, open_at, shown, 
 ghost use Rattle.lsp_server.specs.inside.Views.{Tells, place_of};
 
 use crate::editing::edited;
-use crate::source::Source;
+use crate::source::HeldText;
 use lsp_messages::writing::publish_value;
 use lsp_messages::{Change, Question, Reply};
 use serde_json::Value;
@@ -27,7 +27,7 @@ pub struct Opened<D> {
 }
 
 // Where the document of that URI is.
-fn find<D: Source>(documents: &[Opened<D>], uri: &str) -> Option<usize>
+fn find<D: HeldText>(documents: &[Opened<D>], uri: &str) -> Option<usize>
     ensures place { result ≡ place_of uri.now (documents_view D.text_of documents.now) }
     ensures within { IfSome result (λ at. at < length documents.now) }
 {
@@ -40,7 +40,7 @@ fn find<D: Source>(documents: &[Opened<D>], uri: &str) -> Option<usize>
 }
 
 // Puts a document in, in place of one of its URI.
-fn put<D: Source + Drop>(documents: &mut Vec<Opened<D>>, new: Opened<D>) -> Result<(), AllocError>
+fn put<D: HeldText + Drop>(documents: &mut Vec<Opened<D>>, new: Opened<D>) -> Result<(), AllocError>
     ensures { OnOk result (documents_view D.text_of documents.new.items
         ≡ with_document (open_view D.text_of new) (documents_view D.text_of documents.old.items)) }
 {
@@ -54,7 +54,12 @@ fn put<D: Source + Drop>(documents: &mut Vec<Opened<D>>, new: Opened<D>) -> Resu
 }
 
 // What is published of a text.
-fn show<D: Source>(alloc: Global, uri: &str, version: u32, source: &D) -> Result<Value, AllocError>
+fn show<D: HeldText>(
+    alloc: Global,
+    uri: &str,
+    version: u32,
+    source: &D,
+) -> Result<Value, AllocError>
     ensures { IfOk result (λ v. view v ≡ publish_data uri.now (Some version) (D.says.diagnostics (D.text_of source.now))) }
 {
     let diagnostics = source.diagnostics(alloc)?;
@@ -65,7 +70,7 @@ fn show<D: Source>(alloc: Global, uri: &str, version: u32, source: &D) -> Result
 ///
 /// # Errors
 /// Out of memory.
-pub fn open<D: Source + Drop>(
+pub fn open<D: HeldText + Drop>(
     alloc: Global,
     documents: &mut Vec<Opened<D>>,
     uri: &str,
@@ -91,7 +96,7 @@ pub fn open<D: Source + Drop>(
 }
 
 // Changes the text of a document. The answer is what is published of it.
-fn change_one<D: Source>(
+fn change_one<D: HeldText>(
     alloc: Global,
     document: &mut Opened<D>,
     version: u32,
@@ -113,7 +118,7 @@ fn change_one<D: Source>(
 ///
 /// # Errors
 /// Out of memory.
-pub fn change<D: Source>(
+pub fn change<D: HeldText>(
     alloc: Global,
     documents: &mut Vec<Opened<D>>,
     uri: &str,
@@ -133,7 +138,7 @@ pub fn change<D: Source>(
 }
 
 // Takes the documents of that URI out.
-fn remove<D: Source + Drop>(documents: &mut Vec<Opened<D>>, uri: &str)
+fn remove<D: HeldText + Drop>(documents: &mut Vec<Opened<D>>, uri: &str)
     ensures { documents_view D.text_of documents.new.items ≡ without uri.now (documents_view D.text_of documents.old.items) }
 {
     documents.retain(|document| document.uri.as_str() != uri);
@@ -144,7 +149,7 @@ fn remove<D: Source + Drop>(documents: &mut Vec<Opened<D>>, uri: &str)
 ///
 /// # Errors
 /// Out of memory.
-pub fn close<D: Source + Drop>(
+pub fn close<D: HeldText + Drop>(
     alloc: Global,
     documents: &mut Vec<Opened<D>>,
     uri: &str,
@@ -165,7 +170,7 @@ pub fn close<D: Source + Drop>(
 ///
 /// # Errors
 /// Out of memory.
-pub fn ask<D: Source>(
+pub fn ask<D: HeldText>(
     alloc: Global,
     documents: &[Opened<D>],
     uri: &str,

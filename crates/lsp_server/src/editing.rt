@@ -3,7 +3,7 @@ ghost use Rattle.std.specs.Prelude.{◌≡◌, ◌≤◌, IfOk, length, map};
 ghost use Rattle.lsp_messages.specs.Views.{edit_view};
 ghost use Rattle.lsp_server.specs.Steps.{edited, with_part, with_range};
 
-use crate::source::Source;
+use crate::source::HeldText;
 use lsp_messages::Change;
 use lsp_types::Range;
 use std::alloc::{AllocError, Global};
@@ -29,7 +29,7 @@ fn with_part(
 }
 
 // A text after one change.
-fn with_range<D: Source>(
+fn with_range<D: HeldText>(
     alloc: Global,
     text: &[u8],
     range: Option<Range>,
@@ -51,7 +51,7 @@ fn with_range<D: Source>(
 ///
 /// # Errors
 /// Out of memory.
-pub fn edited<D: Source>(
+pub fn edited<D: HeldText>(
     alloc: Global,
     text: &[u8],
     changes: &[Change<'_>],

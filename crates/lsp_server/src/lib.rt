@@ -10,6 +10,7 @@
 
 mod documents;
 mod editing;
+pub mod laws;
 pub mod phase;
 mod requests;
 mod runs;
@@ -18,7 +19,6 @@ mod serving;
 pub mod source;
 
 pub use phase::Phase;
-pub use runs::open_documents_are_shown;
 pub use server::{Server, VERSION};
 pub use serving::serve;
-pub use source::Source;
+pub use source::HeldText;

@@ -10,7 +10,7 @@ ghost use Rattle.lsp_server.specs.inside.Views.{IsAnswer};
 
 use crate::documents::{self, Opened};
 use crate::phase::Phase;
-use crate::source::Source;
+use crate::source::HeldText;
 use lsp_messages::writing::{initialized_value, refusal_value, reply_value, response_value};
 use lsp_messages::{Call, Client, Question};
 use lsp_types::Failure;
@@ -42,7 +42,7 @@ fn answer_fresh(alloc: Global, id: &Value, call: &Call<'_>) -> Result<(Phase, Va
 }
 
 // The answer to a question about a document.
-fn answer_about<D: Source>(
+fn answer_about<D: HeldText>(
     alloc: Global,
     documents: &[Opened<D>],
     id: &Value,
@@ -59,7 +59,7 @@ fn answer_about<D: Source>(
 }
 
 // What becomes of the phase, and the answer, between `initialize` and `shutdown`.
-fn answer_running<D: Source>(
+fn answer_running<D: HeldText>(
     alloc: Global,
     documents: &[Opened<D>],
     id: &Value,
@@ -93,7 +93,7 @@ fn answer_running<D: Source>(
 ///
 /// # Errors
 /// Out of memory.
-pub fn answer<D: Source>(
+pub fn answer<D: HeldText>(
     alloc: Global,
     documents: &[Opened<D>],
     phase: Phase,

@@ -10,7 +10,7 @@ use crate::documents::{self, Opened};
 use crate::phase::Phase;
 use crate::requests;
 pub use crate::requests::VERSION;
-use crate::source::Source;
+use crate::source::HeldText;
 use lsp_messages::writing::refusal_value;
 use lsp_messages::{Message, Notice, read_message};
 use lsp_types::Failure;
@@ -47,7 +47,7 @@ fn phase_told(phase: Phase, notice: &Notice<'_>) -> Phase
 }
 
 // Tells the documents of a notification. The answer is what is published.
-fn tell<D: Source + Drop>(
+fn tell<D: HeldText + Drop>(
     alloc: Global,
     documents: &mut Vec<Opened<D>>,
     notice: &Notice<'_>,
@@ -71,7 +71,7 @@ fn tell<D: Source + Drop>(
 
 // Tells the documents of a notification while the server runs; before and after that, nothing. The
 // answer is what is published.
-fn tell_in<D: Source + Drop>(
+fn tell_in<D: HeldText + Drop>(
     alloc: Global,
     phase: Phase,
     documents: &mut Vec<Opened<D>>,
@@ -86,7 +86,7 @@ fn tell_in<D: Source + Drop>(
     }
 }
 
-impl<D: Source + Drop> Server<D> {
+impl<D: HeldText + Drop> Server<D> {
     /// A server to which nothing has come yet. It takes no memory.
     pub fn new(alloc: Global) -> Server<D>
         ensures { state_of D.text_of result ≡ at_start }

@@ -7,8 +7,8 @@ ghost use Rattle.lsp_server.specs.States.{state_of};
 ghost use Rattle.lsp_server.specs.inside.Turns.{HasNoFloat, IsValue, Turn, frame_text};
 
 use crate::server::Server;
-use crate::source::Source;
-use lsp_frames::{Frame, FrameFault, read_frame, write_frame};
+use crate::source::HeldText;
+use lsp_frames::{Frame, FrameError, read_frame, write_frame};
 use lsp_messages::parse;
 use serde_json::Value;
 use std::alloc::{AllocError, Global};
@@ -29,7 +29,7 @@ fn write_answer<W: Write>(
     alloc: Global,
     writer: &mut W,
     answer: Option<&Value>,
-) -> Result<(), FrameFault>
+) -> Result<(), FrameError>
     ensures { OnOk result (HasNoFloat (option_map (λ v. view v.now) answer.entry)
         → Appends (W.contents writer.old) (W.contents writer.new) (frame_text (option_map (λ v. view v.now) answer.entry))) }
 {
@@ -43,12 +43,12 @@ fn write_answer<W: Write>(
 }
 
 // Reads a frame and writes the answer.
-fn serve_frame<D: Source + Drop, R: Read, W: Write>(
+fn serve_frame<D: HeldText + Drop, R: Read, W: Write>(
     alloc: Global,
     server: &mut Server<D>,
     reader: &mut R,
     writer: &mut W,
-) -> Result<(), FrameFault>
+) -> Result<(), FrameError>
     ensures { OnOk result (Turn D.place_in D.says (R.remaining reader.old) (R.remaining reader.new)
         (W.contents writer.old) (W.contents writer.new) (state_of D.text_of server.old) (state_of D.text_of server.new)) }
 {
@@ -64,12 +64,12 @@ fn serve_frame<D: Source + Drop, R: Read, W: Write>(
 ///
 /// # Errors
 /// `Broken` if the input fails or ends, if it has no frame, or if the output takes no more; `Memory`.
-pub fn serve<D: Source + Drop, R: Read, W: Write>(
+pub fn serve<D: HeldText + Drop, R: Read, W: Write>(
     alloc: Global,
     server: &mut Server<D>,
     reader: &mut R,
     writer: &mut W,
-) -> Result<u8, FrameFault>
+) -> Result<u8, FrameError>
     ensures { IfOk result (Serves D.place_in D.says (R.remaining reader.old) (R.remaining reader.new)
         (W.contents writer.old) (W.contents writer.new) (state_of D.text_of server.old) (state_of D.text_of server.new)) }
 {
@@ -79,5 +79,5 @@ pub fn serve<D: Source + Drop, R: Read, W: Write>(
         }
         serve_frame(alloc, server, reader, writer)?;
     }
-    Err(FrameFault::Broken)
+    Err(FrameError::Broken)
 }

@@ -5,7 +5,7 @@ use serde_json::Value;
 use std::alloc::{AllocError, Global};
 
 /// A text with what is wrong with it, and with answers to questions about it.
-pub trait Source {
+pub trait HeldText {
     ghost use Rattle.std.specs.Prelude.{◌≡◌, ◌≤◌, ℕ, List, IfOk, OnOk, length};
     ghost use Rattle.serde_json.specs.View.{items_view};
     ghost use Rattle.lsp_messages.specs.Views.{question_view, reply_view};

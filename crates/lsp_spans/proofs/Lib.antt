@@ -4,7 +4,7 @@ pub mod Exchanging
 pub mod Fielding
 pub mod Itemizing
 pub mod Joining
-pub mod Laws
+pub mod OneFolding
 pub mod Lines
 pub mod Marking
 pub mod Naming

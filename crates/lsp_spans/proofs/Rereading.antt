@@ -12,7 +12,7 @@ use Rattle.ti_source.specs.Reading.{ReadFault, ReadItem, Reading, Said}
 use Rattle.ti_source.specs.Verdicts.{Verdict, accepted, accepted_odd, code_by, faults_by, header_fault, items_by, refused, said_by}
 use Rattle.ti_source.specs.declared.code.Code.{Code}
 use Rattle.ti_source.specs.declared.code.Code.TheVariants as code
-use Rattle.ti_source.specs.inside.Items.{statement_of}
+use Rattle.ti_source.specs.Stating.{statement_of}
 use Rattle.ti_source.specs.inside.Verdicts.{verdict_of}
 use Rattle.ti_source.proofs.ItemLaws.{one_statement}
 use Rattle.ti_source.proofs.JudgingLaws.{one_verdict}

@@ -13,6 +13,7 @@
 mod folding;
 mod heads;
 mod items;
+pub mod laws;
 mod names;
 mod parts;
 mod replacing;
@@ -20,12 +21,11 @@ mod subjects;
 mod touching;
 mod words;
 
-pub use folding::{folded, one_folding_at};
+pub use folding::folded;
 pub use heads::{Head, head_of};
 pub use items::{Use, used_part, uses_of, visible_items, without_end};
 pub use names::own_spans;
-pub use parts::{Part, field_len, item_parts, name_parts, parts_are_computed, span_of};
-pub use replacing::{one_item_is_replaced, plain_texts_replace};
+pub use parts::{Part, field_len, item_parts, name_parts, span_of};
 pub use subjects::{Subject, Touched, subject_at};
-pub use touching::{Item, item_at, name_of, ordinal_at, ordinals_are_read};
+pub use touching::{Item, item_at, name_of, ordinal_at};
 pub use words::{Word, word_before};

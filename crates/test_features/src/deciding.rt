@@ -1,6 +1,6 @@
 //! The blocks that decide what an entry inherits.
 use lsp_document::Document;
-use lsp_features::{About, Hover, Source, hover_of};
+use lsp_features::{About, DecidingBlock, Hover, hover_of};
 use lsp_types::Position;
 use std::alloc::{AllocError, Global};
 use std::process::Abort;
@@ -54,12 +54,12 @@ fn are_named(capabilities: &[Cap], names: &[&str]) -> bool {
 }
 
 /// Whether a block is as it is wanted.
-fn is_wanted(source: &Source, wanted: &Decided) -> bool {
+fn is_wanted(source: &DecidingBlock, wanted: &Decided) -> bool {
     source.name.as_str() == wanted.0 && are_named(&source.capabilities, wanted.1)
 }
 
 /// Whether the blocks are as they are wanted.
-fn are_wanted(sources: &[Source], wanted: &[Decided]) -> bool {
+fn are_wanted(sources: &[DecidingBlock], wanted: &[Decided]) -> bool {
     if sources.len() != wanted.len() {
         return false;
     }

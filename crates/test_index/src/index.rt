@@ -3,13 +3,13 @@ ghost use Rattle.std.specs.Prelude.{IsTrue};
 ghost use Rattle.ti_text.specs.Lists.{Has};
 ghost use Rattle.base_index.specs.Listing.{AreAmong};
 
-use base_index::{NameIndex, Order};
+use base_index::{BlockOrder, NameIndex};
 use std::alloc::{AllocError, Global};
 use std::process::Abort;
 use std::test::*;
 
 // Puts an id in at a position, if the list is long enough.
-fn put(order: &mut Order, position: usize) -> Result<Option<u32>, AllocError> {
+fn put(order: &mut BlockOrder, position: usize) -> Result<Option<u32>, AllocError> {
     let len = order.ids().len();
     if position > len || len > 100_000 {
         return Ok(None);
@@ -19,7 +19,7 @@ fn put(order: &mut Order, position: usize) -> Result<Option<u32>, AllocError> {
 }
 
 // Takes the id at a position out, if there is one.
-fn take(order: &mut Order, position: usize) -> Option<u32> {
+fn take(order: &mut BlockOrder, position: usize) -> Option<u32> {
     if position >= order.ids().len() {
         return None;
     }
@@ -27,7 +27,7 @@ fn take(order: &mut Order, position: usize) -> Option<u32> {
 }
 
 // Whether an id is in the list.
-fn stands(order: &Order, id: u32) -> bool
+fn stands(order: &BlockOrder, id: u32) -> bool
     ensures { IsTrue result → Has order.now.listed id }
 {
     for other in order.ids() {
@@ -39,7 +39,7 @@ fn stands(order: &Order, id: u32) -> bool
 }
 
 // Whether each id is in the list.
-fn all_stand(order: &Order, ids: &[u32]) -> bool
+fn all_stand(order: &BlockOrder, ids: &[u32]) -> bool
     ensures { IsTrue result → AreAmong ids.now order.now.listed }
 {
     for id in ids {
@@ -51,7 +51,7 @@ fn all_stand(order: &Order, ids: &[u32]) -> bool
 }
 
 // Puts this many ids in at the front. Answers whether each was the next number.
-fn put_ids(order: &mut Order, count: u32) -> Result<bool, AllocError> {
+fn put_ids(order: &mut BlockOrder, count: u32) -> Result<bool, AllocError> {
     for number in 0..count {
         if put(order, 0)? != Some(number) {
             return Ok(false);
@@ -61,12 +61,12 @@ fn put_ids(order: &mut Order, count: u32) -> Result<bool, AllocError> {
 }
 
 // Whether an id is at a position, and is found there.
-fn is_at(order: &Order, id: u32, position: usize) -> bool {
+fn is_at(order: &BlockOrder, id: u32, position: usize) -> bool {
     stands(order, id) && order.position(id) == position
 }
 
 // Whether a list of this many ids has the last number first.
-fn is_turned(order: &Order, count: usize) -> bool {
+fn is_turned(order: &BlockOrder, count: usize) -> bool {
     if order.ids().len() != count {
         return false;
     }
@@ -80,7 +80,7 @@ fn is_turned(order: &Order, count: usize) -> bool {
 }
 
 // Whether one id is before another, and not the other way round.
-fn is_before(order: &Order, one: u32, other: u32) -> bool {
+fn is_before(order: &BlockOrder, one: u32, other: u32) -> bool {
     stands(order, one)
         && stands(order, other)
         && order.is_before(one, other)
@@ -90,7 +90,7 @@ fn is_before(order: &Order, one: u32, other: u32) -> bool {
 
 #[test]
 fn ids_in_order(rt: HostRuntime) -> Result<(), Fail> {
-    let mut order = Order::new(rt.alloc());
+    let mut order = BlockOrder::new(rt.alloc());
     // Enough ids at the front that there is no room between labels.
     assert!(rt; put_ids(&mut order, 100)?);
     assert!(rt; is_turned(&order, 100) && is_before(&order, 8, 7));
@@ -99,7 +99,7 @@ fn ids_in_order(rt: HostRuntime) -> Result<(), Fail> {
 
 #[test]
 fn an_id_that_was_freed_is_used_again(rt: HostRuntime) -> Result<(), Fail> {
-    let mut order = Order::new(rt.alloc());
+    let mut order = BlockOrder::new(rt.alloc());
     assert!(rt; put_ids(&mut order, 100)?);
     assert!(rt; take(&mut order, 40) == Some(59) && order.count() == 100);
     assert!(rt; put(&mut order, 99)? == Some(59));
@@ -110,7 +110,7 @@ fn an_id_that_was_freed_is_used_again(rt: HostRuntime) -> Result<(), Fail> {
 // Puts a block among those that have a name, or that use it.
 fn mention(
     names: &mut NameIndex,
-    order: &Order,
+    order: &BlockOrder,
     name: &[u8],
     id: u32,
     uses: bool,
@@ -130,7 +130,7 @@ fn mention(
 }
 
 // Takes a block that is in the list out of those that have the name `n`, or that use it.
-fn remove(names: &mut NameIndex, order: &Order, id: u32, uses: bool) {
+fn remove(names: &mut NameIndex, order: &BlockOrder, id: u32, uses: bool) {
     if !stands(order, id) {
         return;
     }
@@ -149,8 +149,8 @@ fn has(names: &NameIndex, holders: &[u32], users: &[u32]) -> bool {
 }
 
 // The list 2, 1, 0.
-fn three_ids(alloc: Global) -> Result<Order, AllocError> {
-    let mut order = Order::new(alloc);
+fn three_ids(alloc: Global) -> Result<BlockOrder, AllocError> {
+    let mut order = BlockOrder::new(alloc);
     put_ids(&mut order, 3)?;
     Ok(order)
 }
@@ -166,7 +166,7 @@ const MENTIONS: [(u32, bool); 6] = [
 ];
 
 // An index of these.
-fn mentioned(alloc: Global, order: &Order) -> Result<NameIndex, AllocError> {
+fn mentioned(alloc: Global, order: &BlockOrder) -> Result<NameIndex, AllocError> {
     let mut names = NameIndex::new(alloc);
     for (id, uses) in &MENTIONS {
         mention(&mut names, order, b"n", *id, *uses)?;
@@ -175,7 +175,7 @@ fn mentioned(alloc: Global, order: &Order) -> Result<NameIndex, AllocError> {
 }
 
 // One holder and one user are taken out.
-fn expect_removals(rt: &impl Abort, names: &mut NameIndex, order: &Order) {
+fn expect_removals(rt: &impl Abort, names: &mut NameIndex, order: &BlockOrder) {
     remove(names, order, 1, true);
     assert!(rt; has(names, &[2, 1, 0], &[0]));
     remove(names, order, 2, false);

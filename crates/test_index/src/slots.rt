@@ -124,7 +124,7 @@ fn what_is_found_out_is_exchanged(rt: HostRuntime) -> Result<(), Fail> {
     };
     assert!(rt; first_says(&slots, false, 0));
     let mut settled = compiled_with_a_fault(rt.alloc())?;
-    slots.settle(id, &mut settled);
+    slots.exchange_settled(id, &mut settled);
     assert!(rt; first_says(&slots, true, 1));
     assert!(rt; says(&settled, false, 0));
     Ok(())
@@ -135,7 +135,7 @@ fn settle_first(alloc: Global, slots: &mut Slots) -> Result<(), Fail> {
     let Some(id) = slots.ids().first().copied() else {
         return Err(Fail::new("no block"));
     };
-    slots.settle(id, &mut compiled_with_a_fault(alloc)?);
+    slots.exchange_settled(id, &mut compiled_with_a_fault(alloc)?);
     Ok(())
 }
 

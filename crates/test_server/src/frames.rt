@@ -1,5 +1,5 @@
 //! Frames: headers in any form that is allowed, and those that are none.
-use lsp_frames::{Frame, FrameFault, make_frame, read_frame, write_frame};
+use lsp_frames::{Frame, FrameError, make_frame, read_frame, write_frame};
 use std::alloc::Global;
 use std::io::{self, Read};
 use std::process::Abort;
@@ -27,7 +27,7 @@ fn expect_broken(rt: &impl Abort, alloc: Global, bytes: &[u8]) {
     let mut reader = bytes;
     match read_frame(alloc, &mut reader) {
         Ok(_) => assert!(rt; false, "{bytes:?}"),
-        Err(fault) => assert!(rt; fault == FrameFault::Broken, "{bytes:?}"),
+        Err(fault) => assert!(rt; fault == FrameError::Broken, "{bytes:?}"),
     }
 }
 
@@ -133,5 +133,5 @@ fn a_closed_output_is_broken(rt: HostRuntime) {
     let mut room = [0_u8; 10];
     let mut writer = room.as_mut_slice();
     let written = write_frame(rt.alloc(), &mut writer, b"{}");
-    assert!(rt; written == Err(FrameFault::Broken));
+    assert!(rt; written == Err(FrameError::Broken));
 }

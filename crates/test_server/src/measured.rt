@@ -7,7 +7,7 @@ ghost use Rattle.test_server.specs.Measured.{flag_of, place_of, word_of};
 ghost use Rattle.lsp_messages.specs.Views.{question_view};
 
 use lsp_messages::{Question, Reply};
-use lsp_server::Source;
+use lsp_server::HeldText;
 use lsp_types::{Failure, Position};
 use serde_json::{Value, json};
 use std::alloc::{AllocError, Global};
@@ -40,7 +40,7 @@ fn parts_of(question: Question<'_>) -> (&str, Position, bool)
     }
 }
 
-impl Source for Measured {
+impl HeldText for Measured {
     ghost use Rattle.std.specs.Prelude.{ℕ, List, length, min};
     ghost use Rattle.test_server.specs.Measured.{sayings, sayings_have_no_floats};
 

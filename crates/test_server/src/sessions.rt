@@ -1,6 +1,6 @@
 //! Sessions: the bodies that a client sends, the bodies that are sent back, and the status.
 use crate::measured::Measured;
-use lsp_frames::FrameFault;
+use lsp_frames::FrameError;
 use lsp_server::{Server, serve};
 use std::alloc::{AllocError, Global};
 use std::process::Abort;
@@ -13,7 +13,7 @@ struct Session {
     name: &'static str,
     sent: &'static [&'static str],
     answers: &'static [&'static str],
-    end: Result<u8, FrameFault>,
+    end: Result<u8, FrameError>,
 }
 
 const INITIALIZE: &str =
@@ -145,7 +145,7 @@ const LIVES: [Session; 9] = [
         name: "the input ends",
         sent: &[INITIALIZE, SHUTDOWN],
         answers: &[READY, DONE],
-        end: Err(FrameFault::Broken),
+        end: Err(FrameError::Broken),
     },
     Session {
         name: "before initialize",
@@ -227,7 +227,7 @@ const REQUESTS: [Session; 4] = [
             r#"{"error":{"code":-32601,"message":"there is no such method"},"id":4,"jsonrpc":"2.0"}"#,
             r#"{"error":{"code":-32601,"message":"there is no such method"},"id":5,"jsonrpc":"2.0"}"#,
         ],
-        end: Err(FrameFault::Broken),
+        end: Err(FrameError::Broken),
     },
     Session {
         name: "bodies that are no JSON",
@@ -243,7 +243,7 @@ const REQUESTS: [Session; 4] = [
         answers: &[
             NO_JSON, NO_JSON, NO_JSON, NO_JSON, NO_JSON, NO_JSON, NO_JSON,
         ],
-        end: Err(FrameFault::Broken),
+        end: Err(FrameError::Broken),
     },
     Session {
         name: "values that are no request",
@@ -269,7 +269,7 @@ const REQUESTS: [Session; 4] = [
             r#"{"error":{"code":-32600,"message":"no request is expected here"},"id":5,"jsonrpc":"2.0"}"#,
             r#"{"error":{"code":-32600,"message":"no request is expected here"},"id":"x","jsonrpc":"2.0"}"#,
         ],
-        end: Err(FrameFault::Broken),
+        end: Err(FrameError::Broken),
     },
     Session {
         name: "answers to requests that the server did not send",
@@ -314,7 +314,7 @@ const QUESTIONS: [Session; 5] = [
             r#"{"id":1,"jsonrpc":"2.0","result":["u",3,"references",9,8,false]}"#,
             r#"{"id":2,"jsonrpc":"2.0","result":["v",2,"symbols",0,0,false]}"#,
         ],
-        end: Err(FrameFault::Broken),
+        end: Err(FrameError::Broken),
     },
     Session {
         name: "renames, of which one is refused",
@@ -332,7 +332,7 @@ const QUESTIONS: [Session; 5] = [
             r#"{"id":"r","jsonrpc":"2.0","result":["u",3,"vté",8,9,false]}"#,
             r#"{"error":{"code":-32803,"message":"no entry can have the new name"},"id":5,"jsonrpc":"2.0"}"#,
         ],
-        end: Err(FrameFault::Broken),
+        end: Err(FrameError::Broken),
     },
     Session {
         name: "fixes, with and without the kinds that are asked for",
@@ -354,7 +354,7 @@ const QUESTIONS: [Session; 5] = [
             r#"{"id":4,"jsonrpc":"2.0","result":["u",3,"fixes",1,2,false]}"#,
             r#"{"id":5,"jsonrpc":"2.0","result":["u",3,"fixes",1,2,false]}"#,
         ],
-        end: Err(FrameFault::Broken),
+        end: Err(FrameError::Broken),
     },
     Session {
         name: "a question after a change, and after the document was closed",
@@ -376,7 +376,7 @@ const QUESTIONS: [Session; 5] = [
             CLOSED,
             NOT_ANSWERED,
         ],
-        end: Err(FrameFault::Broken),
+        end: Err(FrameError::Broken),
     },
     Session {
         name: "parameters that are not those of the method",
@@ -422,7 +422,7 @@ const QUESTIONS: [Session; 5] = [
             NOT_ANSWERED,
             NOT_ANSWERED,
         ],
-        end: Err(FrameFault::Broken),
+        end: Err(FrameError::Broken),
     },
 ];
 
@@ -453,7 +453,7 @@ const DROPPED: [Session; 2] = [
             OPENED,
             r#"{"jsonrpc":"2.0","method":"textDocument/publishDiagnostics","params":{"diagnostics":[3],"uri":"u","version":7}}"#,
         ],
-        end: Err(FrameFault::Broken),
+        end: Err(FrameError::Broken),
     },
     Session {
         name: "two documents, one of them opened again",
@@ -474,7 +474,7 @@ const DROPPED: [Session; 2] = [
             r#"{"jsonrpc":"2.0","method":"textDocument/publishDiagnostics","params":{"diagnostics":[2],"uri":"v","version":5}}"#,
             CLOSED,
         ],
-        end: Err(FrameFault::Broken),
+        end: Err(FrameError::Broken),
     },
 ];
 
@@ -497,7 +497,7 @@ fn nesting_of_127_is_json(rt: HostRuntime) -> Result<(), Fail> {
         let mut writer = Vec::new(alloc);
         let mut server: Server<Measured> = Server::new(alloc);
         let end = serve(alloc, &mut server, &mut reader, &mut writer);
-        assert!(rt; end == Err(FrameFault::Broken), "{depth}");
+        assert!(rt; end == Err(FrameError::Broken), "{depth}");
         assert!(rt;
             writer.as_slice() == frames_of(alloc, &[want])?.as_slice(),
             "{depth}"
@@ -522,7 +522,7 @@ fn an_input_that_fails(rt: HostRuntime) -> Result<(), Fail> {
         let mut server: Server<Measured> = Server::new(alloc);
         let end = serve(alloc, &mut server, &mut reader, &mut writer);
         let want = frames_of(alloc, &[READY][..answers])?;
-        assert!(rt; end == Err(FrameFault::Broken), "{reads_left}");
+        assert!(rt; end == Err(FrameError::Broken), "{reads_left}");
         assert!(rt; writer.as_slice() == want.as_slice(), "{reads_left}");
     }
     Ok(())
@@ -543,7 +543,7 @@ fn an_output_that_is_closed(rt: HostRuntime) -> Result<(), Fail> {
         };
         let mut server: Server<Measured> = Server::new(alloc);
         let end = serve(alloc, &mut server, &mut reader, &mut writer);
-        assert!(rt; end == Err(FrameFault::Broken), "{room}");
+        assert!(rt; end == Err(FrameError::Broken), "{room}");
         assert!(rt;
             want.as_slice().starts_with(writer.taken.as_slice()),
             "{room}"

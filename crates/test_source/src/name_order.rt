@@ -1,5 +1,5 @@
 //! The first and the last capability of each kind by name.
-use ti_caps::{Kind, by_name, count, each_kind_is_in_order, find};
+use ti_caps::{Kind, by_name, count, find};
 
 #[test]
 fn begins_and_ends_each_kind_by_name(rt: HostRuntime) {
@@ -16,5 +16,5 @@ fn begins_and_ends_each_kind_by_name(rt: HostRuntime) {
         );
         assert!(rt; by_name(kind, count(kind)).is_none());
     }
-    each_kind_is_in_order();
+    ti_caps::laws::each_kind_is_in_order();
 }

@@ -1,5 +1,5 @@
 //! The names of the capabilities, and their places among those of a kind.
-use ti_caps::{Cap, Kind, count, every_name_is_found, find, name, names_are_distinct};
+use ti_caps::{Cap, Kind, count, find, name};
 
 #[test]
 fn leads_from_each_name_back_to_the_capability(rt: HostRuntime) {
@@ -53,6 +53,6 @@ fn has_the_names_at_their_places(rt: HostRuntime) {
     for word in NO_NAMES.iter() {
         assert!(rt; find(word.as_bytes()).is_none(), "{word}");
     }
-    names_are_distinct();
-    every_name_is_found();
+    ti_caps::laws::names_are_distinct();
+    ti_caps::laws::every_name_is_found();
 }

@@ -25,7 +25,7 @@ fn install(slots: &mut Slots, mut plan: Plan) -> Edited
     ensures work { result.work ≡ plan.work }
 {
     for index in 0..plan.ids.len() {
-        slots.settle(plan.ids[index], &mut plan.settled[index]);
+        slots.exchange_settled(plan.ids[index], &mut plan.settled[index]);
     }
     Edited {
         rebuilt: plan.rebuilt,

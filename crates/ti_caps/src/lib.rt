@@ -11,15 +11,12 @@
 
 mod capability;
 mod keys;
-mod laws;
+pub mod laws;
 mod lookup;
 mod name_order;
 mod tables;
 
 pub use capability::{Cap, Kind};
-pub use laws::{
-    each_kind_is_in_order, every_name_is_found, names_are_distinct, orders_by_name_are_one,
-};
 pub use lookup::{count, find, name};
 pub use name_order::by_name;
 pub use tables::{CAPABILITY_COUNT, FLAG_COUNT, NUMBER_COUNT, TEXT_COUNT};

@@ -8,7 +8,7 @@ use Rattle.ti_layout.specs.declared.header.Header.{Header}
 use Rattle.ti_layout.specs.Image.{image, image_in, below, even_gap, flag_value, flags_below, format_of, image_limit, numbers_below, of_kind, offsets_below, texts_below, written_count}
 use Rattle.ti_layout.specs.Layout.{header, number_section, entry_size, width}
 use Rattle.ti_layout.specs.Laws.{without_cancel}
-use Rattle.ti_layout.specs.inside.Writing.{HasSizes}
+use Rattle.ti_layout.specs.Sizes.{HasSizes}
 use Rattle.ti_layout.specs.Values.{Content, content_true, content_number, content_text, content_cancelled, Contents}
 use Rattle.ti_layout.proofs.Assembling.{header_written}
 use Rattle.ti_layout.proofs.Below.{length-below, below-filled, below-same}

@@ -6,7 +6,7 @@ use Rattle.ti_caps.specs.declared.capability.Kind.TheVariants.{Flag, Text}
 use Rattle.ti_layout.specs.declared.header.Header.{Header}
 use Rattle.ti_layout.specs.Image.{image, is_there, of_kind, flag_value, flags_below, written_count, texts_below}
 use Rattle.ti_layout.specs.Layout.{entry_size}
-use Rattle.ti_layout.specs.inside.Writing.{HasSizes, at_most_max}
+use Rattle.ti_layout.specs.Sizes.{HasSizes, at_most_max}
 use Rattle.ti_layout.specs.Values.{Content, content_true, content_number, content_text, content_cancelled, Contents, AgreesIfSome}
 use Rattle.ti_layout.specs.Reading.{names_size, flag_count}
 use Rattle.ti_layout.proofs.Below.{get_or-below, length-below}

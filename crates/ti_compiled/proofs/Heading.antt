@@ -5,7 +5,7 @@ use Rattle.ti_caps.specs.declared.capability.Kind.TheVariants.{Flag, Number, Tex
 use Rattle.ti_layout.specs.declared.header.Header.{Header}
 use Rattle.ti_layout.specs.Image.{image, image_in, format_of, sections_of, written_count, texts_below}
 use Rattle.ti_layout.specs.Reading.{IsHeaderAt, names_section, names_size, word_at}
-use Rattle.ti_layout.specs.inside.Writing.{HasSizes, at_most_max}
+use Rattle.ti_layout.specs.Sizes.{HasSizes, at_most_max}
 use Rattle.ti_layout.specs.Values.{Contents}
 use Rattle.ti_layout.proofs.Below.{length-below}
 use Rattle.ti_layout.proofs.ImageReading.{Sound, sections-sound, counts}

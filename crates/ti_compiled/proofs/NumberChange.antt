@@ -7,7 +7,7 @@ use Rattle.ti_layout.specs.declared.layout.Format.TheVariants.{Legacy, Extended}
 use Rattle.ti_layout.specs.declared.header.Header.{Header}
 use Rattle.ti_layout.specs.Image.{image, below, format_of, is_there, image_limit, number_value, of_kind, offsets_below, texts_below, written_count}
 use Rattle.ti_layout.specs.Layout.{absent_mark, header, number_bytes, number_section, width}
-use Rattle.ti_layout.specs.inside.Writing.{HasSizes, at_most_max}
+use Rattle.ti_layout.specs.Sizes.{HasSizes, at_most_max}
 use Rattle.ti_layout.specs.Values.{Content, content_true, content_number, content_text, content_cancelled, Contents, AgreesIfSome}
 use Rattle.ti_layout.proofs.Assembling.{header_written}
 use Rattle.ti_layout.proofs.Below.{length-below, get_or-below, last_passing-is}

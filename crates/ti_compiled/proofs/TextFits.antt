@@ -6,7 +6,7 @@ use Rattle.ti_layout.specs.declared.layout.Format.{Format}
 use Rattle.ti_layout.specs.declared.header.Header.{Header}
 use Rattle.ti_layout.specs.Image.{image, format_of, is_there, image_limit, of_kind, text_piece, texts_below, written_count}
 use Rattle.ti_layout.specs.Layout.{width}
-use Rattle.ti_layout.specs.inside.Writing.{HasSizes}
+use Rattle.ti_layout.specs.Sizes.{HasSizes}
 use Rattle.ti_layout.proofs.Sizes.{limit-le}
 use Rattle.ti_compiled.specs.inside.Changes.{text_content}
 use Rattle.ti_compiled.specs.Image.{with_content}

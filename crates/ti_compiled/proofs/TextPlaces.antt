@@ -10,7 +10,7 @@ use Rattle.ti_layout.specs.Image.{image, image_in, below, even_gap, flags_below,
 use Rattle.ti_layout.specs.Layout.{header, number_section, width}
 use Rattle.ti_layout.specs.Laws.{without_cancel}
 use Rattle.ti_layout.specs.Reading.{word_at}
-use Rattle.ti_layout.specs.inside.Writing.{HasSizes}
+use Rattle.ti_layout.specs.Sizes.{HasSizes}
 use Rattle.ti_layout.specs.Values.{Content, content_true, content_number, content_text, content_cancelled, Contents, AgreesIfSome}
 use Rattle.ti_layout.proofs.Below.{length-below}
 use Rattle.ti_layout.proofs.Parts.{length-header}

@@ -6,7 +6,7 @@ use Rattle.ti_caps.specs.declared.capability.Kind.TheVariants.{Text}
 use Rattle.ti_layout.specs.declared.header.Header.{Header}
 use Rattle.ti_layout.specs.Image.{is_there, of_kind, text_piece, texts_below, written_count}
 use Rattle.ti_layout.specs.Reading.{word_at}
-use Rattle.ti_layout.specs.inside.Writing.{HasSizes, at_most_max}
+use Rattle.ti_layout.specs.Sizes.{HasSizes, at_most_max}
 use Rattle.ti_layout.specs.Values.{Contents}
 use Rattle.ti_layout.proofs.Below.{last_passing-le}
 use Rattle.ti_layout.proofs.Texts.{texts-more, length-texts-le}

@@ -8,7 +8,7 @@ use Rattle.ti_layout.specs.declared.layout.Format.TheVariants.{Legacy}
 use Rattle.ti_layout.specs.declared.header.Header.{Header}
 use Rattle.ti_layout.specs.Image.{image, below, image_limit, of_kind, offset_value, text_piece, texts_below, written_count}
 use Rattle.ti_layout.specs.Layout.{header, number_section}
-use Rattle.ti_layout.specs.inside.Writing.{HasSizes}
+use Rattle.ti_layout.specs.Sizes.{HasSizes}
 use Rattle.ti_layout.specs.Values.{Content, content_true, content_number, content_text, content_cancelled, Contents, AgreesIfSome}
 use Rattle.ti_layout.proofs.Assembling.{header_written}
 use Rattle.ti_layout.proofs.Below.{below-same}

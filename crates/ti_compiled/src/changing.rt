@@ -1,6 +1,6 @@
 //! An image in which one capability is changed: what the three kinds have in common.
 ghost use Rattle.std.specs.Prelude.{◌≤◌, ◌↔◌, ◌≡◌, IsErrOf, OnErr, OnOk, length, vec_capacity};
-ghost use Rattle.ti_layout.specs.inside.Writing.{HasSizes};
+ghost use Rattle.ti_layout.specs.Sizes.{HasSizes};
 ghost use Rattle.ti_compiled.specs.Image.{with_content};
 ghost use Rattle.ti_compiled.specs.inside.Changes.{image_with, BytesAreOverWith, BytesFitWith};
 ghost use Rattle.ti_compiled.specs.inside.Image.{names_in, contents_in, IsImage};
@@ -13,7 +13,7 @@ pub(crate) trait Change {
     ghost use Rattle.std.specs.Prelude.{◌≤◌, ◌≡◌, ℕ, List, Option, length, vec_capacity};
     ghost use Rattle.ti_caps.specs.Tables.{Capability};
     ghost use Rattle.ti_layout.specs.Values.{Content};
-    ghost use Rattle.ti_layout.specs.inside.Writing.{HasSizes};
+    ghost use Rattle.ti_layout.specs.Sizes.{HasSizes};
     ghost use Rattle.ti_compiled.specs.Image.{with_content};
     ghost use Rattle.ti_compiled.specs.inside.Changes.{image_with, BytesFitWith};
     ghost use Rattle.ti_compiled.specs.inside.Image.{names_in, contents_in, IsImage};

@@ -6,7 +6,7 @@ ghost use Rattle.std.specs.Prelude.{◌≡◌, ◌≢◌, ℕ, suc, ◌<◌, ◌
 ghost use Rattle.ti_caps.specs.Tables.{capability, count_of};
 ghost use Rattle.ti_caps.specs.declared.capability.Kind.TheVariants.{Flag};
 ghost use Rattle.ti_layout.specs.Image.{image, flag_value};
-ghost use Rattle.ti_layout.specs.inside.Writing.{HasSizes};
+ghost use Rattle.ti_layout.specs.Sizes.{HasSizes};
 ghost use Rattle.ti_compiled.specs.inside.Changes.{image_with, BytesFitWith, BytesAreOverWith, flag_content};
 ghost use Rattle.ti_compiled.specs.Image.{with_content};
 ghost use Rattle.ti_compiled.specs.inside.Image.{names_in, contents_in, IsImage};

@@ -20,7 +20,4 @@ mod patching;
 mod texts;
 
 pub use image::Image;
-pub use ti_layout::{
-    Mentions, ReadError, Table, Value, View, WriteError, images_are_of_values, images_are_read,
-    one_reading, write,
-};
+pub use ti_layout::{Mentions, ReadError, Table, Value, View, WriteError, write};

@@ -9,7 +9,7 @@ ghost use Rattle.ti_caps.specs.declared.capability.Kind.TheVariants.{Number};
 ghost use Rattle.ti_layout.specs.Image.{image, below, format_of};
 ghost use Rattle.ti_layout.specs.Layout as layout;
 ghost use Rattle.ti_layout.specs.Layout.{number_section, number_bytes};
-ghost use Rattle.ti_layout.specs.inside.Writing.{HasSizes};
+ghost use Rattle.ti_layout.specs.Sizes.{HasSizes};
 ghost use Rattle.ti_layout.specs.Values.{Contents};
 ghost use Rattle.ti_compiled.specs.inside.Changes.{image_with, BytesFitWith, BytesAreOverWith, number_content, wide_value, with_number, HasNumbers};
 ghost use Rattle.ti_compiled.specs.inside.Image.{names_in, contents_in, IsImage};

@@ -10,7 +10,7 @@ ghost use Rattle.ti_layout.specs.Image.{image, below, texts_below};
 ghost use Rattle.ti_layout.specs.Layout as layout;
 ghost use Rattle.ti_layout.specs.Layout.{number_section};
 ghost use Rattle.ti_layout.specs.Reading.{word_at};
-ghost use Rattle.ti_layout.specs.inside.Writing.{HasSizes};
+ghost use Rattle.ti_layout.specs.Sizes.{HasSizes};
 ghost use Rattle.ti_compiled.specs.inside.Changes.{image_with, BytesFitWith, BytesAreOverWith, text_lent};
 ghost use Rattle.ti_compiled.specs.Image.{with_content};
 ghost use Rattle.ti_compiled.specs.inside.Image.{names_in, contents_in, IsImage};

@@ -6,7 +6,7 @@ use Rattle.ti_layout.specs.declared.layout.Format.TheVariants.{Legacy}
 use Rattle.ti_layout.specs.declared.header.Header.{Header}
 use Rattle.ti_layout.specs.Layout.{entry_size, header, limit, number_section}
 use Rattle.ti_layout.specs.Image.{image, image_in, image_limit, format_of, even_gap, flags_below, numbers_below, offsets_below, texts_below, written_count}
-use Rattle.ti_layout.specs.inside.Writing.{HasSizes, HasSizesIn, at_most_max}
+use Rattle.ti_layout.specs.Sizes.{HasSizes, HasSizesIn, at_most_max}
 use Rattle.ti_layout.specs.Values.{Contents}
 use Rattle.ti_layout.proofs.Below.{length-below}
 use Rattle.ti_layout.proofs.Sizes.{image-is, length-image_in, limit-le, strings_small_in}

@@ -13,7 +13,7 @@ use Rattle.ti_layout.specs.declared.values.Value.TheVariants.{True, Cancelled}
 use Rattle.ti_layout.specs.declared.values.Value.TheVariants as v
 use Rattle.ti_layout.specs.Values.{Content, content_true, content_number, content_text, content_cancelled, Mention, IsSorted, contents, content_of, entries_of}
 use Rattle.ti_layout.specs.Image.{is_wide, format_of, of_kind, texts_below}
-use Rattle.ti_layout.specs.inside.Writing.{HasSizesIn, at_most_max}
+use Rattle.ti_layout.specs.Sizes.{HasSizesIn, at_most_max}
 use Rattle.ti_layout.proofs.Below.{some_below-true, some_below-false}
 use Rattle.ti_layout.proofs.Texts.{texts-none}
 use Rattle.ti_layout.proofs.Walked.{Walked, is_of, stands, contents_read, kind_at, walked-start, walked-end, next_text, item_read}

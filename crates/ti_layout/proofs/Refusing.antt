@@ -7,7 +7,7 @@ use Rattle.ti_layout.specs.declared.fault.ReadError.TheVariants.{Short, Magic, C
 use Rattle.ti_layout.specs.declared.sections.Sections.{Sections}
 use Rattle.ti_layout.specs.Layout.{cancelled_mark, magic, first_negative}
 use Rattle.ti_layout.specs.Reading.{IsStoredNumber, format_in, names_section, flags_section, numbers_section, strings_section, HasBadCount, HasBadNames, HasBadFlag, HasBadNumber, HasBadOffset, HasReadFault, FailsToRead, rank}
-use Rattle.ti_layout.specs.inside.Sections.{AreNames, AreFlags, AreStoredNumbers, IsCutIntoSections}
+use Rattle.ti_layout.specs.Sections.{AreNames, AreFlags, AreStoredNumbers, IsCutIntoSections}
 
 known_magic : (w : Format) (n : ℕ) → n ≡ magic w → n ≢ magic Legacy → n ≢ magic Extended → ⊥
 known_magic Legacy n e f g = f e

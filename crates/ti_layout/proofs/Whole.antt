@@ -8,7 +8,7 @@ use Rattle.ti_layout.specs.Layout.{Sections, header, entry_bytes, magic, number_
 use Rattle.ti_layout.specs.Reading.{word_at, number_at, count_in, numbers_in, AreSound, IsStoredNumber, IsOffset, Reads, contents_of, format_in, names_size, flag_count}
 use Rattle.ti_layout.specs.Reading.{number_count, text_count, strings_size, flags_begin, numbers_begin, offsets_begin, strings_begin, entry_end, names_section}
 use Rattle.ti_layout.specs.Reading.{flags_section, numbers_section, offsets_section, strings_section}
-use Rattle.ti_layout.specs.inside.Sections.{AreNames, AreFlags, AreStoredNumbers, AreOffsets, EachNumber}
+use Rattle.ti_layout.specs.Sections.{AreNames, AreFlags, AreStoredNumbers, AreOffsets, EachNumber}
 use Rattle.ti_layout.specs.inside.View.{OffsetsEnd}
 use Rattle.ti_layout.proofs.Below.{length-below, get_or-below}
 use Rattle.ti_layout.proofs.Spelled.{IsBytes, part-number, spelled-again, length-numbers_in}

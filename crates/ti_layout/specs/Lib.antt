@@ -2,6 +2,8 @@ pub mod Values
 pub mod Layout
 pub mod Image
 pub mod Reading
+pub mod Sections
+pub mod Sizes
 pub mod inside
 pub mod View
 pub mod ViewParts

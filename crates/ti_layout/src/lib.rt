@@ -15,7 +15,7 @@
 
 mod fault;
 mod header;
-mod laws;
+pub mod laws;
 mod layout;
 mod mentions;
 mod merging;
@@ -27,7 +27,6 @@ mod writing;
 
 pub use fault::ReadError;
 pub use header::{HEADER_SIZE, Header};
-pub use laws::{images_are_of_values, images_are_read, images_in_formats_are_read, one_reading};
 pub use layout::{ABSENT_BYTE, ABSENT_NUMBER, ABSENT_WORD, Format, number, word, word_bytes};
 pub use mentions::Mentions;
 pub use sections::{are_flags, are_numbers, are_offsets};

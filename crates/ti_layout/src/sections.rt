@@ -2,7 +2,7 @@
 ghost use Rattle.std.specs.Prelude.{◌≡◌, ◌<◌, length, MatchBool, IfOk, IfErr};
 ghost use Rattle.ti_layout.specs.Layout as layout;
 ghost use Rattle.ti_layout.specs.Reading.{FailsToRead, HasBadNames, HasBadFlag, HasBadNumber, HasBadOffset};
-ghost use Rattle.ti_layout.specs.inside.Sections.{HasHeader, IsCutIntoSections, AreNames, AreFlags, AreStoredNumbers, AreOffsets};
+ghost use Rattle.ti_layout.specs.Sections.{HasHeader, IsCutIntoSections, AreNames, AreFlags, AreStoredNumbers, AreOffsets};
 
 use crate::fault::ReadError;
 use crate::header::{HEADER_SIZE, Header};

@@ -10,7 +10,7 @@ ghost use Rattle.ti_layout.specs.Image.{is_wide as is_wide_content};
 ghost use Rattle.ti_layout.specs.Image.{image, image_in, format_of, image_limit, written_count, flags_below, numbers_below, texts_below, offsets_below, HasNoNul};
 ghost use Rattle.ti_layout.specs.Layout as layout;
 ghost use Rattle.ti_layout.specs.Layout.{FitsTwoBytes, number_section, number_bytes};
-ghost use Rattle.ti_layout.specs.inside.Writing.{HasSizes, HasSizesIn};
+ghost use Rattle.ti_layout.specs.Sizes.{HasSizes, HasSizesIn};
 ghost use Rattle.ti_layout.specs.Values.{contents, content_of, entries_of, IsSorted};
 ghost use Rattle.ti_layout.specs.declared.writing.WriteError.TheVariants.{Memory};
 

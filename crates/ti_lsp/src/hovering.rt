@@ -12,7 +12,7 @@ ghost use Rattle.ti_lsp.specs.Hovers.{about_told, capabilities_told, capability_
 
 use lsp_descriptions::{detail_of, documentation_of};
 use lsp_document::{Diagnostic, Document};
-use lsp_features::{About, Entry, Holding, Meaning, Source, hover_of};
+use lsp_features::{About, DecidingBlock, Entry, Holding, Meaning, hover_of};
 use lsp_messages::answers::hover_value;
 use lsp_types::Position;
 use serde_json::Value;
@@ -191,7 +191,7 @@ fn push_capabilities(text: &mut String, capabilities: &[Cap]) -> Result<(), Allo
 }
 
 // Adds a line with a block, and the capabilities that it decides.
-fn push_source(text: &mut String, source: &Source) -> Result<(), AllocError>
+fn push_source(text: &mut String, source: &DecidingBlock) -> Result<(), AllocError>
     ensures { OnOk result (string_bytes text.new ≡ string_bytes text.old ++ source_told (source_seen source.now)) }
 {
     text.push_str("\nFrom ")?;
@@ -201,7 +201,7 @@ fn push_source(text: &mut String, source: &Source) -> Result<(), AllocError>
 }
 
 // Adds a line for each block.
-fn push_sources(text: &mut String, sources: &[Source]) -> Result<(), AllocError>
+fn push_sources(text: &mut String, sources: &[DecidingBlock]) -> Result<(), AllocError>
     ensures { OnOk result (string_bytes text.new ≡ string_bytes text.old ++ sources_told (map source_seen sources.now)) }
 {
     for source in sources {
@@ -215,7 +215,7 @@ fn name_told(
     alloc: Global,
     name: &str,
     entry: &Entry,
-    sources: &[Source],
+    sources: &[DecidingBlock],
 ) -> Result<String, AllocError>
     ensures { IfOk result (λ told. string_bytes told ≡ name.now ++ codes ": " ++ entry_told (entry_seen entry.now) ++ sources_told (map source_seen sources.now)) }
 {

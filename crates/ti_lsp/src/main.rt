@@ -16,7 +16,7 @@ mod terminfo;
 
 use crate::command::{Task, asked};
 use crate::terminfo::Terminfo;
-use lsp_frames::FrameFault;
+use lsp_frames::FrameError;
 use lsp_server::{Server, serve};
 use std::process::ExitCode;
 use std::rt::Env;
@@ -59,7 +59,7 @@ fn serve_input<R: Input + Print + AllocGlobal>(rt: &R) -> u8 {
 }
 
 // Answers what comes on standard input, read with a buffer.
-fn serve_buffered<R: Input + Print + AllocGlobal>(rt: &R) -> Result<u8, FrameFault> {
+fn serve_buffered<R: Input + Print + AllocGlobal>(rt: &R) -> Result<u8, FrameError> {
     let mut server: Server<Terminfo> = Server::new(rt.alloc());
     let mut reader = io::BufReader::new(rt.alloc(), rt.reader())?;
     let mut writer = io::writer(rt);

@@ -11,7 +11,7 @@ use crate::renaming::{renamable, renamed};
 use lsp_document::{Diagnostic, Document, offset_of};
 use lsp_messages::writing::diagnostic_value;
 use lsp_messages::{Question, Reply};
-use lsp_server::Source;
+use lsp_server::HeldText;
 use lsp_types::Position;
 use serde_json::Value;
 use std::alloc::{AllocError, Global};
@@ -42,7 +42,7 @@ fn values_of(alloc: Global, all: &[Diagnostic]) -> Result<Vec<Value>, AllocError
     Ok(values)
 }
 
-impl Source for Terminfo {
+impl HeldText for Terminfo {
     ghost use Rattle.lsp_document.specs.Position.{offset_of as place_of};
     ghost use Rattle.ti_lsp.specs.Answers.{sayings};
     ghost use Rattle.ti_lsp.specs.Floats.{sayings_have_no_floats};

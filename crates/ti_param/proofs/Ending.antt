@@ -8,7 +8,7 @@ use Rattle.ti_param.specs.inside.Formats.{stuck_place, tree_of}
 use Rattle.ti_param.specs.Meaning.{FormatArgument, MachineState, start, meaning}
 use Rattle.ti_param.specs.Expansion.{Expands, Overflows}
 use Rattle.ti_param.specs.inside.Expansion.{HasOutcome, IsStuckError}
-use Rattle.ti_param.proofs.Laws.{is_computed}
+use Rattle.ti_param.proofs.OneTree.{is_computed}
 
 -- the tree of a format that is not stuck
 whole : (format : List ℕ) → stuck_place format ≡ None → IsTree format (tree_of format)

@@ -1,7 +1,7 @@
 pub mod Accepting
 pub mod Ending
 pub mod Fronts
-pub mod Laws
+pub mod OneTree
 pub mod Lexing
 pub mod Numbers
 pub mod Parsing

@@ -27,14 +27,13 @@ mod decimals;
 mod directives;
 mod errors;
 mod expansion;
+pub mod laws;
 mod lexer;
 mod machine;
 mod reader;
 mod values;
 
-pub use acceptor::one_reading;
 pub use errors::ParamError;
 pub use expansion::expand;
-pub use reader::one_code;
 pub use ti_printing::{Line, PadError, pad, pad_owned};
 pub use values::{LETTERS, Statics, Value};

@@ -6,9 +6,8 @@
 //! - `laws`: that a text has one cut, and a number one numeral
 #![tactic(auto)]
 
-mod laws;
+pub mod laws;
 pub mod padding;
 pub mod printf;
 
-pub use laws::{one_cut, one_numeral};
 pub use padding::{Line, PadError, pad, pad_owned};

@@ -11,7 +11,8 @@ use Rattle.ti_source.specs.Folding.{PlacedByte}
 use Rattle.ti_source.specs.Items.{HasNoComma, Begins, all_field, field_and_rest, takes, stands_alone, AreItems, last_item, item_ends, pair_of_bytes, single_byte}
 use Rattle.ti_source.specs.Items.{is_mark, HasNoMark, IsWhite, IsEnabled, States, empty_item, disabled_item, number_item, text_item, cancel_item, flag_item, Statement}
 use Rattle.ti_source.specs.Items.{claims_flag, claims_number, claims_text, claims_cancel}
-use Rattle.ti_source.specs.inside.Items.{field_of, after_field, escape_after, cuts, with_first, items_of, before_mark, from_mark, without_last, plain_statement, statement_with_value, statement_by_mark, statement_of}
+use Rattle.ti_source.specs.inside.Items.{field_of, after_field, escape_after, cuts, with_first, items_of}
+use Rattle.ti_source.specs.Stating.{before_mark, from_mark, without_last, plain_statement, statement_with_value, statement_by_mark, statement_of}
 use Rattle.ti_source.proofs.ItemLemmas.{items_of-plain}
 use Rattle.ti_source.proofs.TextLemmas.{kept_before, kept_before-visible, without_end, trimmed-is, last_byte-push, without_last-push}
 

@@ -7,12 +7,14 @@ use Rattle.ti_source.specs.inside.Header.{header_names}
 use Rattle.ti_source.specs.Folding.{PlacedByte}
 use Rattle.ti_source.specs.inside.Folding.{folding_of}
 use Rattle.ti_source.specs.Items.{Statement, States, bytes, piece_of}
-use Rattle.ti_source.specs.inside.Items.{field_of, after_field, items_of, statement_of}
+use Rattle.ti_source.specs.inside.Items.{field_of, after_field, items_of}
+use Rattle.ti_source.specs.Stating.{statement_of}
 use Rattle.ti_source.specs.Reading.{ReadItem, ReadFault, Reading}
 use Rattle.ti_source.specs.Verdicts.{Verdict}
 use Rattle.ti_source.specs.Judging.{Judged, IsJudged, item_ignored, item_judged, AreJudged, no_item, item_and_rest, items_from, faults_from, names_found, header_faults, reading_by}
 use Rattle.ti_source.specs.Parsing.{Parses, reading_of_text, HasReading, BlocksHaveOneReading}
-use Rattle.ti_source.specs.inside.Parsing.{judged_as, judged_of, ReadsField, AddsItems, block_field, block_items}
+use Rattle.ti_source.specs.inside.Parsing.{judged_as, judged_of, ReadsField, AddsItems, block_field}
+use Rattle.ti_source.specs.Walking.{block_items}
 use Rattle.ti_source.specs.inside.Verdicts.{verdict_of}
 use Rattle.ti_source.proofs.FoldingLaws.{folds_computed, only_folded}
 use Rattle.ti_source.proofs.HeaderLemmas.{each_header, one_header}

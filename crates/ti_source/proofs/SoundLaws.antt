@@ -27,11 +27,13 @@ use Rattle.ti_spelling.specs.Spelling.{SpellsAs, ValuesAreSound}
 use Rattle.ti_source.specs.Folding.{PlacedByte}
 use Rattle.ti_source.specs.inside.Folding.{bytes_on_lines, in_comment, without_comments, without_breaks, folding_of}
 use Rattle.ti_source.specs.Items.{Claim, Statement, bytes, without_front, line_of, piece_of}
-use Rattle.ti_source.specs.inside.Items.{after_field, escape_after, cuts, with_first, items_of, statement_of}
+use Rattle.ti_source.specs.inside.Items.{after_field, escape_after, cuts, with_first, items_of}
+use Rattle.ti_source.specs.Stating.{statement_of}
 use Rattle.ti_source.specs.Reading.{ReadItem, ReadFault}
 use Rattle.ti_source.specs.Judging.{Judged, items_at, faults_at, items_from, faults_from, names_found, header_faults}
 use Rattle.ti_source.specs.Parsing.{reading_of_text}
-use Rattle.ti_source.specs.inside.Parsing.{judged_as, judged_of, block_field, block_items}
+use Rattle.ti_source.specs.inside.Parsing.{judged_as, judged_of, block_field}
+use Rattle.ti_source.specs.Walking.{block_items}
 use Rattle.ti_source.specs.inside.Verdicts.{read_claim, verdict_of}
 use Rattle.ti_text.specs.Limits.{names_max}
 use Rattle.ti_source.specs.Verdicts.{Verdict, accepted, accepted_odd, refused, is_import, ReadClaim, IsReadAs, flag_read, number_read_as, text_read_as, cancel_read, number_verdict, text_verdict, fitting_verdict, named_verdict, items_by, faults_by, header_fault}

@@ -7,7 +7,7 @@ use Rattle.ti_text.specs.WhiteSpace.{is_white_space}
 use Rattle.ti_source.specs.WhiteSpace.{without_trailing_space}
 use Rattle.ti_source.specs.Cutting.{last_byte}
 use Rattle.ti_source.specs.Items.{is_mark}
-use Rattle.ti_source.specs.inside.Items.{before_mark, from_mark, without_last, plain_statement, statement_with_value, statement_by_mark, statement_of}
+use Rattle.ti_source.specs.Stating.{before_mark, from_mark, without_last, plain_statement, statement_with_value, statement_by_mark, statement_of}
 
 -- a text with one more byte at its front, if that is not white space before nothing
 abbrev pub kept_before : ℕ → List ℕ → List ℕ

@@ -13,4 +13,5 @@ pub mod Judging
 pub mod Parsing
 pub mod Sound
 pub mod Walking
+pub mod Stating
 pub mod inside

@@ -10,7 +10,8 @@ use Rattle.ti_source.specs.Folding.{PlacedByte, Folds}
 use Rattle.ti_source.specs.Items.{Begins, AreItems, bytes}
 use Rattle.ti_source.specs.Reading.{Reading}
 use Rattle.ti_source.specs.inside.Header.{header_names}
-use Rattle.ti_source.specs.inside.Parsing.{block_field, block_items, judged_of}
+use Rattle.ti_source.specs.inside.Parsing.{block_field, judged_of}
+use Rattle.ti_source.specs.Walking.{block_items}
 
 -- how a block is read: its folded text is a names field and a rest, the rest is items, and each
 -- item is judged by itself

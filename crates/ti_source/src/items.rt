@@ -3,7 +3,8 @@ ghost use Rattle.std.specs.Prelude.{◌≡◌, ◌+◌, ◌<◌, ◌≤◌, IfOk
 ghost use Rattle.memchr.specs.Find.{IsFirstByte};
 ghost use Rattle.std.specs.Option.{option_map_or};
 ghost use Rattle.ti_source.specs.Items.{bytes, is_mark, item_piece, without_outer_space};
-ghost use Rattle.ti_source.specs.inside.Items.{escape_after, cuts, field_of, after_field, PassesRun, ReadsOn, TakesItem, EndsItem, IsWholeItem, with_byte, statement_seen, statement_of, statement_with_value, plain_statement};
+ghost use Rattle.ti_source.specs.inside.Items.{escape_after, cuts, field_of, after_field, PassesRun, ReadsOn, TakesItem, EndsItem, IsWholeItem, with_byte};
+ghost use Rattle.ti_source.specs.Stating.{statement_seen, statement_of, statement_with_value, plain_statement};
 
 use crate::folding::Folded;
 use crate::white_space::trim_end;

@@ -7,6 +7,7 @@ ghost use Rattle.ti_source.specs.Parsing.{BlocksHaveOneReading, HasReading};
 ghost use Rattle.ti_source.specs.Sound.{EachIsWellRead};
 
 use ti_caps::{Kind, count};
+pub use ti_spelling::laws::{one_outcome, written_spells};
 
 /// Each source has a cut.
 pub fn each_has_cut()

@@ -22,7 +22,7 @@ mod folding;
 mod header;
 mod heads;
 mod items;
-mod laws;
+pub mod laws;
 mod numbers;
 mod parsing;
 mod sharing;
@@ -35,14 +35,9 @@ pub use code::Code;
 pub use cutting::{blocks, is_block};
 pub use header::{is_lookup_name, lookup_names};
 pub use items::{Claim, RawItem, Statement, statement_of, strip};
-pub use laws::{
-    blocks_are_single, blocks_are_single_once_ended, each_has_cut, each_header_is_read,
-    each_is_well_read, each_number_is_read, headers_have_one_reading, numbers_have_one_reading,
-    numerals_have_one_value, one_cut, one_folding, one_reading,
-};
 pub use numbers::{NumberError, read_number};
 pub use parsing::{Item, Local, Parsed, What, parse, parse_sharing};
 pub use sharing::SharedTexts;
 pub use statements::ItemWalk;
-pub use ti_spelling::{UnescapeError, Unescaped, escape, one_outcome, unescape, written_spells};
+pub use ti_spelling::{UnescapeError, Unescaped, escape, unescape};
 pub use walk::Blocks;

@@ -12,7 +12,7 @@ use crate::code::Code;
 use crate::folding::Folded;
 use crate::header::read_names;
 use crate::items::{read_field, read_item, statement_of};
-use crate::laws::{each_is_well_read, one_reading};
+use crate::laws;
 use crate::sharing::SharedTexts;
 use crate::verdicts::{Verdict, judge};
 use std::alloc::{AllocError, Global};
@@ -99,8 +99,8 @@ pub fn parse_sharing(
     ensures sound { IfOk result (λ p. IsWellRead block.now (reading_of p)) }
 {
     // Laws, with no code: they give the clauses `reading` and `sound` of what is computed.
-    one_reading();
-    each_is_well_read();
+    laws::one_reading();
+    laws::each_is_well_read();
     let mut source = Folded::new(block);
     let field = read_field(alloc, &mut source)?;
     let mut parsed = read_header(alloc, field)?;

@@ -2,7 +2,7 @@
 ghost use Rattle.std.specs.Prelude.{◌≡◌, ◌+◌, ◌≤◌, IfOk, length, option_map};
 ghost use Rattle.std.specs.Option.{option_map_or};
 ghost use Rattle.ti_source.specs.Items.{item_piece};
-ghost use Rattle.ti_source.specs.inside.Parsing.{block_items};
+ghost use Rattle.ti_source.specs.Walking.{block_items};
 ghost use Rattle.ti_source.specs.Walking.{TakesNext};
 
 use crate::folding::Folded;

@@ -1,6 +1,6 @@
 //! What comes of what an item states.
 ghost use Rattle.std.specs.Prelude.{◌≡◌, IfOk};
-ghost use Rattle.ti_source.specs.inside.Items.{statement_seen};
+ghost use Rattle.ti_source.specs.Stating.{statement_seen};
 ghost use Rattle.ti_source.specs.inside.Numbers.{number_read};
 ghost use Rattle.ti_source.specs.Verdicts.{number_verdict, text_verdict};
 ghost use Rattle.ti_source.specs.inside.Verdicts.{verdict_seen, verdict_of};

@@ -7,10 +7,9 @@
 //! - `laws`: a text has one value or one first fault, and what is written spells its bytes
 #![tactic(auto)]
 
-mod laws;
+pub mod laws;
 mod spelling;
 mod writing;
 
-pub use laws::{one_outcome, written_spells};
 pub use spelling::{UnescapeError, Unescaped, unescape, unescape_into};
 pub use writing::{MOST_ESCAPED, escape, push_escaped, write_escaped};

@@ -9,12 +9,11 @@
 //! - `white_space`: the white space of the source format
 #![tactic(auto)]
 
-mod laws;
+pub mod laws;
 pub mod limits;
 mod lines;
 pub mod room;
 mod white_space;
 
-pub use laws::lines_add;
 pub use lines::count_lines;
 pub use white_space::is_white_space;

@@ -11,7 +11,6 @@ ghost use Rattle.tools_devices.specs.Placing.{entries};
 use std::alloc::{AllocError, Global};
 use std::rc::RcSlice;
 use ti_base::{Database, distinct_names};
-use ti_source::one_reading;
 use tools_devices::{File, entry_path};
 
 // Whether the name belongs to the block at that position.
@@ -80,7 +79,7 @@ fn add_block(
         ≡ entries files.old.items ++ files_at dir.now database.now at text) }
 {
     // A law, with no code: each block is read, so its names are ASCII.
-    one_reading();
+    ti_source::laws::one_reading();
     let Some(image) = database.compiled(at) else {
         return Ok(());
     };

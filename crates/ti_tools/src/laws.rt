@@ -8,3 +8,4 @@ pub use tools_relisting::{
     parts_are_read, relative_sources_compile_back, relatives_compile,
     runs_of_listings_compile_back, several_listings_compile_back, sources_have_entries,
 };
+pub use tools_sources::laws::sources_have_one_refusal;

@@ -32,5 +32,4 @@ pub use tools_devices::{
     place, places,
 };
 pub use tools_session::session;
-pub use tools_sources::sources_have_one_refusal;
 pub use tools_tput::{TputOutcome, tput, tput_lines};

@@ -3,16 +3,14 @@ ghost use Rattle.tools_relisting.specs.Entries.{EntriesOfSources, RelativeSource
 
 use crate::reading_back::parts_are_blocks;
 use crate::relisting::{listings_compile, relatives_compile};
-use ti_caps::each_kind_is_in_order;
-use ti_layout::{images_are_of_values, images_are_read, one_reading as entries_have_one_reading};
-use ti_source::{blocks_are_single, each_is_well_read, one_outcome, one_reading};
+use ti_layout::one_reading as entries_have_one_reading;
 
 /// Each entry of a source of bytes that is empty or ends with a newline is a compiled entry as the
 /// other laws ask for.
 pub fn sources_have_entries()
     ensures { EntriesOfSources }
 {
-    blocks_are_single();
+    ti_source::laws::blocks_are_single();
 }
 
 /// The listing of a compiled entry, in any layout, is a source of one block, which compiles to the
@@ -20,12 +18,12 @@ pub fn sources_have_entries()
 pub fn listings_compile_back()
     ensures { Relisting }
 {
-    each_kind_is_in_order();
-    one_outcome();
-    one_reading();
-    each_is_well_read();
-    images_are_of_values();
-    images_are_read();
+    ti_caps::laws::each_kind_is_in_order();
+    ti_source::laws::one_outcome();
+    ti_source::laws::one_reading();
+    ti_source::laws::each_is_well_read();
+    ti_layout::laws::images_are_of_values();
+    ti_layout::laws::images_are_read();
     entries_have_one_reading();
     parts_are_blocks();
     listings_compile();
@@ -36,12 +34,12 @@ pub fn listings_compile_back()
 pub fn several_listings_compile_back()
     ensures { Relistings }
 {
-    each_kind_is_in_order();
-    one_outcome();
-    one_reading();
-    each_is_well_read();
-    images_are_of_values();
-    images_are_read();
+    ti_caps::laws::each_kind_is_in_order();
+    ti_source::laws::one_outcome();
+    ti_source::laws::one_reading();
+    ti_source::laws::each_is_well_read();
+    ti_layout::laws::images_are_of_values();
+    ti_layout::laws::images_are_read();
     entries_have_one_reading();
     parts_are_blocks();
     listings_compile();
@@ -53,12 +51,12 @@ pub fn several_listings_compile_back()
 pub fn relative_sources_compile_back()
     ensures { RelativeSource }
 {
-    each_kind_is_in_order();
-    one_outcome();
-    one_reading();
-    each_is_well_read();
-    images_are_of_values();
-    images_are_read();
+    ti_caps::laws::each_kind_is_in_order();
+    ti_source::laws::one_outcome();
+    ti_source::laws::one_reading();
+    ti_source::laws::each_is_well_read();
+    ti_layout::laws::images_are_of_values();
+    ti_layout::laws::images_are_read();
     entries_have_one_reading();
     parts_are_blocks();
     relatives_compile();

@@ -2,16 +2,14 @@
 ghost use Rattle.tools_relisting.specs.Relisting.{ListingsCompile, RelativesCompile};
 
 use crate::reading_back::parts_are_read;
-use ti_caps::each_kind_is_in_order;
-use ti_layout::images_are_of_values;
 
 /// The listing of a names field and contents that a source can give, in any layout, compiles to
 /// their image, in whatever source it is.
 pub fn listings_compile()
     ensures { ListingsCompile }
 {
-    each_kind_is_in_order();
-    images_are_of_values();
+    ti_caps::laws::each_kind_is_in_order();
+    ti_layout::laws::images_are_of_values();
     parts_are_read();
 }
 
@@ -21,7 +19,7 @@ pub fn listings_compile()
 pub fn relatives_compile()
     ensures { RelativesCompile }
 {
-    each_kind_is_in_order();
-    images_are_of_values();
+    ti_caps::laws::each_kind_is_in_order();
+    ti_layout::laws::images_are_of_values();
     parts_are_read();
 }

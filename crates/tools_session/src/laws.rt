@@ -1,6 +1,8 @@
 //! What the definition of a session leaves open: only when memory is refused.
 ghost use Rattle.tools_session.specs.ScriptLaws.{OneAnswer, OneOutput};
 
+pub use tools_devices::laws::one_split;
+
 /// A line leads from a state to one state, with one reply, unless memory is refused.
 pub fn one_answer()
     ensures { OneAnswer }

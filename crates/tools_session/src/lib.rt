@@ -9,11 +9,10 @@
 #![tactic(auto)]
 
 mod editor;
-mod laws;
+pub mod laws;
 mod replies;
 mod requests;
 mod streaming;
 
-pub use laws::{one_answer, one_output};
 pub use streaming::session;
-pub use tools_devices::{Counted, ToolError, one_split};
+pub use tools_devices::{Counted, ToolError};

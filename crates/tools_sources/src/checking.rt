@@ -8,9 +8,9 @@ ghost use Rattle.tools_sources.specs.Sources as spec;
 ghost use Rattle.tools_sources.specs.Sources.{AreTaken, IsSourceRefusal, source_texts, with_last_newline};
 
 use crate::source_error::SourceError;
-use ti_source::{blocks, blocks_are_single, each_has_cut};
+use ti_source::blocks;
+use ti_text::count_lines;
 use ti_text::limits::{BLOCK_BYTES_MAX, BLOCKS_MAX};
-use ti_text::{count_lines, lines_add};
 
 /// Whether the last line of a text has its newline; an empty text has no line without one.
 pub fn is_ended(text: &[u8]) -> bool
@@ -39,7 +39,7 @@ pub fn first_line(source: &[u8]) -> usize
     ensures number { result ≡ spec.first_line source.now }
     ensures bound { result ≤ 2 ^ 63 }
 {
-    lines_add();
+    ti_text::laws::lines_add();
     let preface = blocks(source).preface();
     let lines = count_lines(preface);
     if is_ended(preface) {
@@ -65,9 +65,9 @@ pub fn check(source: &[u8]) -> Result<(), SourceError>
     ensures taken { OnOk result (AreTaken (source_texts source.now)) }
     ensures refused { IfErr result (IsSourceRefusal source.now) }
 {
-    each_has_cut();
-    blocks_are_single();
-    lines_add();
+    ti_source::laws::each_has_cut();
+    ti_source::laws::blocks_are_single();
+    ti_text::laws::lines_add();
     let mut cut = blocks(source);
     let mut offset = cut.preface().len();
     let mut count = 0;

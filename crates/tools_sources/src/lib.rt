@@ -7,9 +7,10 @@
 #![tactic(auto)]
 
 mod checking;
+pub mod laws;
 mod loading;
 mod source_error;
 
-pub use checking::{check, ended_texts_end, first_line, is_ended, sources_have_one_refusal};
+pub use checking::{check, first_line, is_ended};
 pub use loading::database_of;
 pub use source_error::SourceError;

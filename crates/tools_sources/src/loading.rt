@@ -12,7 +12,7 @@ use crate::checking::{check, is_ended};
 use crate::source_error::SourceError;
 use std::alloc::{AllocError, Global};
 use ti_base::{Database, Edit, EditError, Outcome, run};
-use ti_source::{blocks, blocks_are_single, each_has_cut};
+use ti_source::blocks;
 
 // The insertions of the blocks of a source, each after those before it.
 fn insertions_of(alloc: Global, source: &[u8]) -> Result<Vec<Edit<'_>>, AllocError>
@@ -47,8 +47,8 @@ fn database_of_ended(alloc: Global, source: &[u8]) -> Result<Database, EditError
     ensures held { IfOk result (λ database. database ≡ source_texts source.now) }
     ensures taken { OnOk result (AreTaken (source_texts source.now)) }
 {
-    each_has_cut();
-    blocks_are_single();
+    ti_source::laws::each_has_cut();
+    ti_source::laws::blocks_are_single();
     let edits = insertions_of(alloc, source)?;
     let (database, outcomes) = run(alloc, &edits)?;
     check_outcomes(&outcomes)?;

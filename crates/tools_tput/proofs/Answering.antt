@@ -17,7 +17,7 @@ use Rattle.ti_param.specs.Formats.{IsStuck}
 use Rattle.ti_param.specs.Meaning.{FormatArgument, MachineOutcome, meaning, start}
 use Rattle.ti_param.specs.inside.Expansion.{Expansion, expanded, bad_format, stack_full, expansion_by, unless_stuck, format_expansion}
 use Rattle.ti_param.specs.inside.Formats.{stuck_place, tree_of}
-use Rattle.ti_param.proofs.Laws.{is_computed}
+use Rattle.ti_param.proofs.OneTree.{is_computed}
 use Rattle.ti_printing.specs.declared.padding.Line.{Line}
 use Rattle.ti_printing.specs.Padding.{AsksForTooMuch}
 use Rattle.ti_printing.specs.inside.Padding.{padding_of, with_pad_bytes}

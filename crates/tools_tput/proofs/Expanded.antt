@@ -9,7 +9,7 @@ use Rattle.ti_param.specs.Formats.{FormatTree, IsTree, IsStuck}
 use Rattle.ti_param.specs.Meaning.{FormatArgument, MachineOutcome, meaning, start}
 use Rattle.ti_param.specs.inside.Expansion.{expanded, bad_format, stack_full, expansion_by, unless_stuck, format_expansion, EndsWith}
 use Rattle.ti_param.specs.inside.Formats.{tree_of}
-use Rattle.ti_param.proofs.Laws.{is_computed}
+use Rattle.ti_param.proofs.OneTree.{is_computed}
 
 module _ (format : List ℕ) (parameters : List FormatArgument) (before : List ℤ) where
   pub expands_computed : (output : List ℕ) (after : List ℤ) → Expands format parameters before output after →

@@ -8,7 +8,7 @@
 
 mod commands;
 mod entries;
-mod laws;
+pub mod laws;
 mod parameters;
 mod replies;
 mod streaming;
@@ -17,6 +17,5 @@ mod words;
 
 pub use commands::tput;
 pub use entries::terminal_line;
-pub use laws::{bad_commands_change_nothing, one_answer};
 pub use replies::TputOutcome;
 pub use streaming::tput_lines;

@@ -5,7 +5,7 @@ use Rattle.std.proofs.lemmas.Bool.{lt-ltb}
 use Rattle.std.specs.Prelude.{All}
 use Rattle.std.proofs.lemmas.List.{drop_at, take_all, take_more, get_or_default, length-map, length-replicate}
 use Rattle.ti_layout.specs.Reading.{IsOffset}
-use Rattle.ti_layout.specs.inside.Sections.{AreOffsets}
+use Rattle.ti_layout.specs.Sections.{AreOffsets}
 use Rattle.user_extension.proofs.Fronts.{length-ended, table_append}
 use Rattle.ti_layout.specs.declared.layout.Format.{Format}
 use Rattle.ti_layout.specs.declared.layout.Format.TheVariants.{Legacy, Extended}

@@ -9,7 +9,7 @@ use Rattle.ti_layout.specs.declared.header.Header.{Header}
 use Rattle.ti_layout.specs.Layout.{entry_size, limit}
 use Rattle.ti_layout.specs.Image.{image_in, is_wide}
 use Rattle.ti_layout.specs.Values.{Contents, content_seen}
-use Rattle.ti_layout.specs.inside.Writing as layout
+use Rattle.ti_layout.specs.Sizes as layout
 use Rattle.ti_layout.proofs.Assembling as layout_assembling
 use Rattle.ti_layout.proofs.Sizes.{limit-le}
 use Rattle.user_extension.specs.declared.user_defined.UserDefined.{UserDefined}

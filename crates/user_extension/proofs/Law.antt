@@ -11,7 +11,7 @@ use Rattle.ti_layout.specs.declared.layout.Format.{Format}
 use Rattle.ti_layout.specs.declared.layout.Format.TheVariants.{Legacy, Extended}
 use Rattle.ti_layout.specs.Layout.{absent_mark, first_negative, number_section, width}
 use Rattle.ti_layout.specs.Reading.{HasEnd, IsStoredNumber, count_in, number_at, word_at}
-use Rattle.ti_layout.specs.inside.Sections.{AreFlags, AreOffsets, AreStoredNumbers}
+use Rattle.ti_layout.specs.Sections.{AreFlags, AreOffsets, AreStoredNumbers}
 use Rattle.ti_layout.specs.Values.{Content, content_true}
 use Rattle.ti_text.specs.Texts.{HasNoNul}
 use Rattle.ti_layout.proofs.Spelled.{counted, length-spelled, number_read}

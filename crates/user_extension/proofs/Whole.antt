@@ -6,7 +6,7 @@ use Rattle.ti_layout.specs.declared.layout.Format.{Format}
 use Rattle.ti_layout.specs.declared.layout.Format.TheVariants.{Legacy}
 use Rattle.ti_layout.specs.Layout.{width}
 use Rattle.ti_layout.specs.Reading.{HasBadFlag, HasEnd, count_in}
-use Rattle.ti_layout.specs.inside.Sections.{AreFlags, AreOffsets, AreStoredNumbers}
+use Rattle.ti_layout.specs.Sections.{AreFlags, AreOffsets, AreStoredNumbers}
 use Rattle.ti_layout.proofs.Spelled.{counted}
 use Rattle.ti_layout.proofs.ViewLemmas.{rest_of}
 use Rattle.user_extension.specs.declared.checks.Sections.{Sections}

@@ -13,7 +13,7 @@ use Rattle.ti_layout.specs.Reading as entry
 use Rattle.user_extension.specs.declared.fault.ExtensionError.{ExtensionError}
 use Rattle.user_extension.specs.declared.fault.ExtensionError.TheVariants as errors
 use Rattle.ti_layout.specs.Reading.{HasEnd, count_in, entry_end, format_in, number_at, stored_flag, stored_number, stored_text, text_from, word_at}
-use Rattle.ti_layout.specs.inside.Sections.{AreFlags, AreOffsets, AreStoredNumbers}
+use Rattle.ti_layout.specs.Sections.{AreFlags, AreOffsets, AreStoredNumbers}
 use Rattle.user_items.specs.Names.{is_user_defined_name}
 
 -- ---- the sections, by the five numbers of the header

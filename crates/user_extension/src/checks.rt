@@ -3,7 +3,7 @@ ghost use Rattle.std.specs.Prelude.{◌≡◌, ℕ, ◌<◌, ◌≤◌, ◌≢�
 ghost use Rattle.ti_layout.specs.Layout.{first_negative};
 ghost use Rattle.ti_layout.specs.declared.layout.Format.TheVariants.{Legacy};
 ghost use Rattle.ti_layout.specs.Reading.{HasEnd, count_in};
-ghost use Rattle.ti_layout.specs.inside.Sections.{AreOffsets};
+ghost use Rattle.ti_layout.specs.Sections.{AreOffsets};
 ghost use Rattle.user_extension.specs.Reading as spec;
 ghost use Rattle.user_extension.specs.Reading.{AreNames, IsExtension};
 ghost use Rattle.user_extension.specs.inside.Sections.{IsCut};

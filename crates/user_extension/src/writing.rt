@@ -5,7 +5,7 @@ ghost use Rattle.ti_layout.specs.Image.{is_wide as is_wide_content};
 ghost use Rattle.ti_text.specs.Texts.{HasNoNul};
 ghost use Rattle.ti_layout.specs.Layout as layout;
 ghost use Rattle.ti_layout.specs.Layout.{FitsTwoBytes, number_section};
-ghost use Rattle.ti_layout.specs.inside.Writing as header_has;
+ghost use Rattle.ti_layout.specs.Sizes as header_has;
 ghost use Rattle.ti_layout.specs.Values.{contents, content_seen};
 ghost use Rattle.user_extension.specs.UserDefined.{AreUserDefined, rows_of};
 ghost use Rattle.user_extension.specs.Extension.{Fits, FitsAfter, IsTooLarge, at_most_max, extension_size, HasSizes, entry, entry_format, entry_limit, extension, extension_after, some_wide as some_wide_of, flags, numbers, texts, names as names_of, table as table_of, places};

@@ -3,8 +3,9 @@ use Rattle.std.proofs.Common.{◌≡◌, ℕ, ◌+◌, ◌≤◌, List, [], ◌�
 use Rattle.ti_source.specs.Folding.{PlacedByte}
 use Rattle.ti_source.specs.inside.Folding.{folding_of}
 use Rattle.ti_source.specs.Items.{AreItems, Statement, States, Claim, ItemPiece, piece_of}
-use Rattle.ti_source.specs.inside.Items.{field_of, after_field, statement_of}
-use Rattle.ti_source.specs.inside.Parsing.{block_items}
+use Rattle.ti_source.specs.inside.Items.{field_of, after_field}
+use Rattle.ti_source.specs.Stating.{statement_of}
+use Rattle.ti_source.specs.Walking.{block_items}
 use Rattle.ti_source.specs.inside.Verdicts.{read_claim}
 use Rattle.ti_source.specs.Verdicts.{ReadClaim, reads_number, reads_text, IsReadAs, flag_read, number_read_as, text_read_as, cancel_read}
 use Rattle.ti_source.proofs.FoldingLaws.{folds_computed, only_folded}

@@ -7,7 +7,7 @@ use Rattle.ti_spelling.specs.Spelling.{SpellsAs, ValuesAreSound}
 use Rattle.ti_source.specs.declared.numbers.NumberError.{NumberError}
 use Rattle.ti_source.specs.Folding.{PlacedByte}
 use Rattle.ti_source.specs.Items.{Claim, Statement, piece_of, without_outer_space}
-use Rattle.ti_source.specs.inside.Items.{statement_of}
+use Rattle.ti_source.specs.Stating.{statement_of}
 use Rattle.ti_source.specs.Judging.{items_at, items_from, faults_at, faults_from, header_faults}
 use Rattle.ti_source.specs.Numbers.{ReadsAs}
 use Rattle.ti_source.specs.Parsing.{reading_of_text}
@@ -15,7 +15,8 @@ use Rattle.ti_source.specs.Reading.{ReadItem, ReadFault}
 use Rattle.ti_source.specs.Sound.{EachIsWellRead, IsLineOf}
 use Rattle.ti_source.specs.Verdicts.{Verdict, accepted, accepted_odd, refused, items_by as items_by_there, faults_by as faults_by_there, claimed_text, is_import, ReadClaim, IsReadAs, flag_read, number_read_as, text_read_as, cancel_read}
 use Rattle.ti_source.specs.inside.Header.{header_names}
-use Rattle.ti_source.specs.inside.Parsing.{block_field, block_items, judged_as as judged_as_there, judged_of as judged_there}
+use Rattle.ti_source.specs.inside.Parsing.{block_field, judged_as as judged_as_there, judged_of as judged_there}
+use Rattle.ti_source.specs.Walking.{block_items}
 use Rattle.ti_source.specs.inside.Verdicts.{read_claim, verdict_of as verdict_there}
 use Rattle.ti_source.proofs.JudgingLaws.{is_read}
 use Rattle.user_items.specs.Names.{is_user_defined_name}

@@ -8,13 +8,14 @@ use Rattle.ti_caps.specs.Tables.{Capability, capability_named}
 use Rattle.ti_source.specs.declared.code.Code.TheVariants as code
 use Rattle.ti_source.specs.Folding.{PlacedByte}
 use Rattle.ti_source.specs.Items.{Claim, Statement, piece_of}
-use Rattle.ti_source.specs.inside.Items.{statement_of}
+use Rattle.ti_source.specs.Stating.{statement_of}
 use Rattle.ti_source.specs.Reading.{ReadFault}
 use Rattle.ti_source.specs.Parsing.{reading_of_text}
 use Rattle.ti_source.specs.Judging.{faults_at, faults_from, header_faults}
 use Rattle.ti_source.specs.Verdicts.{Verdict, accepted, accepted_odd, refused, faults_by, is_import, named_verdict, verdict_on as verdict_there, ReadClaim, reads_flag, reads_number, reads_text, reads_cancel}
 use Rattle.ti_source.specs.inside.Header.{header_names}
-use Rattle.ti_source.specs.inside.Parsing.{block_field, block_items, judged_as as judged_as_there, judged_of as judged_there}
+use Rattle.ti_source.specs.inside.Parsing.{block_field, judged_as as judged_as_there, judged_of as judged_there}
+use Rattle.ti_source.specs.Walking.{block_items}
 use Rattle.ti_source.specs.inside.Verdicts.{read_claim}
 use Rattle.std.specs.Prelude.{Ok, Err, nat_lt}
 use Rattle.ti_text.specs.Limits.{names_max}

@@ -5,7 +5,7 @@ use Rattle.ti_source.specs.declared.code.Code.{Code}
 use Rattle.ti_source.specs.declared.code.Code.TheVariants as code
 use Rattle.ti_source.specs.Reading.{ReadFault}
 use Rattle.ti_source.specs.Parsing.{reading_of_text}
-use Rattle.ti_source.specs.inside.Parsing.{block_items}
+use Rattle.ti_source.specs.Walking.{block_items}
 use Rattle.user_items.specs.Names.{is_user_defined_name}
 use Rattle.user_items.specs.Verdicts.{UserVerdict, user_accepted, imports}
 use Rattle.user_items.specs.Reading.{UserBlock, UserJudged}

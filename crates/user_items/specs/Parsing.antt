@@ -3,7 +3,7 @@ use Rattle.ti_text.specs.Ascii as ascii
 use Rattle.std.specs.Prelude.{◌≡◌, ℕ, List, map, Option}
 use Rattle.ti_source.specs.Folding.{PlacedByte, Folds}
 use Rattle.ti_source.specs.Items.{Begins, AreItems}
-use Rattle.ti_source.specs.inside.Parsing.{block_items}
+use Rattle.ti_source.specs.Walking.{block_items}
 use Rattle.user_items.specs.Reading.{UserBlock, UserJudged, AreUserJudged, reading_by}
 use Rattle.user_items.specs.inside.Computed.{judged_of}
 

@@ -2,8 +2,6 @@
 ghost use Rattle.user_items.specs.Laws.{BlocksHaveOneUserReading, UserDefinedNamesHaveNoNul, WarningsAreOfDefiningItems};
 ghost use Rattle.user_items.specs.Sound.{EachUserReadingIsSound};
 
-use ti_source::each_is_well_read;
-
 /// Each block has one reading, which `user_items` gives.
 pub fn one_user_reading()
     ensures { BlocksHaveOneUserReading }
@@ -21,7 +19,7 @@ pub fn each_user_reading_is_sound()
     ensures { EachUserReadingIsSound }
 {
     // The lines are those of the items and faults of the block.
-    each_is_well_read();
+    ti_source::laws::each_is_well_read();
 }
 
 /// A user-defined name has no NUL.

@@ -6,7 +6,7 @@ ghost use Rattle.user_items.specs.Reading.{fault_with, said_of, user_item_of, us
 ghost use Rattle.user_items.specs.Parsing.{ReadsUserItems, user_reading_of_text};
 ghost use Rattle.user_items.specs.inside.Computed.{AddsItem};
 
-use crate::laws::one_user_reading;
+use crate::laws;
 use crate::verdicts::{Verdict, judge};
 use std::alloc::{AllocError, Global};
 use std::rc::RcSlice;
@@ -74,7 +74,7 @@ pub fn user_items(alloc: Global, block: &[u8]) -> Result<UserItems, AllocError>
     ensures reading { IfOk result (λ read. ReadsUserItems block.now (user_reading_of read)) }
 {
     // A law, with no code: it gives the clause `reading` of what is computed.
-    one_user_reading();
+    laws::one_user_reading();
     let mut walk = ItemWalk::new(alloc, block)?;
     let mut text = Vec::new(alloc);
     let mut room = Vec::new(alloc);

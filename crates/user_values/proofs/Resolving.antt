@@ -12,8 +12,9 @@ use Rattle.ti_caps.specs.declared.capability.Kind.TheVariants as kind
 use Rattle.ti_source.specs.declared.numbers.NumberError.TheVariants.{Bad, TooLarge}
 use Rattle.ti_source.specs.Folding.{PlacedByte}
 use Rattle.ti_source.specs.Items.{Statement, Claim, piece_of}
-use Rattle.ti_source.specs.inside.Items.{statement_of}
-use Rattle.ti_source.specs.inside.Parsing.{block_items, judged_as as judged_as_there, judged_of as judged_there}
+use Rattle.ti_source.specs.Stating.{statement_of}
+use Rattle.ti_source.specs.inside.Parsing.{judged_as as judged_as_there, judged_of as judged_there}
+use Rattle.ti_source.specs.Walking.{block_items}
 use Rattle.ti_source.specs.inside.Verdicts.{read_claim}
 use Rattle.ti_source.specs.Judging.{items_at as items_at_there, items_from as items_from_there}
 use Rattle.ti_source.specs.Verdicts.{ReadClaim, reads_flag, reads_number, reads_text, reads_cancel, is_import, fitting_verdict, named_verdict, items_by as items_by_there, verdict_on as verdict_there}

@@ -5,7 +5,8 @@ use Rattle.ti_source.specs.declared.items.Escape.TheVariants as escape
 use Rattle.ti_source.specs.Folding.{PlacedByte}
 use Rattle.ti_source.specs.inside.Folding.{folding_of}
 use Rattle.ti_source.specs.Items.{Statement, ItemPiece, bytes, piece_of}
-use Rattle.ti_source.specs.inside.Items.{field_of, after_field, items_of, statement_of}
+use Rattle.ti_source.specs.inside.Items.{field_of, after_field, items_of}
+use Rattle.ti_source.specs.Stating.{statement_of}
 use Rattle.ti_source.specs.Reading.{ReadItem, ReadFault, Reading}
 use Rattle.ti_source.specs.Judging.{Judged, items_at, faults_at, items_from, faults_from, names_found, header_faults}
 use Rattle.ti_source.specs.inside.Header.{header_names}
@@ -23,10 +24,6 @@ judged_of item = judged_as (piece_of item).line (statement_of (piece_of item).te
 -- the names field of a block
 abbrev pub block_field : List ℕ → List ℕ
 block_field block = bytes (field_of (folding_of block))
-
--- the items after the names field of a block
-abbrev pub block_items : List ℕ → List (List PlacedByte)
-block_items block = items_of escape.Nothing ascii.comma (after_field (folding_of block))
 
 -- the names and the fault of a names field were read, and no items
 pub record ReadsField (field : List ℕ) (reading : Reading) : Type 0 where

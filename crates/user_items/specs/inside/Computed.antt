@@ -2,7 +2,7 @@
 use Rattle.std.specs.Prelude.{◌≡◌, ℕ, List, ◌++◌, Option, Some, None, option_map}
 use Rattle.ti_source.specs.Folding.{PlacedByte}
 use Rattle.ti_source.specs.Items.{Claim, Statement, ItemPiece, piece_of}
-use Rattle.ti_source.specs.inside.Items.{statement_of}
+use Rattle.ti_source.specs.Stating.{statement_of}
 use Rattle.ti_source.specs.inside.Verdicts.{read_claim}
 use Rattle.user_items.specs.Verdicts.{UserVerdict, user_accepted, user_odd, user_refused, verdict_on}
 use Rattle.user_items.specs.Reading.{UserBlock, UserJudged, ReadUserItem, ReadUserFault, said_of, items_at, faults_at}

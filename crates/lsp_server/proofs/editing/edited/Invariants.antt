@@ -6,4 +6,4 @@ use Rattle.lsp_server.proofs.editing.edited.Given as goal
 -- the changes that are left make the text
 abbrev pub invariant-loop-change : goal.invariant-loop-change
 invariant-loop-change g l =
-    edited g.D.Source.place_in l.all.items (map edit_view (drop l.change-index l.changes)) ≡ edited g.D.Source.place_in l.text (map edit_view l.changes)
+    edited g.D.HeldText.place_in l.all.items (map edit_view (drop l.change-index l.changes)) ≡ edited g.D.HeldText.place_in l.text (map edit_view l.changes)

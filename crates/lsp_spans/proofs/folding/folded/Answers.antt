@@ -3,7 +3,7 @@ use Rattle.std.proofs.lemmas.Result.{IfOk-weaker}
 use Rattle.ti_source.specs.Folding.{Joins, PlacedByte}
 use Rattle.lsp_spans.specs.Folding.{folded_of}
 use Rattle.lsp_spans.proofs.Computing.{only_joined}
-use Rattle.lsp_spans.proofs.Laws.{offsets_small}
+use Rattle.lsp_spans.proofs.OneFolding.{offsets_small}
 use Rattle.lsp_spans.proofs.folding.folded.Goals as goal
 
 pub returns-clause-offsets : goal.returns-clause-offsets

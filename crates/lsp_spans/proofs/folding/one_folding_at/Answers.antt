@@ -1,5 +1,5 @@
 use Rattle.lsp_spans.proofs.Computing.{folded_computed}
-use Rattle.lsp_spans.proofs.Laws.{offsets_lead, one_folding}
+use Rattle.lsp_spans.proofs.OneFolding.{offsets_lead, one_folding}
 use Rattle.lsp_spans.proofs.folding.one_folding_at.Goals as goal
 
 pub returns-clause-one : goal.returns-clause-one

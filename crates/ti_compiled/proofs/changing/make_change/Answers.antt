@@ -2,7 +2,7 @@ use Rattle.std.proofs.Common.{◌≡◌, ◌≤◌, ℕ, List, length, Option, s
 use Rattle.ti_caps.specs.Tables.{Capability}
 use Rattle.ti_layout.specs.declared.header.Header.{Header}
 use Rattle.ti_layout.specs.Values.{Content}
-use Rattle.ti_layout.specs.inside.Writing.{HasSizes}
+use Rattle.ti_layout.specs.Sizes.{HasSizes}
 use Rattle.ti_compiled.specs.Image.{with_content}
 use Rattle.ti_compiled.specs.inside.Changes.{image_with, BytesFitWith}
 use Rattle.ti_compiled.specs.inside.Image.{names_in, contents_in}

@@ -1,4 +1,4 @@
-use Rattle.ti_param.proofs.Laws.{one_reading}
+use Rattle.ti_param.proofs.OneTree.{one_reading}
 use Rattle.ti_param.proofs.acceptor.one_reading.Goals as goal
 
 pub returns : goal.returns

@@ -5,7 +5,7 @@ use Rattle.ti_param.specs.declared.errors.ParamError.TheVariants.{BadFormat}
 use Rattle.ti_param.specs.Formats.{AreTokensOf}
 use Rattle.ti_param.specs.inside.Formats.{stuck_place}
 use Rattle.ti_param.proofs.Ending.{Runs, refused-bad_format, run-bad_format, run-stack_full, run-memory, done-expands, done-bad_format}
-use Rattle.ti_param.proofs.Laws.{tokens_parse, tokens_stop}
+use Rattle.ti_param.proofs.OneTree.{tokens_parse, tokens_stop}
 use Rattle.ti_param.proofs.expansion.expand.Goals as goal
 
 -- ---- the format is stuck

@@ -1,5 +1,5 @@
 use Rattle.std.proofs.Common.{Some, ap, sym, ◌∙◌}
-use Rattle.ti_source.specs.inside.Items.{plain_statement}
+use Rattle.ti_source.specs.Stating.{plain_statement}
 use Rattle.ti_source.proofs.TextLemmas.{statement-statement_by_mark, statement-plain}
 use Rattle.ti_source.proofs.items.statement_of.Goals as goal
 

@@ -1,7 +1,7 @@
 use Rattle.std.proofs.Common.{◌≡◌, true, false, refl, sym, subst, length, inl, inr}
 use Rattle.std.proofs.lemmas.Bool.{cases_lt}
 use Rattle.std.proofs.lemmas.List.{length-map}
-use Rattle.ti_layout.specs.inside.Writing as layout
+use Rattle.ti_layout.specs.Sizes as layout
 use Rattle.ti_layout.specs.Values.{contents}
 use Rattle.user_extension.specs.UserDefined.{rows_of, row_of}
 use Rattle.user_extension.specs.Extension.{entry, entry_limit}

@@ -4,7 +4,7 @@ use Rattle.std.specs.List.{insert}
 use Rattle.base_index.specs.inside.Labels.{AreLabelled, FitsAt}
 use Rattle.ti_text.specs.Lists.{Has}
 use Rattle.base_index.proofs.Keeping.{order_relabelled, order_inserted, order_fresh}
-use Rattle.base_index.proofs.order.Order.insert.Goals as goal
+use Rattle.base_index.proofs.order.BlockOrder.insert.Goals as goal
 
 pub invariant_of-self : goal.invariant_of-self
 invariant_of-self c =

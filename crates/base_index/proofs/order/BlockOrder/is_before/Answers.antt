@@ -3,7 +3,7 @@ use Rattle.std.specs.List.{slice_get}
 use Rattle.std.proofs.lemmas.Bool.{ltb-true, lt-ltb}
 use Rattle.std.proofs.lemmas.List.{get_or_read}
 use Rattle.base_index.proofs.Placing.{labels_decide_before}
-use Rattle.base_index.proofs.order.Order.is_before.Goals as goal
+use Rattle.base_index.proofs.order.BlockOrder.is_before.Goals as goal
 
 pub returns : goal.returns
 returns c = λ i j e f.

@@ -2,7 +2,7 @@ use Rattle.std.proofs.Common.{rules, get_or}
 use Rattle.std.proofs.lemmas.List.Sorted.{IsPartitionPoint-from_clause}
 use Rattle.base_index.specs.Listing.{ListsBefore}
 use Rattle.base_index.proofs.Filtering.{counted, is_below}
-use Rattle.base_index.proofs.order.Order.count_before.Goals as goal
+use Rattle.base_index.proofs.order.BlockOrder.count_before.Goals as goal
 
 pub returns-clause-count : goal.returns-clause-count
 returns-clause-count c =

@@ -1,6 +1,6 @@
 use Rattle.std.proofs.Common.{◌≡◌, ◌∙◌, ap}
 use Rattle.base_index.proofs.Filtering.{position_is}
-use Rattle.base_index.proofs.order.Order.position.Goals as goal
+use Rattle.base_index.proofs.order.BlockOrder.position.Goals as goal
 
 pub returns : goal.returns
 returns c =

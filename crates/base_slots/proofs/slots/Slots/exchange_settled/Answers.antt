@@ -6,7 +6,7 @@ use Rattle.base_slots.specs.Slots.{settled_in}
 use Rattle.base_slots.proofs.Changing.{known_slot, read_slot}
 use Rattle.base_slots.proofs.Seen.{has_slot}
 use Rattle.base_slots.proofs.Made.{settled_indexed, settled_shown}
-use Rattle.base_slots.proofs.slots.Slots.settle.Goals as goal
+use Rattle.base_slots.proofs.slots.Slots.exchange_settled.Goals as goal
 
 pub index_mut-requires : goal.index_mut-requires
 index_mut-requires c =

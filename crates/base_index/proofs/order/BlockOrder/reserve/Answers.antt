@@ -2,7 +2,7 @@ use Rattle.std.proofs.Common.{◌≡◌, ◌<◌, ◌^◌, ◌+◌, ◌≤◌, l
 use Rattle.std.specs.Vec.{vec_len, vec_capacity}
 use Rattle.std.proofs.lemmas.Bool.{eqb-true}
 use Rattle.base_index.proofs.Keeping.{order_reserved}
-use Rattle.base_index.proofs.order.Order.reserve.Goals as goal
+use Rattle.base_index.proofs.order.BlockOrder.reserve.Goals as goal
 
 pub invariant_of-self-then-is_empty : goal.invariant_of-self-then-is_empty
 invariant_of-self-then-is_empty c =

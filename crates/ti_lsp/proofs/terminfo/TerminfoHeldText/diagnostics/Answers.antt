@@ -5,7 +5,7 @@ use Rattle.serde_json.specs.View.{items_of}
 use Rattle.lsp_document.specs.Diagnostics.{diagnostic_seen}
 use Rattle.lsp_document.specs.declared.diagnostics.Diagnostic.{Diagnostic}
 use Rattle.ti_lsp.specs.Shown.{shown_data}
-use Rattle.ti_lsp.proofs.terminfo.TerminfoSource.diagnostics.Goals as goal
+use Rattle.ti_lsp.proofs.terminfo.TerminfoHeldText.diagnostics.Goals as goal
 
 pub returns : goal.returns
 returns c =

@@ -2,7 +2,7 @@ use Rattle.std.proofs.Common.{◌<◌, length, ap, refl, arith}
 use Rattle.std.specs.Vec.{vec_capacity}
 use Rattle.std.proofs.lemmas.Option.{slice_get_read}
 use Rattle.base_index.proofs.Keeping.{order_removed}
-use Rattle.base_index.proofs.order.Order.remove.Goals as goal
+use Rattle.base_index.proofs.order.BlockOrder.remove.Goals as goal
 
 pub invariant_of-self : goal.invariant_of-self
 invariant_of-self c =

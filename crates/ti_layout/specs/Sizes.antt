@@ -1,4 +1,5 @@
--- What the writer knows of an entry before it asks for memory (own).
+-- The sizes in the header of an entry (term(5), "Storage format"), as the writer knows them before it
+-- asks for memory (own).
 use Rattle.std.specs.Prelude.{◌≡◌, ◌^◌, ◌-◌, ◌≤◌, ℕ, suc, List, length, min}
 use Rattle.ti_caps.specs.Tables.{count_of}
 use Rattle.ti_caps.specs.declared.capability.Kind.TheVariants.{Flag, Number, Text}

@@ -1,0 +1,4 @@
+//! The laws of this crate: statements on its definitions, proved in the modules of their subjects.
+//! They compute nothing.
+pub use crate::acceptor::one_reading;
+pub use crate::reader::one_code;
