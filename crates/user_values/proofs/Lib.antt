@@ -3,3 +3,4 @@ pub mod Depth
 pub mod Resolving
 pub mod Making
 pub mod Ordering
+pub mod Naming

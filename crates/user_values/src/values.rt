@@ -1,14 +1,17 @@
 //! The user-defined values of all blocks.
-ghost use Rattle.std.specs.Prelude.{◌≡◌, ◌<◌, ℕ, List, length, map, slice_get, Some, IfOk, OnOk, IsSome};
+ghost use Rattle.std.specs.Prelude.{◌≡◌, ◌<◌, ℕ, List, length, map, slice_get, Some, IfOk, OnOk, IsSome, IsErrOf, ◌≤◌};
 ghost use Rattle.std.specs.Option.{option_or};
 ghost use Rattle.user_items.specs.Reading.{said_of, user_reading_of};
 ghost use Rattle.user_items.specs.Verdicts.{imports};
 ghost use Rattle.user_items.specs.Parsing.{user_reading_of_text};
 ghost use Rattle.user_values.specs.Expansion.{expansion};
+ghost use Rattle.user_values.specs.Limit.{name_count, name_limit, IsOverLimitAt};
 ghost use Rattle.user_values.specs.Tables.{said_at, HasUserTable, AreUserTables, AddsSaid, IsUserTableOf};
 ghost use Rattle.user_values.specs.inside.Settling.{OwnerIsDone, OwnersAreDone};
 
+use crate::fault::ValuesError;
 use crate::graph::graph_of_uses;
+use crate::limit::check_names;
 use crate::table::UserTable;
 use base_components::Components;
 use std::alloc::{AllocError, Global};
@@ -116,23 +119,44 @@ fn table_at(
     Ok(Some(table))
 }
 
+// The tables of all blocks, each made after those of the blocks that its block uses.
+fn tables_of(
+    alloc: Global,
+    database: &Database,
+    reads: &[UserItems],
+) -> Result<Vec<Option<UserTable>>, AllocError>
+    requires { map user_reading_of reads.now ≡ map user_reading_of_text database.now }
+    ensures { IfOk result (λ tables. AreUserTables database.now tables.items) }
+{
+    let uses = graph_of_uses(alloc, database, reads)?;
+    let components = Components::find(alloc, &uses)?;
+    let mut tables = no_tables(alloc, database.len())?;
+    for node in &components.order {
+        let table = table_at(alloc, database, &tables, reads, *node)?;
+        tables[*node] = table;
+    }
+    Ok(tables)
+}
+
 /// What each block of a source says of each user-defined name once its uses are expanded, of a name
 /// what the leftmost mention says; `None` for a block that does not resolve. Each table is made
 /// after those of the blocks that its block uses, in time linear, up to a logarithm, in what the
 /// blocks say and in the names of the tables.
 ///
 /// # Errors
-/// Out of memory.
-pub fn user_values(alloc: Global, database: &Database) -> Result<Vec<Option<UserTable>>, AllocError>
-    ensures { IfOk result (λ tables. AreUserTables database.now tables.items) }
+/// `TooManyNames` for a source of more than 1,024 distinct user-defined names, with the position of
+/// the first block by which it has more; or `Memory`.
+pub fn user_values(
+    alloc: Global,
+    database: &Database,
+) -> Result<Vec<Option<UserTable>>, ValuesError>
+    ensures tables { IfOk result (λ tables. AreUserTables database.now tables.items) }
+    ensures few { OnOk result (name_count database.now (length database.now) ≤ name_limit) }
+    ensures too_many { (at : ℕ) → IsErrOf result (ValuesError.TooManyNames at) → IsOverLimitAt database.now at }
 {
     let reads = read_all(alloc, database)?;
-    let uses = graph_of_uses(alloc, database, &reads)?;
-    let components = Components::find(alloc, &uses)?;
-    let mut tables = no_tables(alloc, database.len())?;
-    for node in &components.order {
-        let table = table_at(alloc, database, &tables, &reads, *node)?;
-        tables[*node] = table;
+    match check_names(alloc, &reads) {
+        Ok(()) => Ok(tables_of(alloc, database, &reads)?),
+        Err(error) => Err(error),
     }
-    Ok(tables)
 }

@@ -1,0 +1,71 @@
+//! How many user-defined names a source has.
+ghost use Rattle.std.specs.Prelude.{◌≡◌, ◌<◌, ◌≤◌, ◌+◌, ℕ, [], List, length, map, take, IfOk, IsErrOf, OnOk};
+ghost use Rattle.user_items.specs.Reading.{user_item_of, user_reading_of};
+ghost use Rattle.user_values.specs.Limit.{name_limit, name_said, names_of, names_in, with_name, distinct_after};
+ghost use Rattle.user_values.specs.inside.Counting.{AreFound, AreCounted};
+
+use crate::fault::ValuesError;
+use crate::names_found::NamesFound;
+use crate::table::UserTable;
+use std::alloc::{AllocError, Global};
+use ti_layout::Value;
+use user_items::{UserItem, UserItems, UserWhat};
+
+/// The most distinct user-defined names of a source.
+pub const NAME_LIMIT: usize = 1024;
+
+// Finds a name, unless it is one too many.
+fn find_name(alloc: Global, name: &[u8], found: &mut NamesFound) -> Result<bool, AllocError>
+    ensures { IfOk result (λ fits. (names : List (List ℕ)) → AreFound names found.old → AreCounted fits (with_name names name.now) found.new) }
+{
+    if found.table.get(name).is_some() {
+        return Ok(true);
+    }
+    if found.count >= NAME_LIMIT {
+        return Ok(false);
+    }
+    found.table.add(alloc, name, &Value::True)?;
+    found.count += 1;
+    Ok(true)
+}
+
+// Finds the name of an item, if it says something of one, unless it is one too many.
+fn find_item(alloc: Global, item: &UserItem, found: &mut NamesFound) -> Result<bool, AllocError>
+    ensures { IfOk result (λ fits. (names : List (List ℕ)) → AreFound names found.old → AreCounted fits (distinct_after names (name_said (user_item_of item.now).said)) found.new) }
+{
+    match &item.what {
+        UserWhat::Says(name, _) => find_name(alloc, name.as_slice(), found),
+        UserWhat::Import(_) => Ok(true),
+    }
+}
+
+// Finds the names of items, unless they are too many.
+fn find_names(alloc: Global, items: &[UserItem], found: &mut NamesFound) -> Result<bool, AllocError>
+    ensures { IfOk result (λ fits. (names : List (List ℕ)) → AreFound names found.old → AreCounted fits (distinct_after names (names_of (map user_item_of items.now))) found.new) }
+{
+    for item in items {
+        if !find_item(alloc, item, found)? {
+            return Ok(false);
+        }
+    }
+    Ok(true)
+}
+
+/// Whether a source has no more names than it may.
+pub(crate) fn check_names(alloc: Global, reads: &[UserItems]) -> Result<(), ValuesError>
+    ensures few { OnOk result (length (distinct_after [] (names_in (map user_reading_of reads.now))) ≤ name_limit) }
+    ensures too_many { (at : ℕ) → IsErrOf result (ValuesError.TooManyNames at) → (at < length reads.now)
+        × (length (distinct_after [] (names_in (map user_reading_of (take at reads.now)))) ≤ name_limit)
+        × (name_limit < length (distinct_after [] (names_in (map user_reading_of (take (at + 1) reads.now))))) }
+{
+    let mut found = NamesFound {
+        table: UserTable::new(alloc),
+        count: 0,
+    };
+    for (at, read) in reads.iter().enumerate() {
+        if !find_names(alloc, &read.items, &mut found)? {
+            return Err(ValuesError::TooManyNames(at));
+        }
+    }
+    Ok(())
+}
