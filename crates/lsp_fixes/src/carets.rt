@@ -49,8 +49,9 @@ fn can_be_read(alloc: Global, text: &[u8]) -> Result<bool, AllocError>
 fn heals(alloc: Global, value: &[(u8, usize)]) -> Result<bool, AllocError>
     ensures { IfOk result (λ heals. heals ≡ spec.can_be_read (with_backslash (bytes value.now))) }
 {
-    let front = &value[..value.len().saturating_sub(1)];
-    let mut text = bytes_of(alloc, front)?;
+    let mut text = bytes_of(alloc, value)?;
+    let front = text.len().saturating_sub(1);
+    text.truncate(front);
     text.extend_from_slice(b"\\^")?;
     can_be_read(alloc, &text)
 }
