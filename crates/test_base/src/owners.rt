@@ -1,6 +1,6 @@
 //! The block that a use means, and what is rebuilt when that changes.
 use super::steps::Entry::{Absent, Cols, Empty};
-use super::steps::{Step, expect_source, expect_steps};
+use super::steps::{Step, expect_calls, expect_source, expect_steps};
 use std::alloc::AllocError;
 use std::process::Abort;
 use ti_base::{Database, Edit, EditError};
@@ -54,6 +54,11 @@ fn owners_may_come_later_and_circular_uses_may_come_and_go(
     expect_source(&rt, rt.alloc(), &LATER_OWNERS)
 }
 
+#[test]
+fn owners_come_and_go_by_calls_of_their_own(rt: HostRuntime) -> Result<(), AllocError> {
+    expect_calls(&rt, &mut Database::new(rt.alloc()), &LATER_OWNERS)
+}
+
 #[rattlefmt::skip]
 const EARLIER_HOLDER_COMES: [Step<'static>; 3] = [
     Step { edit: Edit::Insert { at: 0, text: b"n,cols#1,\n" }, outcome: Ok((&[0], 1)), entries: &[Cols(b'n', 1)], report: "" },
@@ -98,6 +103,18 @@ fn a_name_goes_to_the_first_block_that_has_it(rt: HostRuntime) -> Result<(), All
     expect_holders(&rt, &mut Database::new(rt.alloc()))
 }
 
+// The same, each edit made by the call of its own name.
+fn expect_holders_by_calls(rt: &impl Abort, database: &mut Database) -> Result<(), AllocError> {
+    expect_calls(rt, database, &EARLIER_HOLDER_COMES)?;
+    expect_calls(rt, database, &HOLDERS_GO)?;
+    expect_calls(rt, database, &LAST_GOES)
+}
+
+#[test]
+fn holders_come_and_go_by_calls_of_their_own(rt: HostRuntime) -> Result<(), AllocError> {
+    expect_holders_by_calls(&rt, &mut Database::new(rt.alloc()))
+}
+
 #[rattlefmt::skip]
 const MOVES: [Step<'static>; 8] = [
     Step { edit: Edit::Insert { at: 0, text: b"n,cols#1,\n" }, outcome: Ok((&[0], 1)), entries: &[Cols(b'n', 1)], report: "" },
@@ -120,4 +137,9 @@ const MOVES: [Step<'static>; 8] = [
 #[test]
 fn a_move_changes_owners(rt: HostRuntime) -> Result<(), AllocError> {
     expect_source(&rt, rt.alloc(), &MOVES)
+}
+
+#[test]
+fn a_move_by_a_call_of_its_own(rt: HostRuntime) -> Result<(), AllocError> {
+    expect_calls(&rt, &mut Database::new(rt.alloc()), &MOVES)
 }

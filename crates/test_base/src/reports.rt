@@ -175,3 +175,10 @@ fn a_report_of_faults_that_are_there(rt: HostRuntime) -> Result<(), EditError> {
     assert!(rt; report.as_slice() == want);
     Ok(())
 }
+
+#[test]
+fn each_block_begins_after_the_lines_before_it(rt: HostRuntime) -> Result<(), EditError> {
+    let database = source_of(rt.alloc(), &[b"a,\n\tam,\n", b"b,\n", b"c,\n"])?;
+    assert!(rt; database.line_starts()?.as_slice() == [0, 2, 3].as_slice());
+    Ok(())
+}

@@ -80,22 +80,30 @@ fn is_outcome(seen: &Result<Edited, EditError>, want: &Result<(&[usize], u64), E
     }
 }
 
-// The step of that number goes as it says.
-fn expect_step(
+// The source is as the step of that number says, whose edit answered this.
+fn expect_after(
     rt: &impl Abort,
-    database: &mut Database,
+    database: &Database,
+    seen: &Result<Edited, EditError>,
     step: &Step<'_>,
     number: usize,
 ) -> Result<(), AllocError> {
-    assert!(rt;
-        is_outcome(&database.apply(&step.edit), &step.outcome),
-        "step {number}"
-    );
+    assert!(rt; is_outcome(seen, &step.outcome), "step {number}");
     assert!(rt;
         has_entries(database, step.entries),
         "entries after step {number}"
     );
     expect_report(rt, database, step.report)
+}
+
+// Makes an edit by the call of its own name.
+fn edit_by_name(database: &mut Database, edit: &Edit<'_>) -> Result<Edited, EditError> {
+    match *edit {
+        Edit::Insert { at, text } => database.insert(at, text),
+        Edit::Replace { at, text } => database.replace(at, text),
+        Edit::Remove { at } => database.remove(at),
+        Edit::Relocate { from, to } => database.relocate(from, to),
+    }
 }
 
 /// The steps go as they say.
@@ -105,7 +113,21 @@ pub fn expect_steps(
     steps: &[Step<'_>],
 ) -> Result<(), AllocError> {
     for (number, step) in steps.iter().enumerate() {
-        expect_step(rt, database, step, number)?;
+        let seen = database.apply(&step.edit);
+        expect_after(rt, database, &seen, step, number)?;
+    }
+    Ok(())
+}
+
+/// The steps go as they say, each made by the call of its own name.
+pub fn expect_calls(
+    rt: &impl Abort,
+    database: &mut Database,
+    steps: &[Step<'_>],
+) -> Result<(), AllocError> {
+    for (number, step) in steps.iter().enumerate() {
+        let seen = edit_by_name(database, &step.edit);
+        expect_after(rt, database, &seen, step, number)?;
     }
     Ok(())
 }

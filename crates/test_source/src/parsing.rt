@@ -72,7 +72,20 @@ fn reads(alloc: Global, block: &[u8], wanted: &str) -> Result<bool, AllocError> 
 }
 
 // Blocks, and what is read of them.
-static BLOCKS: [(&'static str, &'static str); 21] = [
+static BLOCKS: [(&'static str, &'static str); 28] = [
+    (
+        "dumb|80-column dumb tty,\n\tam, cols#80, bel=^G, cr=\\r, cud1=\\n, ind=\\n,\n",
+        "0:2 am;1:2 cols#80;2:2 bel=07;3:2 cr=0d;4:2 cud1=0a;5:2 ind=0a;",
+    ),
+    ("a,cols#1,\n", "0:1 cols#1;"),
+    ("b,cols#2,\n", "0:1 cols#2;"),
+    ("c,use=a,use=b,\n", "0:1 use=61;1:1 use=62;"),
+    ("x,cols#0x7fff,\n", "0:1 cols#32767;"),
+    ("x,cols#010,\n", "0:1 cols#8;"),
+    (
+        "x,cols#0,it#0x,lm# 5,\n",
+        "0:1 cols#0;1:1 E3 BadNumber it;2:1 E3 BadNumber lm;",
+    ),
     ("x,clear=\\E[H\n\t\\E[J,\n", "0:1 clear=1b5b481b5b4a;"),
     (
         "x,.am,am#1,cols=3,bw@,cols#09,bel=\\400,foo,kf1=\\q,\n",

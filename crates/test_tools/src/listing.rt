@@ -171,6 +171,28 @@ fn says_what_two_entries_both_lack(rt: HostRuntime) -> Result<(), Fail> {
     Ok(())
 }
 
+// `o,cols#1,`, `p,cols#2,` and `e,cols#2,` as they are compiled.
+const O: &[u8] = b"\x1a\x01\x02\0\0\0\x01\0\0\0\0\0o\0\x01\0";
+
+const P: &[u8] = b"\x1a\x01\x02\0\0\0\x01\0\0\0\0\0p\0\x02\0";
+
+const E: &[u8] = b"\x1a\x01\x02\0\0\0\x01\0\0\0\0\0e\0\x02\0";
+
+// The source of E as it uses these two.
+fn relative_to_two(alloc: Global, first: &[u8], second: &[u8]) -> Result<Vec<u8>, Fail> {
+    let (e, first, second) = (View::read(E)?, View::read(first)?, View::read(second)?);
+    Ok(relative(alloc, &e, &[first, second], &layout(60, Order::Name))?)
+}
+
+#[test]
+fn the_first_of_two_others_decides(rt: HostRuntime) -> Result<(), Fail> {
+    let text = relative_to_two(rt.alloc(), O, P)?;
+    assert!(rt; text.as_slice() == b"e,\n\tcols#2,\n\tuse=o,\n\tuse=p,\n".as_slice());
+    let text = relative_to_two(rt.alloc(), P, O)?;
+    assert!(rt; text.as_slice() == b"e,\n\tuse=p,\n\tuse=o,\n".as_slice());
+    Ok(())
+}
+
 // The source of A as it uses B.
 fn relative_source(alloc: Global) -> Result<Vec<u8>, Fail> {
     let (a, b) = (View::read(A)?, View::read(B)?);
