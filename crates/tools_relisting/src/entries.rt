@@ -3,7 +3,7 @@ ghost use Rattle.tools_relisting.specs.Entries.{EntriesOfSources, RelativeSource
 
 use crate::reading_back::parts_are_blocks;
 use crate::relisting::{listings_compile, relatives_compile};
-use ti_layout::one_reading as entries_have_one_reading;
+use ti_layout::laws::one_reading as entries_have_one_reading;
 
 /// Each entry of a source of bytes that is empty or ends with a newline is a compiled entry as the
 /// other laws ask for.
