@@ -8,7 +8,6 @@ from .listing import written
 from .source import ADVICE, CANCEL, FAULTS, WHITE, ends_of_items, read
 from .texts import blocks_of, offset_of, refused_line, width
 
-REACH = 1024  # how many items may be on the way to the block that decides a capability
 STRUCT = 23  # of "SymbolKind"
 FIELD_ITEM, STRUCT_ITEM = 5, 22  # of "CompletionItemKind"
 WORDS = {FLAG: "boolean", NUMBER: "number", TEXT: "string"}
@@ -214,8 +213,10 @@ def renamed_of(text, uri, place, new):
     name, owner, _ = owned_at(text, held, place)
     if owner is None:
         return None
-    owners = Meaning([block for block, _, _ in held]).owners
-    if not is_name(new.encode("utf-8")) or owners.get(new.encode("utf-8"), owner) != owner:
+    wanted, blocks = new.encode("utf-8"), [block for block, _, _ in held]
+    # a name that an item uses and no block has would lead there
+    is_used = any(item.cap is None and item.value == wanted for block in blocks for item in read(block).items)
+    if not is_name(wanted) or Meaning(blocks).owners.get(wanted, None if is_used else owner) != owner:
         raise Refused
     edits = []
     for at, (block, line, _) in enumerate(held):
@@ -229,8 +230,8 @@ def renamed_of(text, uri, place, new):
 
 
 def word_at(block, offset):
-    """Where the word before an offset of a block begins, and whether it is a name that is used; None
-    where no word is completed."""
+    """Where the word before an offset of a block begins, on its line and after the last blank, and
+    whether it is a name that is used; None where no word is completed."""
     text = block[:offset]
     line = text.rpartition(b"\n")[2]
     if line == b"" or line.startswith(b"#"):
@@ -245,7 +246,8 @@ def word_at(block, offset):
         start = end - len(folded[start + 4 : end].lstrip(WHITE))
     elif b"#" in folded[start:end] or b"=" in folded[start:end]:
         return None
-    return where[start] if start < end else offset, is_used
+    after_blank = 1 + max(text.rfind(blank) for blank in (b"\n", b" ", b"\t"))
+    return max(where[start] if start < end else offset, after_blank), is_used
 
 
 def item(kind, name, detail, documentation=None):
@@ -274,9 +276,9 @@ CAPABILITY_ITEMS = capability_items()
 
 
 def name_items(held):
-    """The items of the lookup names, each once, where its owner is."""
+    """The items of the lookup names that an item `use=` can give, each once, where its owner is."""
     meaning = Meaning([block for block, _, _ in held])
-    return [item(STRUCT_ITEM, shown(name), "entry") for name in meaning.owners]
+    return [item(STRUCT_ITEM, shown(name), "entry") for name in meaning.owners if is_name(name)]
 
 
 def completion_of(text, place):
@@ -291,7 +293,7 @@ def completion_of(text, place):
 
 
 def deciding(meaning, owner):
-    """For each block that counts for one: of each capability the block that decides it, and how far that is."""
+    """For each block that counts for one: of each capability the block that decides it."""
     found, todo = {}, [owner]
     while todo:
         at = todo[-1]
@@ -300,10 +302,9 @@ def deciding(meaning, owner):
         if not uses:
             todo.pop()
             ways, next_use = {}, iter(meaning.used[at])
-            for passed, item in enumerate(meaning.blocks[at].items, 1):
-                said = found[next(next_use)] if item.cap is None else {item.cap: (at, 0)}
-                for cap, (by, more) in said.items():
-                    ways.setdefault(cap, (by, passed + more))
+            for item in meaning.blocks[at].items:
+                for cap, by in (found[next(next_use)] if item.cap is None else {item.cap: at}).items():
+                    ways.setdefault(cap, by)
             found[at] = ways
     return found[owner]
 
@@ -311,14 +312,15 @@ def deciding(meaning, owner):
 def sources_told(meaning, owner):
     """The blocks that decide what an entry inherits, each with the capabilities that it decides."""
     inherited = {}
-    for cap, (by, passed) in deciding(meaning, owner).items():
-        if by != owner and passed <= REACH and meaning.mentions[owner][cap] is not CANCEL:
+    for cap, by in deciding(meaning, owner).items():
+        if by != owner and meaning.mentions[owner][cap] is not CANCEL:
             inherited.setdefault(by, []).append(cap)
     lines = ""
     for by in sorted(inherited):
         caps = sorted(inherited[by], key=lambda cap: (KINDS.index(cap[0]), cap[1]))
         names = [NAMES_OF[kind][at].decode() for kind, at in caps]
-        lines += f"\nFrom {shown(meaning.blocks[by].names[0])}: {', '.join(names)}"
+        own = next(name for name in meaning.blocks[by].names if meaning.owners[name] == by)
+        lines += f"\nFrom {shown(own)}: {', '.join(names)}"
     return lines
 
 

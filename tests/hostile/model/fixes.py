@@ -2,11 +2,11 @@
 
 import re
 
-from .answers import blocks_with_lines, fold_at, items_in, range_in, span_of, use_in
+from .answers import blocks_with_lines, fold_at, is_name, items_in, range_in, span_of, use_in
 from .base import Meaning
 from .caps import FIND, FLAG, KINDS, NAMES_OF, NUMBER, TEXT
 from .listing import written
-from .source import NAMES_MAX, WHITE, read
+from .source import NAMES_MAX, WHITE, read, unescape
 from .texts import offset_of
 
 MOST = 3
@@ -80,15 +80,11 @@ def spelled(folded, where, start, end, value):
 
 
 def escaped(folded, where, start, end):
-    """A backslash before the `^` at the end of an item's value, if it takes nothing and nothing takes it."""
+    """A backslash before the `^` at the end of an item's value, if the value is read then."""
     name, _ = parts_of(folded, start, end)
-    value, taken, before = folded[name + 1 : end], False, 0
-    lone = False
-    for byte in value:
-        lone = not taken and byte == ord("^") and before != ord("%")
-        taken = not taken and (byte == ord("\\") or lone)
-        before = byte
-    return [("Write `\\^` at the end", (where[end - 1], where[end - 1] + 1), "\\^")] if lone else []
+    value = folded[name + 1 : end]
+    heals = value.endswith(b"^") and unescape(value[:-1] + b"\\^")[2] is None
+    return [("Write `\\^` at the end", (where[end - 1], where[end - 1] + 1), "\\^")] if heals else []
 
 
 def used(folded, where, part, names, owners):
@@ -102,7 +98,7 @@ def offered(block, at, owners, start, stop):
     folded, where = fold_at(block)
     codes = {ordinal: fault.code for ordinal, fault in read(block).faults}
     values = {item.ordinal: item.value for item in read(block).items}
-    others, found = [name for name, owner in owners.items() if owner != at], []
+    others, found = [name for name, owner in owners.items() if owner != at and is_name(name)], []
     for ordinal, part in enumerate(items_in(folded)):
         span, code = span_of(where, *part), codes.get(ordinal)
         if span is None or stop < span[0] or span[1] < start:
