@@ -1,11 +1,19 @@
--- One more line of a header, and its end.
-use Rattle.std.proofs.Common.{ℕ, ◌≡◌, ◌≢◌, ◌+◌, ◌-◌, ◌≤◌, List, [], ◌∷◌, ◌++◌, All, Option, None, Some, length, drop, refl, ap, sym, ◌∙◌, append_assoc, subst, arith, length-append}
-use Rattle.std.proofs.KnownBytes.{Consumes-nil, Consumes-trans}
-use Rattle.std.proofs.lemmas.List.{append-nil}
+-- The lines of a header read one after another, and the body.
+use Rattle.std.proofs.Common.{ℕ, zero, suc, ◌≡◌, ◌≢◌, ◌+◌, ◌-◌, ◌<◌, ◌≤◌, ◌⊎◌, List, [], ◌∷◌, ◌++◌, All, Option, None, Some, length, drop}
+use Rattle.std.proofs.Common.{refl, ap, sym, ◌∙◌, append_assoc, append-nil, subst, arith, inl, inr, length-append}
 use Rattle.std.proofs.lemmas.List.Elements.{All-append, All-cons, All-nil}
-use Rattle.std.specs.Io.KnownBytes.{Consumes}
-use Rattle.lsp_frames.specs.Frames.{HasNoNewline, IsHeader, IsHeaderLine, IsLengthLine, ReadsFrame, header_bytes_max, line_end, lines_text, number_of}
-use Rattle.lsp_frames.specs.inside.Headers.{FirstLength, HeaderSoFar}
+use Rattle.tools_devices.proofs.Written.{Gives-none, Gives-then}
+use Rattle.tools_devices.specs.Counted.{Observed}
+use Rattle.tools_devices.specs.Reading.{Gives}
+use Rattle.lsp_frames.proofs.NoFrame.{bad_line, header_without_length, long_header, open_body, open_header, open_lines}
+use Rattle.lsp_frames.proofs.Transferred.{RunsDry-then}
+use Rattle.lsp_frames.specs.Frames.{BeginsNoFrame, HasNoNewline, IsHeader, IsHeaderLine, IsLengthLine, IsOneFrameAtMost, ReadsFrame}
+use Rattle.lsp_frames.specs.Frames.{header_bytes_max, line_end, lines_text, number_of}
+use Rattle.lsp_frames.specs.Transfers.{ReadingStops}
+use Rattle.lsp_frames.specs.declared.frames.FrameError.{FrameError}
+use Rattle.lsp_frames.specs.declared.frames.FrameError.TheVariants.{Memory, Broken}
+use Rattle.lsp_frames.specs.inside.Headers.{FirstLength, HeaderSoFar, IsNoNumber}
+use Rattle.lsp_frames.specs.inside.Parts.{BodyStops, LineHasNoReturn, LineIsLong, LineRunsDry, LineStops}
 
 -- the text with one more line
 pub lines_text-more : (lines : List (List ℕ)) (line : List ℕ) → lines_text (lines ++ line ∷ []) ≡ lines_text lines ++ (line ++ line_end)
@@ -28,57 +36,134 @@ pub FirstLength-kept : (lines : List (List ℕ)) (line value : List ℕ) → Fir
 FirstLength-kept lines line value h = record { front = h.front; line = h.line; back = h.back ++ line ∷ []; whole = ap (λ all. all ++ line ∷ []) h.whole ∙ append_assoc h.front (h.line ∷ h.back) (line ∷ []); before = h.before; here = h.here; value_is = h.value_is }
 
 -- no line has come
-pub HeaderSoFar-none : (given : Option (List ℕ)) → HeaderSoFar given given None header_bytes_max
-HeaderSoFar-none given = record { lines = []; read = Consumes-nil given; each = All-nil IsHeaderLine; first = All-nil (λ line. ¬ IsLengthLine line); room_is = refl }
-
--- one more line has come
-pub HeaderSoFar-more : (given mid left : Option (List ℕ)) (value found : Option (List ℕ)) (room len : ℕ) (line said : List ℕ) → HeaderSoFar given mid value room
-    → Consumes mid left (line ++ line_end) → HasNoNewline line → length line ≢ 0 → length line + 2 ≤ room → said ≡ line → len ≡ length line
-    → ((lines : List (List ℕ)) → FirstLength lines value → FirstLength (lines ++ said ∷ []) found) → HeaderSoFar given left found (room - (len + 2))
-HeaderSoFar-more given mid left value found room len line said h read one some short same len_is first =
-    let text = lines_text-more h.lines line in
-    let lens : length (lines_text (h.lines ++ line ∷ [])) ≡ length (lines_text h.lines) + (length line + 2) = ap length text ∙ (length-append (lines_text h.lines) (line ++ line_end) ∙ ap (λ n. length (lines_text h.lines) + n) (length-append line line_end)) in
-    record {
-      lines = h.lines ++ line ∷ [];
-      read = subst (λ (bytes : List ℕ). Consumes given left bytes) (sym text) (Consumes-trans given mid left (lines_text h.lines) (line ++ line_end) h.read read);
-      each = All-append IsHeaderLine h.lines (line ∷ []) h.each (All-one IsHeaderLine line (λ empty. some (ap length empty), one));
-      first = subst (λ (l : List ℕ). FirstLength (h.lines ++ l ∷ []) found) same (first h.lines h.first);
-      room_is = omega (arith, lens, h.room_is);
-    }
+pub HeaderSoFar-none : (given : Observed) → HeaderSoFar given given None header_bytes_max
+HeaderSoFar-none given = record {
+  lines = [];
+  read = Gives-none given;
+  each = All-nil IsHeaderLine;
+  first = All-nil (λ line. ¬ IsLengthLine line);
+  room_is = refl;
+}
 
 nil_of : (line : List ℕ) → length line ≡ 0 → line ≡ []
 nil_of [] h = refl
 nil_of (byte ∷ line) h = absurd (omega arith)
 
-ended : (given mid left : Option (List ℕ)) (value : List ℕ) (room len : ℕ) → HeaderSoFar given mid (Some value) room → Consumes mid left line_end → 2 ≤ room → number_of value ≡ Some len → (header : List ℕ) × IsHeader header len × Consumes given left header
-ended given mid left value room len h read short announced = (
-  lines_text h.lines ++ line_end,
-  record {
-    lines = h.lines;
-    value = value;
-    whole = refl;
-    each = h.each;
-    gives = h.first;
-    announced = announced;
-    short = omega (arith, length-append (lines_text h.lines) line_end, h.room_is);
-  },
-  Consumes-trans given mid left (lines_text h.lines) line_end h.read read,
-)
+module _ (given mid left : Observed) (value : Option (List ℕ)) (room : ℕ) (h : HeaderSoFar given mid value room) where
+  -- a line was read
+  module _ (line : List ℕ) (read : Gives mid left (line ++ line_end)) (one : HasNoNewline line) (short : length line + 2 ≤ room) where
+    read-line : Gives given left (lines_text (h.lines ++ line ∷ []))
+    read-line =
+        subst (λ (bytes : List ℕ). Gives given left bytes) (sym (lines_text-more h.lines line))
+        (Gives-then given mid left (lines_text h.lines) (line ++ line_end) h.read read)
 
--- the empty line ends the header
-pub IsHeader-ended : (given mid left : Option (List ℕ)) (value : Option (List ℕ)) (room len : ℕ) (line : List ℕ) → HeaderSoFar given mid value room
-    → Consumes mid left (line ++ line_end) → length line ≡ 0 → length line + 2 ≤ room → (bytes : List ℕ) × (value ≡ Some bytes) × (number_of bytes ≡ Some len)
-    → (header : List ℕ) × IsHeader header len × Consumes given left header
-IsHeader-ended given mid left value room len line h read empty short announced =
-    ended given mid left announced.0 room len
-    (subst (λ (v : Option (List ℕ)). HeaderSoFar given mid v room) announced.1 h)
-    (subst (λ (l : List ℕ). Consumes mid left (l ++ line_end)) (nil_of line empty) read)
-    (omega arith) announced.2
+    each-line : length line ≢ 0 → All IsHeaderLine (h.lines ++ line ∷ [])
+    each-line some = All-append IsHeaderLine h.lines (line ∷ []) h.each (All-one IsHeaderLine line (λ empty. some (ap length empty), one))
 
--- a header and a body of the announced length
-pub ReadsFrame-of : (given mid left : Option (List ℕ)) (header body : List ℕ) (len : ℕ) → IsHeader header len → Consumes given mid header → Consumes mid left body → length body ≡ len → ReadsFrame given left body
-ReadsFrame-of given mid left header body len h first then same = record {
-  header = header;
-  announces = subst (λ (n : ℕ). IsHeader header n) (sym same) h;
-  read = Consumes-trans given mid left header body first then;
-}
+    -- it is one more of the header
+    pub HeaderSoFar-more : (found : Option (List ℕ)) (said : List ℕ) (len : ℕ) → length line ≢ 0 → said ≡ line → len ≡ length line
+        → ((lines : List (List ℕ)) → FirstLength lines value → FirstLength (lines ++ said ∷ []) found) → HeaderSoFar given left found (room - (len + 2))
+    HeaderSoFar-more found said len some same len_is first =
+        let text = lines_text-more h.lines line in
+        let lens : length (lines_text (h.lines ++ line ∷ [])) ≡ length (lines_text h.lines) + (length line + 2) =
+        ap length text ∙ (length-append (lines_text h.lines) (line ++ line_end)
+        ∙ ap (λ n. length (lines_text h.lines) + n) (length-append line line_end)) in
+        record {
+          lines = h.lines ++ line ∷ [];
+          read = read-line;
+          each = each-line some;
+          first = subst (λ (l : List ℕ). FirstLength (h.lines ++ l ∷ []) found) same (first h.lines h.first);
+          room_is = omega (arith, lens, h.room_is);
+        }
+
+    -- there was no memory for it
+    pub ReadingStops-line : (fault : FrameError) → length line ≢ 0 → fault ≡ Memory → ReadingStops given left fault
+    ReadingStops-line fault some is =
+        subst (λ (f : FrameError). ReadingStops given left f) (sym is)
+        (lines_text (h.lines ++ line ∷ []), read-line, inl (open_lines (h.lines ++ line ∷ []) (each-line some)))
+
+    -- it is empty, so the header has ended
+    read-end : length line ≡ 0 → Gives given left (lines_text h.lines ++ line_end)
+    read-end empty =
+        Gives-then given mid left (lines_text h.lines) line_end h.read
+        (subst (λ (l : List ℕ). Gives mid left (l ++ line_end)) (nil_of line empty) read)
+
+    pub IsHeader-ended : (len : ℕ) → length line ≡ 0 → (bytes : List ℕ) × (value ≡ Some bytes) × (number_of bytes ≡ Some len)
+        → (header : List ℕ) × IsHeader header len × Gives given left header
+    IsHeader-ended len empty announced = (
+      lines_text h.lines ++ line_end,
+      record {
+        lines = h.lines;
+        value = announced.0;
+        whole = refl;
+        each = h.each;
+        gives = subst (λ (v : Option (List ℕ)). FirstLength h.lines v) announced.1 h.first;
+        announced = announced.2;
+        short = omega (arith, length-append (lines_text h.lines) line_end, h.room_is);
+      },
+      read-end empty,
+    )
+
+    pub ReadingStops-ended : (fault : FrameError) → length line ≡ 0 → (fault ≡ Broken) × IsNoNumber value → ReadingStops given left fault
+    ReadingStops-ended fault empty why =
+        let all = read-end empty in
+        subst (λ (f : FrameError). ReadingStops given left f) (sym why.0)
+        (lines_text h.lines ++ line_end, all.bytes, inr (header_without_length h.lines value h.each h.first why.1, all.failures))
+
+  -- no line was read
+  stopped : LineRunsDry mid left ⊎ LineIsLong room mid left ⊎ LineHasNoReturn mid left → ReadingStops given left Broken
+  stopped (inl dry) =
+      let all = RunsDry-then given mid left (lines_text h.lines) dry.taken h.read dry.dry in
+      (lines_text h.lines ++ dry.taken, all.bytes, inl (open_header h.lines dry.taken h.each dry.open_line, all.cause))
+  stopped (inr (inl long)) =
+      let all = Gives-then given mid left (lines_text h.lines) long.taken h.read long.gives in
+      let enough : header_bytes_max ≤ length (lines_text h.lines ++ long.taken) =
+      omega (arith, length-append (lines_text h.lines) long.taken, h.room_is, long.long) in
+      (lines_text h.lines ++ long.taken, all.bytes, inr (long_header h.lines long.taken h.each long.open_line enough, all.failures))
+  stopped (inr (inr bad)) =
+      let all = Gives-then given mid left (lines_text h.lines) (bad.line ++ 10 ∷ []) h.read bad.gives in
+      (lines_text h.lines ++ (bad.line ++ 10 ∷ []), all.bytes, inr (bad_line h.lines bad.line h.each bad.one bad.no_return, all.failures))
+
+  pub ReadingStops-in_line : (fault : FrameError) → LineStops room mid left fault → ReadingStops given left fault
+  ReadingStops-in_line Memory why =
+      (lines_text h.lines ++ why.0, Gives-then given mid left (lines_text h.lines) why.0 h.read why.1, inl (open_header h.lines why.0 h.each why.2))
+  ReadingStops-in_line Broken why = stopped why
+
+-- there is no room for one more line
+pub ReadingStops-full : (given left : Observed) (value : Option (List ℕ)) (room : ℕ) → HeaderSoFar given left value room → room ≤ 0
+    → ReadingStops given left Broken
+ReadingStops-full given left value room h none =
+    let whole = append-nil (lines_text h.lines) in
+    let long : header_bytes_max ≤ length (lines_text h.lines ++ []) = omega (arith, ap length whole, h.room_is) in
+    let none_begins = long_header h.lines [] h.each (All-nil (λ byte. byte ≢ 10)) long in
+    (lines_text h.lines, h.read.bytes, inr (subst BeginsNoFrame whole none_begins, h.read.failures))
+
+-- ---- frames
+
+le_split : (n m : ℕ) → n ≤ m → (n < m) ⊎ (n ≡ m)
+le_split zero zero h = inr refl
+le_split zero (suc m) h = inl (omega arith)
+le_split (suc n) zero h = absurd (omega arith)
+le_split (suc n) (suc m) h = elim (le_split n m (omega arith)) [ inl low ↦ inl (omega arith) | inr same ↦ inr (ap suc same) ]
+
+module _ (given mid left : Observed) (header : List ℕ) (len : ℕ) (h : IsHeader header len) (read : Gives given mid header) where
+  -- a header and a body of the announced length
+  pub ReadsFrame-of : (body : List ℕ) → Gives mid left body → length body ≡ len → ReadsFrame given.bytes left.bytes body × (left.failures ≡ given.failures)
+  ReadsFrame-of body second same =
+      let all = Gives-then given mid left header body read second in (
+        record { header = header; announces = subst (λ (n : ℕ). IsHeader header n) (sym same) h; read = all.bytes },
+        all.failures,
+      )
+
+  one_at_most : (part : List ℕ) → (length part < len) ⊎ (length part ≡ len) → IsOneFrameAtMost (header ++ part)
+  one_at_most part (inl low) = inl (open_body header part len h low)
+  one_at_most part (inr same) =
+      inr (record { header = header; body = part; whole = refl; announces = subst (λ (n : ℕ). IsHeader header n) (sym same) h })
+
+  -- the body was not read
+  pub ReadingStops-in_body : (fault : FrameError) → BodyStops len mid left fault → ReadingStops given left fault
+  ReadingStops-in_body Memory why =
+      (header ++ why.0, Gives-then given mid left header why.0 read why.1, one_at_most why.0 (le_split (length why.0) len why.2))
+  ReadingStops-in_body Broken why =
+      let all = RunsDry-then given mid left header why.0 read why.1 in
+      (header ++ why.0, all.bytes, inl (open_body header why.0 len h why.2, all.cause))

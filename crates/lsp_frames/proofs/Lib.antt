@@ -1,2 +1,5 @@
 pub mod HeaderLines
+pub mod NoFrame
 pub mod OneFrame
+pub mod ReadParts
+pub mod Transferred

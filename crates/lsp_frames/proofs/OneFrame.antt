@@ -45,7 +45,7 @@ pub with_return : (line : List ℕ) → HasNoNewline line → HasNoNewline (line
 with_return line h = All-push (λ byte. byte ≢ 10) line 13 h (λ is. cc)
 
 -- two lines that begin the same bytes are equal
-same_line : (line other x y : List ℕ) → HasNoNewline line → HasNoNewline other → (line ++ line_end) ++ x ≡ (other ++ line_end) ++ y → (line ≡ other) × (x ≡ y)
+pub same_line : (line other x y : List ℕ) → HasNoNewline line → HasNoNewline other → (line ++ line_end) ++ x ≡ (other ++ line_end) ++ y → (line ≡ other) × (x ≡ y)
 same_line line other x y p q is =
     let cut = first_cut (line ++ 13 ∷ []) (other ++ 13 ∷ []) x y (with_return line p) (with_return other q) (sym (line_cut line x) ∙ is ∙ line_cut other y) in
     (same_end line other (13 ∷ []) cut.0, cut.1)

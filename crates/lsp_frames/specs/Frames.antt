@@ -1,5 +1,5 @@
 -- Frames: a header, an empty line, and the body (LSP 3.17, "Base Protocol").
-use Rattle.std.specs.Prelude.{ℕ, ◌≡◌, ◌≢◌, ◌+◌, ◌*◌, ◌-◌, ◌^◌, ◌<◌, ◌≤◌, ◌==◌, ◌&&◌, ◌||◌, List, [], ◌∷◌, ◌++◌, All, Bool, true, Option, None, Some, length, take, drop, map, codes, decimal, nat_lt, nat_le, if◌then◌else◌}
+use Rattle.std.specs.Prelude.{ℕ, ◌≡◌, ◌≢◌, ◌+◌, ◌*◌, ◌-◌, ◌^◌, ◌<◌, ◌≤◌, ◌==◌, ◌&&◌, ◌||◌, List, [], ◌∷◌, ◌++◌, All, Bool, true, Option, None, Some, length, take, drop, map, codes, decimal, nat_lt, nat_le, if◌then◌else◌, ◌⊎◌}
 use Rattle.std.specs.Io.KnownBytes.{Consumes}
 use Rattle.std.specs.Char.{to_ascii_lowercase}
 use Rattle.lsp_frames.specs.declared.frames.Frame.{Frame}
@@ -106,3 +106,24 @@ Reads given left TooLong = (body : List ℕ) × ReadsFrame given left body × (b
 abbrev pub frame_view : Frame → Option (List ℕ)
 frame_view (Body body) = Some body.items
 frame_view TooLong = None
+
+-- ---- bytes that are no frame
+
+-- no frame is at the front of these bytes
+abbrev pub HasNoFrame : List ℕ → Type 0
+HasNoFrame bytes = (header body rest : List ℕ) → IsHeader header (length body) → bytes ≢ (header ++ body) ++ rest
+
+-- no frame begins with these bytes, whatever follows them
+abbrev pub BeginsNoFrame : List ℕ → Type 0
+BeginsNoFrame bytes = (later : List ℕ) → HasNoFrame (bytes ++ later)
+
+-- the bytes are one frame
+pub record IsOneFrame (bytes : List ℕ) : Type 0 where
+  pub header : List ℕ
+  pub body : List ℕ
+  pub whole : bytes ≡ header ++ body
+  pub announces : IsHeader header (length body)
+
+-- the bytes are one frame, or have none at their front
+abbrev pub IsOneFrameAtMost : List ℕ → Type 0
+IsOneFrameAtMost bytes = HasNoFrame bytes ⊎ IsOneFrame bytes

@@ -1,3 +1,4 @@
 pub mod Frames
 pub mod FrameLaws
+pub mod Transfers
 pub mod inside

@@ -1,12 +1,17 @@
 //! Frames: a header that announces how long the body is, and the body ("Base Protocol").
-ghost use Rattle.std.specs.Prelude.{◌≡◌, ◌+◌, ◌<◌, ◌≤◌, ◌++◌, ◌∷◌, [], ℕ, List, IfOk, MatchOption, OnOk, Some, drop, length, option_map};
-ghost use Rattle.std.specs.Io.KnownBytes.{Appends, Consumes};
-ghost use Rattle.lsp_frames.specs.Frames.{HasNoNewline, IsHeader, IsLengthLine, Reads, are_blank, digits_number, framed, line_end, number_of};
-ghost use Rattle.lsp_frames.specs.inside.Headers.{FirstLength};
+ghost use Rattle.std.specs.Prelude.{◌≡◌, ◌+◌, ◌<◌, ◌≤◌, ◌++◌, ◌∷◌, [], ℕ, List, IfErr, IfOk, MatchOption, OnOk, Some, drop, length, option_map};
+ghost use Rattle.tools_devices.specs.Counted.{observation};
+ghost use Rattle.tools_devices.specs.Reading.{Gives};
+ghost use Rattle.tools_devices.specs.Writing.{TakesAll, TakesFront};
+ghost use Rattle.lsp_frames.specs.Frames.{HasNoNewline, IsHeader, IsLengthLine, are_blank, digits_number, framed, line_end, number_of};
+ghost use Rattle.lsp_frames.specs.Transfers.{GivesFrame, ReadingStops, WritingEnds};
+ghost use Rattle.lsp_frames.specs.declared.frames.FrameError.TheVariants.{Broken};
+ghost use Rattle.lsp_frames.specs.inside.Headers.{FirstLength, IsNoNumber};
+ghost use Rattle.lsp_frames.specs.inside.Parts.{BodyStops, HasNoReturn, LineStops, ReadsSome, StopsAtOnce};
 
 use std::alloc::{AllocError, Global};
-use std::io;
 use std::io::{Read, Write};
+use tools_devices::{Counted, write_out};
 
 /// The most bytes of a header, with the empty line.
 pub const HEADER_BYTES_MAX: usize = 4_096;
@@ -48,23 +53,29 @@ impl From<AllocError> for FrameError {
     }
 }
 
-impl From<io::Error> for FrameError {
-    ghost use Rattle.lsp_frames.specs.declared.frames.FrameError.TheVariants.{Broken};
-
-    ghost from_gives = { λ _ fault. fault ≡ Broken };
-
-    fn from(_: io::Error) -> FrameError {
-        FrameError::Broken
+// Reads some bytes into the front of a piece that has room. The answer is how many came.
+fn read_some<R: Read>(reader: &mut Counted<R>, piece: &mut [u8]) -> Result<usize, FrameError>
+    requires { 0 < length piece.old }
+    ensures read { IfOk result (ReadsSome (observation R.remaining reader.old) (observation R.remaining reader.new) piece.new) }
+    ensures stops { IfErr result (StopsAtOnce (observation R.remaining reader.old) (observation R.remaining reader.new)) }
+{
+    let Ok(count) = reader.read(piece) else {
+        return Err(FrameError::Broken);
+    };
+    if count == 0 {
+        return Err(FrameError::Broken);
     }
+    Ok(count)
 }
 
 // The next byte.
-fn read_byte<R: Read>(reader: &mut R) -> Result<u8, FrameError>
-    ensures { IfOk result (λ byte. Consumes (R.remaining reader.old) (R.remaining reader.new) (byte ∷ [])) }
+fn read_byte<R: Read>(reader: &mut Counted<R>) -> Result<u8, FrameError>
+    ensures read { IfOk result (λ byte. Gives (observation R.remaining reader.old) (observation R.remaining reader.new) (byte ∷ [])) }
+    ensures stops { IfErr result (StopsAtOnce (observation R.remaining reader.old) (observation R.remaining reader.new)) }
 {
-    let mut byte = [0_u8];
-    reader.read_exact(&mut byte)?;
-    Ok(byte[0])
+    let mut piece = [0_u8];
+    let _count = read_some(reader, &mut piece)?;
+    Ok(piece[0])
 }
 
 // Puts a byte at the end.
@@ -76,7 +87,8 @@ fn push(line: &mut Vec<u8>, byte: u8) -> Result<(), AllocError>
 
 // A line without the CR at its end, which it must have.
 fn without_return(mut line: Vec<u8>) -> Result<Vec<u8>, FrameError>
-    ensures { IfOk result (λ rest. line.items ≡ rest.items ++ 13 ∷ []) }
+    ensures rest { IfOk result (λ rest. line.items ≡ rest.items ++ 13 ∷ []) }
+    ensures refused { IfErr result (λ fault. (fault ≡ Broken) × HasNoReturn line.items) }
 {
     match line.pop() {
         Some(b'\r') => Ok(line),
@@ -85,11 +97,16 @@ fn without_return(mut line: Vec<u8>) -> Result<Vec<u8>, FrameError>
 }
 
 // Reads a line of a header, without its end, which is counted in the room.
-fn read_line<R: Read>(alloc: Global, reader: &mut R, room: usize) -> Result<Vec<u8>, FrameError>
-    ensures read { IfOk result (λ line. Consumes (R.remaining reader.old) (R.remaining reader.new)
+fn read_line<R: Read>(
+    alloc: Global,
+    reader: &mut Counted<R>,
+    room: usize,
+) -> Result<Vec<u8>, FrameError>
+    ensures read { IfOk result (λ line. Gives (observation R.remaining reader.old) (observation R.remaining reader.new)
         (line.items ++ line_end)) }
     ensures line { IfOk result (λ line. HasNoNewline line.items) }
     ensures short { IfOk result (λ line. length line.items + 2 ≤ room) }
+    ensures stops { IfErr result (LineStops room (observation R.remaining reader.old) (observation R.remaining reader.new)) }
 {
     let mut line = Vec::new(alloc);
     while line.len() < room {
@@ -184,8 +201,9 @@ fn first_value(
 
 // The length that a value gives.
 fn announced(value: Option<Vec<u8>>) -> Result<u64, FrameError>
-    ensures { IfOk result (λ len. (bytes : List ℕ) × (option_map (λ v. v.items) value ≡ Some bytes)
+    ensures number { IfOk result (λ len. (bytes : List ℕ) × (option_map (λ v. v.items) value ≡ Some bytes)
         × (number_of bytes ≡ Some len)) }
+    ensures refused { IfErr result (λ fault. (fault ≡ Broken) × IsNoNumber (option_map (λ v. v.items) value)) }
 {
     let Some(value) = value else {
         return Err(FrameError::Broken);
@@ -197,9 +215,10 @@ fn announced(value: Option<Vec<u8>>) -> Result<u64, FrameError>
 }
 
 // Reads a header. The answer is the length that it announces.
-fn read_header<R: Read>(alloc: Global, reader: &mut R) -> Result<u64, FrameError>
-    ensures { IfOk result (λ len. (header : List ℕ) × IsHeader header len
-        × Consumes (R.remaining reader.old) (R.remaining reader.new) header) }
+fn read_header<R: Read>(alloc: Global, reader: &mut Counted<R>) -> Result<u64, FrameError>
+    ensures read { IfOk result (λ len. (header : List ℕ) × IsHeader header len
+        × Gives (observation R.remaining reader.old) (observation R.remaining reader.new) header) }
+    ensures stops { IfErr result (ReadingStops (observation R.remaining reader.old) (observation R.remaining reader.new)) }
 {
     let mut room = HEADER_BYTES_MAX;
     let mut value = None;
@@ -214,58 +233,68 @@ fn read_header<R: Read>(alloc: Global, reader: &mut R) -> Result<u64, FrameError
     Err(FrameError::Broken)
 }
 
-// Reads a piece of a body, and puts it at the end of what came before.
+// Reads some bytes of a body, at most as many as a piece has room for, and puts them at the end of
+// what came before.
 fn read_piece<R: Read>(
-    reader: &mut R,
+    reader: &mut Counted<R>,
     piece: &mut [u8],
     body: &mut Vec<u8>,
 ) -> Result<(), FrameError>
-    ensures read { OnOk result (Consumes (R.remaining reader.old) (R.remaining reader.new) piece.new) }
-    ensures body { OnOk result (body.new.items ≡ body.old.items ++ piece.new) }
+    requires { 0 < length piece.old }
+    ensures read { OnOk result ((came : List ℕ) × Gives (observation R.remaining reader.old) (observation R.remaining reader.new) came
+        × (body.new.items ≡ body.old.items ++ came) × (0 < length came) × (length came ≤ length piece.old)) }
+    ensures stops { IfErr result (BodyStops (length piece.old) (observation R.remaining reader.old) (observation R.remaining reader.new)) }
 {
-    reader.read_exact(piece)?;
-    body.extend_from_slice(piece)?;
+    let count = read_some(reader, piece)?;
+    body.extend_from_slice(&piece[..count])?;
     Ok(())
 }
 
 // Reads a body of this length. Memory grows with what comes.
-fn read_body<R: Read>(alloc: Global, reader: &mut R, len: usize) -> Result<Vec<u8>, FrameError>
-    ensures read { IfOk result (λ body. Consumes (R.remaining reader.old) (R.remaining reader.new) body.items) }
+fn read_body<R: Read>(
+    alloc: Global,
+    reader: &mut Counted<R>,
+    len: usize,
+) -> Result<Vec<u8>, FrameError>
+    ensures read { IfOk result (λ body. Gives (observation R.remaining reader.old) (observation R.remaining reader.new) body.items) }
     ensures len { IfOk result (λ body. length body.items ≡ len) }
+    ensures stops { IfErr result (BodyStops len (observation R.remaining reader.old) (observation R.remaining reader.new)) }
 {
     let mut body = Vec::new(alloc);
     let mut piece = [0_u8; PIECE_BYTES];
     while body.len() < len {
-        let count = PIECE_BYTES.min(len - body.len());
-        read_piece(reader, &mut piece[..count], &mut body)?;
+        let room = PIECE_BYTES.min(len - body.len());
+        read_piece(reader, &mut piece[..room], &mut body)?;
     }
     Ok(body)
 }
 
 // Reads this number of bytes, and drops them.
-fn skip_body<R: Read>(reader: &mut R, len: u64) -> Result<(), FrameError>
-    ensures { OnOk result ((bytes : List ℕ) × Consumes (R.remaining reader.old) (R.remaining reader.new) bytes
-        × (length bytes ≡ len)) }
+fn skip_body<R: Read>(reader: &mut Counted<R>, len: u64) -> Result<(), FrameError>
+    ensures read { OnOk result ((bytes : List ℕ) × (length bytes ≡ len)
+        × Gives (observation R.remaining reader.old) (observation R.remaining reader.new) bytes) }
+    ensures stops { IfErr result (BodyStops len (observation R.remaining reader.old) (observation R.remaining reader.new)) }
 {
     let mut left = len;
     let mut piece = [0_u8; PIECE_BYTES];
     while left > 0 {
-        let count = left.min(PIECE_BYTES as u64);
-        reader.read_exact(&mut piece[..count as usize])?;
-        left -= count;
+        let room = left.min(PIECE_BYTES as u64);
+        let count = read_some(reader, &mut piece[..room as usize])?;
+        left -= count as u64;
     }
     Ok(())
 }
 
 /// Reads a frame: a header of at most 4,096 bytes and its body. A field's name may be in any case;
 /// fields other than `Content-Length` are skipped, and the first of that name counts. Memory grows
-/// with what comes, not with what is announced. After an error nothing is known of the reader.
+/// with what comes, not with what is announced. Nothing is read after the frame.
 ///
 /// # Errors
 /// `Broken` if the reader fails or ends, if a line does not end with CR LF, and if the header is
-/// longer or gives no length; `Memory`.
-pub fn read_frame<R: Read>(alloc: Global, reader: &mut R) -> Result<Frame, FrameError>
-    ensures { IfOk result (λ frame. Reads (R.remaining reader.old) (R.remaining reader.new) frame) }
+/// longer or gives no length; then what was read has no frame. `Memory`, after at most a frame.
+pub fn read_frame<R: Read>(alloc: Global, reader: &mut Counted<R>) -> Result<Frame, FrameError>
+    ensures read { IfOk result (GivesFrame (observation R.remaining reader.old) (observation R.remaining reader.new)) }
+    ensures stops { IfErr result (ReadingStops (observation R.remaining reader.old) (observation R.remaining reader.new)) }
 {
     let len = read_header(alloc, reader)?;
     if len > BODY_BYTES_MAX {
@@ -288,15 +317,33 @@ pub fn make_frame(alloc: Global, body: &[u8]) -> Result<Vec<u8>, AllocError>
     Ok(bytes)
 }
 
+// Writes bytes to the end, and flushes.
+fn write_flushed<W: Write>(writer: &mut Counted<W>, bytes: &[u8]) -> Result<(), FrameError>
+    ensures written { OnOk result (TakesAll (observation W.contents writer.old) (observation W.contents writer.new) bytes.now) }
+    ensures cut { IfErr result (λ fault. (fault ≡ Broken)
+        × TakesFront (observation W.contents writer.old) (observation W.contents writer.new) bytes.now) }
+{
+    let Ok(()) = write_out(writer, bytes) else {
+        return Err(FrameError::Broken);
+    };
+    let Ok(()) = writer.flush() else {
+        return Err(FrameError::Broken);
+    };
+    Ok(())
+}
+
 /// Writes the frame of a body at once, and flushes.
 ///
 /// # Errors
-/// `Broken` if the writer fails; `Memory`.
-pub fn write_frame<W: Write>(alloc: Global, writer: &mut W, body: &[u8]) -> Result<(), FrameError>
-    ensures { OnOk result (Appends (W.contents writer.old) (W.contents writer.new) (framed body.now)) }
+/// `Broken` if the writer fails; it then took the frame up to some byte. `Memory`, before anything is
+/// written.
+pub fn write_frame<W: Write>(
+    alloc: Global,
+    writer: &mut Counted<W>,
+    body: &[u8],
+) -> Result<(), FrameError>
+    ensures { WritingEnds (observation W.contents writer.old) (observation W.contents writer.new) (framed body.now) result }
 {
     let bytes = make_frame(alloc, body)?;
-    writer.write_all(&bytes)?;
-    writer.flush()?;
-    Ok(())
+    write_flushed(writer, &bytes)
 }

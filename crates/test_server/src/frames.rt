@@ -4,6 +4,7 @@ use std::alloc::Global;
 use std::io::{self, Read};
 use std::process::Abort;
 use std::test::Fail;
+use tools_devices::Counted;
 
 // The body of a frame; if it is too long, these words.
 fn seen(frame: &Frame) -> &[u8] {
@@ -15,7 +16,7 @@ fn seen(frame: &Frame) -> &[u8] {
 
 // The frame that begins the bytes has this body.
 fn expect_body(rt: &impl Abort, alloc: Global, bytes: &[u8], want: &[u8]) {
-    let mut reader = bytes;
+    let mut reader = Counted::new(bytes);
     match read_frame(alloc, &mut reader) {
         Ok(frame) => assert!(rt; seen(&frame) == want, "{bytes:?}"),
         Err(_) => assert!(rt; false, "{bytes:?}"),
@@ -24,7 +25,7 @@ fn expect_body(rt: &impl Abort, alloc: Global, bytes: &[u8], want: &[u8]) {
 
 // No frame begins the bytes.
 fn expect_broken(rt: &impl Abort, alloc: Global, bytes: &[u8]) {
-    let mut reader = bytes;
+    let mut reader = Counted::new(bytes);
     match read_frame(alloc, &mut reader) {
         Ok(_) => assert!(rt; false, "{bytes:?}"),
         Err(fault) => assert!(rt; fault == FrameError::Broken, "{bytes:?}"),
@@ -106,7 +107,7 @@ fn a_body_that_is_too_long_is_passed_over(rt: HostRuntime) -> Result<(), Fail> {
     let header = b"Content-Length: 67108865\r\n\r\n".as_slice();
     let next = b"Content-Length: 2\r\n\r\n{}".as_slice();
     let body = io::repeat(b' ').take(67_108_865);
-    let mut reader = header.chain(body).chain(next);
+    let mut reader = Counted::new(header.chain(body).chain(next));
     let first = read_frame(rt.alloc(), &mut reader);
     assert!(rt; matches!(first, Ok(Frame::TooLong)));
     match read_frame(rt.alloc(), &mut reader) {
@@ -121,17 +122,17 @@ fn a_frame_is_written(rt: HostRuntime) -> Result<(), Fail> {
     let want = b"Content-Length: 12\r\n\r\n{\"id\":\"\xc3\xa9\"} ".as_slice();
     let body = b"{\"id\":\"\xc3\xa9\"} ".as_slice();
     assert!(rt; make_frame(rt.alloc(), body)?.as_slice() == want);
-    let mut writer = Vec::new(rt.alloc());
+    let mut writer = Counted::new(Vec::new(rt.alloc()));
     let written = write_frame(rt.alloc(), &mut writer, body);
     assert!(rt; written == Ok(()));
-    assert!(rt; writer.as_slice() == want);
+    assert!(rt; writer.into_inner().as_slice() == want);
     Ok(())
 }
 
 #[test]
 fn a_closed_output_is_broken(rt: HostRuntime) {
     let mut room = [0_u8; 10];
-    let mut writer = room.as_mut_slice();
+    let mut writer = Counted::new(room.as_mut_slice());
     let written = write_frame(rt.alloc(), &mut writer, b"{}");
     assert!(rt; written == Err(FrameError::Broken));
 }

@@ -6,6 +6,7 @@ use std::alloc::{AllocError, Global};
 use std::process::Abort;
 use std::test::Fail;
 use test_devices::{Drip, End, Narrow};
+use tools_devices::Counted;
 
 // A session: what it shows, the bodies that come, those that are sent back, and how it ends. With
 // no status the input ends before `exit`.
@@ -90,10 +91,11 @@ fn frames_of(alloc: Global, bodies: &[&str]) -> Result<Vec<u8>, AllocError> {
 fn expect_session(rt: &impl Abort, alloc: Global, session: &Session) -> Result<(), AllocError> {
     let input = frames_of(alloc, session.sent)?;
     let want = frames_of(alloc, session.answers)?;
-    let mut reader = input.as_slice();
-    let mut writer = Vec::new(alloc);
+    let mut reader = Counted::new(input.as_slice());
+    let mut writer = Counted::new(Vec::new(alloc));
     let mut server: Server<Measured> = Server::new(alloc);
     let end = serve(alloc, &mut server, &mut reader, &mut writer);
+    let writer = writer.into_inner();
     let name = session.name;
     assert!(rt; end == session.end, "{name}");
     assert!(rt; writer.as_slice() == want.as_slice(), "{name}: {writer:?}");
@@ -493,62 +495,105 @@ fn nesting_of_127_is_json(rt: HostRuntime) -> Result<(), Fail> {
             "]".repeat(alloc, depth)?
         )?;
         let input = frames_of(alloc, &[body.as_str()])?;
-        let mut reader = input.as_slice();
-        let mut writer = Vec::new(alloc);
+        let mut reader = Counted::new(input.as_slice());
+        let mut writer = Counted::new(Vec::new(alloc));
         let mut server: Server<Measured> = Server::new(alloc);
         let end = serve(alloc, &mut server, &mut reader, &mut writer);
         assert!(rt; end == Err(FrameError::Broken), "{depth}");
         assert!(rt;
-            writer.as_slice() == frames_of(alloc, &[want])?.as_slice(),
+            writer.into_inner().as_slice() == frames_of(alloc, &[want])?.as_slice(),
             "{depth}"
         );
     }
     Ok(())
 }
 
-// The input fails after some bytes: the answers to the frames before are written, and no more.
+// The input gives this many bytes and then ends so: this many of the answers are written, and no
+// more.
+fn expect_input_stops(
+    rt: &impl Abort,
+    alloc: Global,
+    reads_left: usize,
+    end: End,
+    answers: usize,
+) -> Result<(), AllocError> {
+    let input = frames_of(alloc, &[INITIALIZE, OPEN, EXIT])?;
+    let want = frames_of(alloc, [READY, OPENED].get(..answers).unwrap_or(&[]))?;
+    let mut reader = Counted::new(Drip {
+        rest: input.as_slice(),
+        reads_left,
+        end,
+    });
+    let mut writer = Counted::new(Vec::new(alloc));
+    let mut server: Server<Measured> = Server::new(alloc);
+    let stop = serve(alloc, &mut server, &mut reader, &mut writer);
+    let written = writer.into_inner();
+    assert!(rt; stop == Err(FrameError::Broken), "at {reads_left}: {end:?}");
+    assert!(rt;
+        written.as_slice() == want.as_slice(),
+        "at {reads_left}: {end:?}"
+    );
+    Ok(())
+}
+
 #[test]
-fn an_input_that_fails(rt: HostRuntime) -> Result<(), Fail> {
-    let alloc = rt.alloc();
-    let input = frames_of(alloc, &[INITIALIZE, OPEN])?;
-    let first = frames_of(alloc, &[INITIALIZE])?.len();
-    for (reads_left, answers) in [(0, 0), (5, 0), (first, 1), (first.saturating_add(30), 1)] {
-        let mut reader = Drip {
-            rest: input.as_slice(),
-            reads_left,
-            end: End::Fails,
-        };
-        let mut writer = Vec::new(alloc);
-        let mut server: Server<Measured> = Server::new(alloc);
-        let end = serve(alloc, &mut server, &mut reader, &mut writer);
-        let want = frames_of(alloc, &[READY][..answers])?;
-        assert!(rt; end == Err(FrameError::Broken), "{reads_left}");
-        assert!(rt; writer.as_slice() == want.as_slice(), "{reads_left}");
+fn an_input_that_fails_or_ends(rt: HostRuntime) -> Result<(), Fail> {
+    let first = frames_of(rt.alloc(), &[INITIALIZE])?.len();
+    let second = frames_of(rt.alloc(), &[INITIALIZE, OPEN])?.len();
+    for end in [
+        End::Fails,
+        End::FailsOnce,
+        End::IsInterrupted,
+        End::MovesNothing,
+    ] {
+        for reads in [0, 5, first.saturating_sub(1)] {
+            expect_input_stops(&rt, rt.alloc(), reads, end, 0)?;
+        }
+        for reads in [first, first.saturating_add(30), second.saturating_sub(1)] {
+            expect_input_stops(&rt, rt.alloc(), reads, end, 1)?;
+        }
+        for reads in [second, second.saturating_add(9)] {
+            expect_input_stops(&rt, rt.alloc(), reads, end, 2)?;
+        }
     }
     Ok(())
 }
 
-// The output takes no more: a front of the answers is written.
-#[test]
-fn an_output_that_is_closed(rt: HostRuntime) -> Result<(), Fail> {
-    let alloc = rt.alloc();
+// The output takes this many bytes and then ends so: a front of the answers is written.
+fn expect_output_stops(
+    rt: &impl Abort,
+    alloc: Global,
+    room: usize,
+    end: End,
+) -> Result<(), AllocError> {
     let input = frames_of(alloc, &[INITIALIZE, SHUTDOWN, EXIT])?;
     let want = frames_of(alloc, &[READY, DONE])?;
-    for room in [0, 10, want.len().saturating_sub(1)] {
-        let mut reader = input.as_slice();
-        let mut writer = Narrow {
-            taken: Vec::new(alloc),
-            room,
-            end: End::MovesNothing,
-        };
-        let mut server: Server<Measured> = Server::new(alloc);
-        let end = serve(alloc, &mut server, &mut reader, &mut writer);
-        assert!(rt; end == Err(FrameError::Broken), "{room}");
-        assert!(rt;
-            want.as_slice().starts_with(writer.taken.as_slice()),
-            "{room}"
-        );
-        assert_eq!(rt; writer.taken.len(), room);
+    let mut reader = Counted::new(input.as_slice());
+    let taken = Vec::new(alloc);
+    let mut writer = Counted::new(Narrow { taken, room, end });
+    let mut server: Server<Measured> = Server::new(alloc);
+    let stop = serve(alloc, &mut server, &mut reader, &mut writer);
+    let taken = writer.into_inner().taken;
+    assert!(rt; stop == Err(FrameError::Broken), "at {room}: {end:?}");
+    assert!(rt;
+        Some(taken.as_slice()) == want.get(..room),
+        "at {room}: {end:?}"
+    );
+    Ok(())
+}
+
+#[test]
+fn an_output_that_fails_or_is_closed(rt: HostRuntime) -> Result<(), Fail> {
+    let size = frames_of(rt.alloc(), &[READY, DONE])?.len();
+    for end in [
+        End::Fails,
+        End::FailsOnce,
+        End::IsInterrupted,
+        End::MovesNothing,
+    ] {
+        for room in [0, 10, size.saturating_sub(1)] {
+            expect_output_stops(&rt, rt.alloc(), room, end)?;
+        }
     }
     Ok(())
 }

@@ -21,6 +21,7 @@ use lsp_server::{Server, serve};
 use std::process::ExitCode;
 use std::rt::Env;
 use std::{env, io};
+use tools_devices::Counted;
 
 fn main(rt: HostRuntime) -> ExitCode {
     ExitCode::from(run(&rt))
@@ -61,7 +62,7 @@ fn serve_input<R: Input + Print + AllocGlobal>(rt: &R) -> u8 {
 // Answers what comes on standard input, read with a buffer.
 fn serve_buffered<R: Input + Print + AllocGlobal>(rt: &R) -> Result<u8, FrameError> {
     let mut server: Server<Terminfo> = Server::new(rt.alloc());
-    let mut reader = io::BufReader::new(rt.alloc(), rt.reader())?;
-    let mut writer = io::writer(rt);
+    let mut reader = Counted::new(io::BufReader::new(rt.alloc(), rt.reader())?);
+    let mut writer = Counted::new(io::writer(rt));
     serve(rt.alloc(), &mut server, &mut reader, &mut writer)
 }

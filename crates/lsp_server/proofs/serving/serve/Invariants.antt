@@ -1,17 +1,14 @@
-use Rattle.std.proofs.Common.{ℕ, List, Option}
-use Rattle.lsp_server.specs.Serving.{Serves}
+use Rattle.tools_devices.specs.Counted.{observation}
+use Rattle.lsp_server.proofs.Serves.{Progress}
 use Rattle.lsp_server.specs.States.{state_of}
-use Rattle.lsp_server.specs.Steps.{State}
 use Rattle.lsp_server.proofs.serving.serve.Given as goal
 
--- a run from here on is the rest of one from the start
-abbrev pub invariant-loop : goal.invariant-loop
-invariant-loop g l =
-    let places = g.D.HeldText.place_in in
-    let says = g.D.HeldText.says in
-    let remaining = g.R.Read.remaining in
-    let contents = g.W.Write.contents in
-    let state = state_of g.D.HeldText.text_of in
-    (left after : Option (List ℕ)) (end : State) (status : ℕ)
-    → Serves places says (remaining l.reader) left (contents l.writer) after (state l.server) end status
-    → Serves places says (remaining l.fn.reader) left (contents l.fn.writer) after (state l.fn.server) end status
+-- the frames that were read are answered
+abbrev pub invariant-loop-frames_left : goal.invariant-loop-frames_left
+invariant-loop-frames_left g l =
+    Progress g.D.HeldText.place_in g.D.HeldText.says (state_of g.D.HeldText.text_of l.fn.server) (state_of g.D.HeldText.text_of l.server)
+    (observation g.R.Read.remaining l.fn.reader) (observation g.R.Read.remaining l.reader)
+    (observation g.W.Write.contents l.fn.writer) (observation g.W.Write.contents l.writer) l.frames_left
+
+abbrev pub decreases-loop-frames_left : goal.decreases-loop-frames_left
+decreases-loop-frames_left g l = l.frames_left
