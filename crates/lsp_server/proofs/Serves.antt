@@ -1,9 +1,7 @@
 -- Frames that are answered one after another, and how that ends.
-use Rattle.std.proofs.Common.{ℕ, ◌≡◌, ◌+◌, ◌-◌, ◌<◌, ◌≤◌, ◌⊎◌, List, [], ◌∷◌, ◌++◌, length, Option, None, Some, Result, Ok, Err, option_map}
+use Rattle.std.proofs.Common.{ℕ, ◌≡◌, ◌+◌, ◌-◌, ◌<◌, ◌≤◌, List, [], ◌∷◌, ◌++◌, length, Option, None, Some, Result, Ok, Err, option_map}
 use Rattle.std.proofs.Common.{refl, sym, ap, ◌∙◌, subst, arith, append_assoc, append-nil, inl, inr, length-append}
 use Rattle.std.proofs.lemmas.Grind.{flat_map-append}
-use Rattle.std.specs.Io.KnownBytes.{Appends}
-use Rattle.std.specs.List.{flat_map}
 use Rattle.std.specs.Option.{option_to_list}
 use Rattle.std.specs.Prelude.{IfErr, OnOk}
 use Rattle.serde_json.specs.Data.{Data}
@@ -21,7 +19,8 @@ use Rattle.lsp_frames.specs.declared.frames.FrameError.{FrameError}
 use Rattle.lsp_frames.specs.declared.frames.FrameError.TheVariants.{Memory, Broken}
 use Rattle.lsp_server.specs.Answers.{answer_data}
 use Rattle.lsp_server.specs.Sayings.{Sayings}
-use Rattle.lsp_server.specs.Serving.{AreFrames, Exchange, GoesOn, IsFrame, ServingEnds, answers_text, frame_text, frames_max, replies_to, reply_text, served_state}
+use Rattle.lsp_server.specs.Serving.{AreFrames, Exchange, GoesOn, IsFrame, ServingEnds}
+use Rattle.lsp_server.specs.Serving.{answers_text, frame_text, frames_max, replies_to, reply_text, served_state}
 use Rattle.lsp_server.specs.States.{status_of}
 use Rattle.lsp_server.specs.Steps.{Answer, Places, State, replied}
 use Rattle.lsp_server.specs.inside.Turns.{IsValue, Turn, TurnStops}
@@ -118,7 +117,8 @@ GoesOn-push places start [] value all one = (one, tt)
 GoesOn-push places start (first ∷ values) value all one = (all.0, GoesOn-push places ((replied places start first).0) values value all.1 one)
 
 replies_to-push : (places : Places) (start : State) (values : List (Option Data)) (value : Option Data)
-    → replies_to places start (values ++ value ∷ []) ≡ replies_to places start values ++ option_to_list ((replied places (served_state places start values) value).1)
+    → replies_to places start (values ++ value ∷ [])
+    ≡ replies_to places start values ++ option_to_list ((replied places (served_state places start values) value).1)
 replies_to-push places start [] value = append-nil (option_to_list ((replied places start value).1))
 replies_to-push places start (first ∷ values) value =
     let first_answer = option_to_list ((replied places start first).1) in
@@ -153,7 +153,8 @@ pub record Progress (places : Places) (says : Sayings) (start state : State) (gi
   pub written : TakesAll before now output
   pub count : length exchange.values + frames_left ≡ frames_max
 
-pub Progress-none : (places : Places) (says : Sayings) (start : State) (given before : Observed) → Progress places says start start given given before before frames_max
+pub Progress-none : (places : Places) (says : Sayings) (start : State) (given before : Observed)
+    → Progress places says start start given given before before frames_max
 Progress-none places says start given before = record {
   input = [];
   output = [];
@@ -172,7 +173,7 @@ module _ (places : Places) (says : Sayings) (start state : State) (given left be
   reached = sym p.exchange.end_is
 
   module _ (next : State) (later written_later : Observed) (turn : Turn places says left later now written_later state next) where
-    exchange-more : Exchange places says start next (p.input ++ turn.bytes) (p.output ++ reply_text places says state turn.value)
+    abbrev exchange-more : Exchange places says start next (p.input ++ turn.bytes) (p.output ++ reply_text places says state turn.value)
     exchange-more = record {
       values = values ++ turn.value ∷ [];
       frames = AreFrames-push p.input turn.bytes values turn.value p.exchange.frames turn.frame;
@@ -185,14 +186,16 @@ module _ (places : Places) (says : Sayings) (start state : State) (given left be
 
     -- one more frame was answered
     pub Progress-more : 0 < frames_left → Progress places says start next given later before written_later (frames_left - 1)
-    Progress-more some = record {
-      input = p.input ++ turn.bytes;
-      output = p.output ++ reply_text places says state turn.value;
-      exchange = exchange-more;
-      read = Gives-then given left later p.input turn.bytes p.read turn.read;
-      written = TakesAll-then before now written_later p.output (reply_text places says state turn.value) p.written turn.written;
-      count = omega (arith, length-push values turn.value, p.count);
-    }
+    Progress-more some =
+        let pushed : length (values ++ turn.value ∷ []) + (frames_left - 1) ≡ frames_max = omega (arith, length-push values turn.value, p.count) in
+        record {
+          input = p.input ++ turn.bytes;
+          output = p.output ++ reply_text places says state turn.value;
+          exchange = exchange-more;
+          read = Gives-then given left later p.input turn.bytes p.read turn.read;
+          written = TakesAll-then before now written_later p.output (reply_text places says state turn.value) p.written turn.written;
+          count = pushed;
+        }
 
   cause : (later : Observed) (taken : List ℕ) → NoFrameComes left later taken → NoFrameComes given later taken
   cause later taken (inl none) = inl (none.0, GivesNoMore-then given left later p.input p.read none.1)

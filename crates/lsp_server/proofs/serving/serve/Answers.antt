@@ -23,7 +23,8 @@ loop-frames_left-preserved g c =
 pub returns-in_err-serve_frame : goal.returns-in_err-serve_frame
 returns-in_err-serve_frame g c =
     let e = err_from_is_err_and c.from_residual.result c.from_residual.ensures.1 in
-    rw (e.1, e.2) (ServingEnds-stopped _ _ _ _ _ _ _ _ _ c.loop-frames_left.invariant (sym c.status.ensures ∙ c.in_default.is) _ _ _ _ c.in_err-serve_frame.ensures.stops)
+    let going = sym c.status.ensures ∙ c.in_default.is in
+    rw (e.1, e.2) (ServingEnds-stopped _ _ _ _ _ _ _ _ _ c.loop-frames_left.invariant going _ _ _ _ c.in_err-serve_frame.ensures.stops)
 
 pub returns : goal.returns
 returns g c = ServingEnds-most _ _ _ _ _ _ _ _ _ c.loop-frames_left.invariant (grind (arith, common_steps))

@@ -3,7 +3,6 @@ use Rattle.std.proofs.lemmas.Result.{err_from_is_err_and}
 use Rattle.serde_json.specs.View.{view}
 use Rattle.serde_json.specs.declared.value.Value.{Value}
 use Rattle.std.specs.Option.{option_copied}
-use Rattle.tools_devices.specs.Counted.{observation}
 use Rattle.lsp_server.proofs.Floats.{plain_replied}
 use Rattle.lsp_server.proofs.Serves.{memory_after, turn_answered, turn_cut, turn_unread}
 use Rattle.lsp_server.specs.Answers.{answer_data}
