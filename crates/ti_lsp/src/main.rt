@@ -62,7 +62,10 @@ fn serve_input<R: Input + Print + AllocGlobal>(rt: &R) -> u8 {
 // Answers what comes on standard input, read with a buffer.
 fn serve_buffered<R: Input + Print + AllocGlobal>(rt: &R) -> Result<u8, FrameError> {
     let mut server: Server<Terminfo> = Server::new(rt.alloc());
-    let mut reader = Counted::new(io::BufReader::new(rt.alloc(), rt.reader())?);
+    let Ok(reader) = io::BufReader::new(rt.alloc(), rt.reader()) else {
+        return Err(FrameError::Memory);
+    };
+    let mut reader = Counted::new(reader);
     let mut writer = Counted::new(io::writer(rt));
     serve(rt.alloc(), &mut server, &mut reader, &mut writer)
 }
