@@ -17,7 +17,7 @@ pub enum Failure {
     NotInitialized,
     /// A new name is none that an entry can have.
     NoName,
-    /// A new name is that of another entry.
+    /// A new name is that of another entry, or an item uses it and no entry has it.
     NameTaken,
 }
 
@@ -47,7 +47,7 @@ impl Failure {
             Failure::BadParameters => "the parameters are not those of the method",
             Failure::NotInitialized => "the server is not initialized",
             Failure::NoName => "no entry can have the new name",
-            Failure::NameTaken => "another entry has the new name",
+            Failure::NameTaken => "an entry has or uses the new name already",
         }
     }
 }

@@ -114,7 +114,7 @@ const REFUSAL: &str =
     r#"{"error":{"code":-32602,"message":"the parameters are not those of the method"},"id":true,"jsonrpc":"2.0"}"#;
 
 const REFUSED: &str =
-    r#"{"error":{"code":-32803,"message":"another entry has the new name"},"id":null,"jsonrpc":"2.0"}"#;
+    r#"{"error":{"code":-32803,"message":"an entry has or uses the new name already"},"id":null,"jsonrpc":"2.0"}"#;
 
 const READY: &str =
     r#"{"capabilities":{"codeActionProvider":{"codeActionKinds":["quickfix"]},"completionProvider":{"triggerCharacters":["=",","]},"definitionProvider":true,"documentSymbolProvider":true,"hoverProvider":true,"positionEncoding":"utf-16","referencesProvider":true,"renameProvider":{"prepareProvider":true},"textDocumentSync":{"change":2,"openClose":true}},"serverInfo":{"name":"ti-lsp","version":"9"}}"#;
