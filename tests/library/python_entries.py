@@ -32,6 +32,9 @@ def faults_of(name):
         if ours_of(entry, cap, ti.FLAG) != (curses.tigetflag(cap) == 1):
             yield f"{name}: {cap}"
     for cap in ti.NUMBER_NAMES:
+        # curses puts the size of a screen in place of one that an entry lacks
+        if cap in ("cols", "lines") and cap not in entry:
+            continue
         if ours_of(entry, cap, ti.NUMBER) != max(curses.tigetnum(cap), -1):
             yield f"{name}: {cap}: {entry.get(cap)}, {curses.tigetnum(cap)}"
     for cap in ti.STRING_NAMES:
@@ -39,8 +42,8 @@ def faults_of(name):
             yield f"{name}: {cap}: {entry.get(cap)}, {curses.tigetstr(cap)}"
     for cap, parameters in EXPANDED.items():
         text = entry.get(cap)
-        # the padding of a string is expanded by curses as it is
-        if text is not None and b"$<" not in text and b"%p" in text:
+        # curses leaves padding as it is, and counts a second `%i` for nothing (docs/COMPARED.md)
+        if text is not None and b"$<" not in text and b"%p" in text and text.count(b"%i") < 2:
             if text(*parameters) != curses.tparm(bytes(text), *parameters):
                 yield f"{name}: {cap}{parameters}"
 
@@ -48,6 +51,7 @@ def faults_of(name):
 def compare(directory, name):
     """Compares one entry. Gives the status of the process: 2 if `curses` refuses the entry."""
     os.environ["TERMINFO"] = directory
+    curses.use_env(False)
     try:
         curses.setupterm(name, 1)
     except curses.error:
