@@ -23,7 +23,7 @@ class Crate:
 
 def read_crates(top=TOP):
     """The crates by name, in the order of the file."""
-    crates, group = {}, None
+    crates, group = {}, ""
     with open(os.path.join(top, "crates.txt"), encoding="utf-8") as file:
         for line in file:
             text, _, comment = line.partition("#")
@@ -33,7 +33,7 @@ def read_crates(top=TOP):
             head, colon, needs = text.partition(":")
             if colon:
                 name, *words = head.split()
-                if group is None or not f"{name}_".startswith(group):
+                if group and not f"{name}_".startswith(group):
                     raise SystemExit(f"crates.txt: {name} is in the group {group}")
                 crates[name] = Crate(name, group, needs.split(), "staticlib" in words)
     return crates
