@@ -1,12 +1,13 @@
 -- An item, once its block is edited.
-use Rattle.std.proofs.Common.{◌≡◌, ℕ, zero, suc, Contains, get_or, length, ◌<◌, ◌≤◌, Bool, true, false, List, [], ◌∷◌, ◌++◌, filter, map, nat_le, nat_lt, refl, ap, arith, ◌∙◌}
+use Rattle.std.proofs.Common.{◌≡◌, ℕ, zero, suc, Contains, get_or, length, ◌<◌, ◌≤◌, Bool, true, false, List, [], ◌∷◌, ◌++◌, append_assoc, filter, map, nat_le, nat_lt, Some, refl, ap, arith, subst, ◌∙◌}
 use Rattle.std.specs.List.{AllByRecursion}
 use Rattle.std.proofs.lemmas.Bool.{le-leb, le-ltb, lt-leb, lt-ltb}
 use Rattle.std.proofs.lemmas.List.{append-nil}
 use Rattle.std.proofs.lemmas.List.Elements.{filter-append}
 use Rattle.ti_source.specs.Folding.{PlacedByte}
 use Rattle.ti_source.specs.Items.{bytes}
-use Rattle.lsp_spans.specs.Parts.{end_of}
+use Rattle.lsp_spans.specs.Parts.{end_of, spanned}
+use Rattle.lsp_spans.specs.declared.parts.Part.{Part}
 use Rattle.lsp_fixes.specs.Edits.{EditSeen}
 use Rattle.lsp_fixes.specs.Laws.{IsInOrder, edited}
 
@@ -134,6 +135,29 @@ front_cut x xs rest order =
       after = past_end x xs rest order;
       forward = let l = within.0.1 in omega (arith, l);
     }
+
+-- ---- any part of an item
+
+any_cut : (front : List PlacedByte) (x : PlacedByte) (xs back : List PlacedByte) → IsInOrder (front ++ x ∷ (xs ++ back)) → IsCutAt x.1 (end_of (suc x.1) xs) front (x ∷ xs) back
+any_cut front x xs back order =
+    let parts = rising_parts front x (xs ++ back) order in
+    let within = all_before_end x xs (front_rises (x ∷ xs) back parts.2) in
+    record {
+      before = parts.0;
+      within = within;
+      after = past_end x xs back parts.2;
+      forward = let l = within.0.1 in omega (arith, l);
+    }
+
+-- the text of an item once a part of it is exchanged
+pub edited_at : (edit : EditSeen) (front middle back : List PlacedByte) → IsInOrder (front ++ (middle ++ back)) → spanned middle ≡ Some edit.part
+    → edited (front ++ (middle ++ back)) edit ≡ bytes front ++ (edit.text ++ bytes back)
+edited_at edit front [] back order there = absurd cc
+edited_at edit front (x ∷ xs) back order there =
+    let one : Part = record { start = x.1; end = end_of (suc x.1) xs } in
+    let same : one ≡ edit.part = cc in
+    edited_cut edit front (x ∷ xs) back (subst (λ (p : Part). IsCutAt p.start p.end front (x ∷ xs) back) same (any_cut front x xs back order))
+    ∙ append_assoc (bytes front) edit.text (bytes back)
 
 -- ---- edits in a list
 

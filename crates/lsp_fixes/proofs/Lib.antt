@@ -1,12 +1,16 @@
 pub mod CaretsHeal
+pub mod Changing
 pub mod Ending
 pub mod Exchanging
 pub mod InOrder
 pub mod Listing
 pub mod Marks
 pub mod NamesFit
+pub mod NamesHeal
 pub mod OthersOwn
+pub mod Placing
 pub mod Printing
+pub mod Putting
 pub mod Ranging
 pub mod Readings
 pub mod SignsFit

@@ -3,6 +3,7 @@ pub mod Candidates
 pub mod Carets
 pub mod Edits
 pub mod Fixes
+pub mod Healing
 pub mod Laws
 pub mod Nearest
 pub mod Pieces

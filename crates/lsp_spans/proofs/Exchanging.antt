@@ -33,7 +33,7 @@ has_last x (y ∷ ys) = let later = has_last y ys in (x ∷ later.0, later.1, ap
 -- ---- the bytes of the folded text
 
 -- the first byte of a block is kept
-block_from : (h : ℕ) (rest : List PlacedByte) → begins_head h ≡ true → kept_after false 10 false ((h, 0) ∷ rest) ≡ (h, 0) ∷ kept_after false h false rest
+pub block_from : (h : ℕ) (rest : List PlacedByte) → begins_head h ≡ true → kept_after false 10 false ((h, 0) ∷ rest) ≡ (h, 0) ∷ kept_after false h false rest
 block_from h rest head =
     let out = heads h head in
     past_kept false false 10 (h, 0) rest out.0 (rw out.1 refl)
@@ -47,7 +47,7 @@ block_from h rest head =
       ]
     ]
 
-head_no_newline : (h : ℕ) → begins_head h ≡ true → (h == 10) ≡ false
+pub head_no_newline : (h : ℕ) → begins_head h ≡ true → (h == 10) ≡ false
 head_no_newline h head = elim (cases_Bool (h == 10)) [ inl t ↦ let no = rw (eqb-true h 10 t) at head in absurd cc | inr n ↦ n ]
 
 none_and : (j w : Bool) → w ≡ false → (j && w) ≡ false
@@ -91,12 +91,12 @@ between h l before (n ∷ ns) after front c j at head out plain some visible lin
     ∙ ap (λ (t : List ℕ). h ∷ t) (map-append (λ (x : PlacedByte). x.0) front (bytes_at here new ++ left))
     ∙ ap (λ (t : List ℕ). h ∷ (bytes front ++ t)) (map-append (λ (x : PlacedByte). x.0) (bytes_at here new) left ∙ ap₂ (λ (a b : List ℕ). a ++ b) (bytes_of_at here new) ends)
 
-cut_front : (h x : ℕ) (before after : List ℕ) (at : ℕ) → at ≡ 1 + length before → take at (h ∷ (before ++ x ∷ after)) ≡ h ∷ before
+pub cut_front : (h x : ℕ) (before after : List ℕ) (at : ℕ) → at ≡ 1 + length before → take at (h ∷ (before ++ x ∷ after)) ≡ h ∷ before
 cut_front h x before after at e =
     let same : at ≡ length (h ∷ before) = omega (arith, e) in
     ap (λ (n : ℕ). take n ((h ∷ before) ++ x ∷ after)) same ∙ take-append_seam (h ∷ before) (x ∷ after)
 
-cut_back : (h x : ℕ) (before after : List ℕ) (at : ℕ) → at ≡ 1 + length before → drop (suc at) (h ∷ (before ++ x ∷ after)) ≡ after
+pub cut_back : (h x : ℕ) (before after : List ℕ) (at : ℕ) → at ≡ 1 + length before → drop (suc at) (h ∷ (before ++ x ∷ after)) ≡ after
 cut_back h x before after at e =
     let more : suc at ≡ length (h ∷ before) + 1 = omega (arith, e) in
     ap (λ (n : ℕ). drop n ((h ∷ before) ++ x ∷ after)) more ∙ drop-append-add (h ∷ before) (x ∷ after) 1
@@ -127,11 +127,11 @@ refolded h block p front x xs back new head none visible line e =
 
 -- ---- the items
 
-regroup : (field rest white front middle back tail : List PlacedByte) (comma : PlacedByte)
+pub regroup : (field rest white front middle back tail : List PlacedByte) (comma : PlacedByte)
     → field ++ comma ∷ (rest ++ ((white ++ (front ++ (middle ++ back))) ++ tail)) ≡ (field ++ comma ∷ (rest ++ (white ++ front))) ++ (middle ++ (back ++ tail))
 regroup field rest white front middle back tail comma = simp append_assoc
 
-some_first : (field rest : List PlacedByte) (comma : PlacedByte) → (p : PlacedByte) × (ps : List PlacedByte) × (field ++ comma ∷ rest ≡ p ∷ ps)
+pub some_first : (field rest : List PlacedByte) (comma : PlacedByte) → (p : PlacedByte) × (ps : List PlacedByte) × (field ++ comma ∷ rest ≡ p ∷ ps)
 some_first [] rest comma = (comma, rest, refl)
 some_first (f ∷ fs) rest comma = (f, fs ++ comma ∷ rest, refl)
 
@@ -139,7 +139,7 @@ pub found_raw : (o : Option (List PlacedByte)) (item : List PlacedByte) → opti
 found_raw None item e = absurd cc
 found_raw (Some raw) item e = (raw, refl, cc)
 
-begins_visible : (raw : List PlacedByte) (x : PlacedByte) (xs : List PlacedByte) → without_front raw ≡ x ∷ xs → is_white_space x.0 ≡ false
+pub begins_visible : (raw : List PlacedByte) (x : PlacedByte) (xs : List PlacedByte) → without_front raw ≡ x ∷ xs → is_white_space x.0 ≡ false
 begins_visible [] x xs e = absurd cc
 begins_visible (y ∷ ys) x xs e =
     elim (cases_Bool (is_white_space y.0)) [
@@ -179,7 +179,7 @@ ends_closed text goes ends =
     computed whole ∙ ap (machine.items_of nothing 44) (bytes_apart 0 text (44 ∷ [])) ∙ two_if_ends nothing 44 (bytes_at 0 text) comma goes ends in
     subst (AreItems 44 whole) two (items_computed 44 whole)
 
-is_comma : (by : machine.Escape) (x : ℕ) → cuts by x ≡ true → x ≡ 44
+pub is_comma : (by : machine.Escape) (x : ℕ) → cuts by x ≡ true → x ≡ 44
 is_comma machine.nothing x e = eqb-true x 44 e
 is_comma machine.backslash x e = absurd cc
 is_comma machine.caret x e = eqb-true x 44 e
@@ -201,9 +201,9 @@ still_ends raw white item text other (c ∷ tail) whole are goes on same closed 
     ap₂ cuts same comma ∙ closed_ends text on (closed was)
 
 -- what is known of the place of an item
-record IsPlaced (text : List PlacedByte) (ordinal : ℕ) (raw : List PlacedByte) : Type 0 where
-  rest : HasRest text
-  at : IsAt (rest_of text) ordinal raw
+pub record IsPlaced (text : List PlacedByte) (ordinal : ℕ) (raw : List PlacedByte) : Type 0 where
+  pub rest : HasRest text
+  pub at : IsAt (rest_of text) ordinal raw
 
 replaced_at : (h : ℕ) (block : List ℕ) (ordinal : ℕ) (raw front : List PlacedByte) (x : PlacedByte) (xs back : List PlacedByte) (new text : List ℕ) → begins_head h ≡ true → HasNoHead h block
     → BeginsVisible new → IsOneLine new → IsUncut text → (IsClosed (bytes (front ++ ((x ∷ xs) ++ back))) → IsClosed text) → text ≡ bytes front ++ (new ++ bytes back)
@@ -252,7 +252,7 @@ replaced_at h block ordinal raw front x xs back new text head none visible line 
     )
 
 -- an item that is not empty has a place
-placed_at : (text : List PlacedByte) (ordinal : ℕ) (raw : List PlacedByte) (x : PlacedByte) (front back : List PlacedByte) → slice_get (items_after 44 (rest_of text)) ordinal ≡ Some raw
+pub placed_at : (text : List PlacedByte) (ordinal : ℕ) (raw : List PlacedByte) (x : PlacedByte) (front back : List PlacedByte) → slice_get (items_after 44 (rest_of text)) ordinal ≡ Some raw
     → without_front raw ≡ front ++ x ∷ back → IsPlaced text ordinal raw
 placed_at text ordinal raw x front back there shown =
     elim (has_rest text) [

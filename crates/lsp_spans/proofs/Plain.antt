@@ -19,13 +19,13 @@ use Rattle.lsp_spans.proofs.Refolding.{bytes_of_at}
 
 -- ---- a plain byte
 
-record Takes (x : ℕ) : Type 0 where
-  comma : (x == 44) ≡ false
-  backslash : (x == 92) ≡ false
-  caret : (x == 94) ≡ false
-  newline : (x == 10) ≡ false
+pub record Takes (x : ℕ) : Type 0 where
+  pub comma : (x == 44) ≡ false
+  pub backslash : (x == 92) ≡ false
+  pub caret : (x == 94) ≡ false
+  pub newline : (x == 10) ≡ false
 
-plain_byte : (x : ℕ) → is_plain x ≡ true → Takes x
+pub plain_byte : (x : ℕ) → is_plain x ≡ true → Takes x
 plain_byte x e =
     elim (cases_Bool (x == 44)) [
       | inl t ↦ let none = rw t at e in absurd cc
@@ -38,68 +38,68 @@ plain_byte x e =
       ]
     ]
 
-takes_none : (by : Escape) (b x : ℕ) → Takes x → escape_after by b x ≡ nothing
+pub takes_none : (by : Escape) (b x : ℕ) → Takes x → escape_after by b x ≡ nothing
 takes_none machine.nothing b x plain = rw (plain.backslash, plain.caret) refl
 takes_none machine.backslash b x plain = refl
 takes_none machine.caret b x plain = refl
 
 -- ---- texts in a row
 
-last_of : ℕ → List PlacedByte → ℕ
+unfoldable pub last_of : ℕ → List PlacedByte → ℕ
 last_of b text = last_byte b (bytes text)
 
-goes_front : (by : Escape) (b : ℕ) (one other : List PlacedByte) → Goes by b (one ++ other) → Goes by b one
+pub goes_front : (by : Escape) (b : ℕ) (one other : List PlacedByte) → Goes by b (one ++ other) → Goes by b one
 unfolding Goes
 goes_front by b [] other goes = tt
 goes_front by b (x ∷ xs) other goes = (goes.0, goes_front (escape_after by b x.0) x.0 xs other goes.1)
 
-goes_back : (by : Escape) (b : ℕ) (one other : List PlacedByte) → Goes by b (one ++ other) → Goes (by_after by b one) (last_of b one) other
+pub goes_back : (by : Escape) (b : ℕ) (one other : List PlacedByte) → Goes by b (one ++ other) → Goes (by_after by b one) (last_of b one) other
 unfolding Goes by_after last_of
 goes_back by b [] other goes = goes
 goes_back by b (x ∷ xs) other goes = goes_back (escape_after by b x.0) x.0 xs other goes.1
 
-goes_both : (by : Escape) (b : ℕ) (one other : List PlacedByte) → Goes by b one → Goes (by_after by b one) (last_of b one) other → Goes by b (one ++ other)
+pub goes_both : (by : Escape) (b : ℕ) (one other : List PlacedByte) → Goes by b one → Goes (by_after by b one) (last_of b one) other → Goes by b (one ++ other)
 unfolding Goes by_after last_of
 goes_both by b [] other goes more = more
 goes_both by b (x ∷ xs) other goes more = (goes.0, goes_both (escape_after by b x.0) x.0 xs other goes.1 more)
 
-after_both : (by : Escape) (b : ℕ) (one other : List PlacedByte) → by_after by b (one ++ other) ≡ by_after (by_after by b one) (last_of b one) other
+pub after_both : (by : Escape) (b : ℕ) (one other : List PlacedByte) → by_after by b (one ++ other) ≡ by_after (by_after by b one) (last_of b one) other
 unfolding by_after last_of
 after_both by b [] other = refl
 after_both by b (x ∷ xs) other = after_both (escape_after by b x.0) x.0 xs other
 
 -- ---- plain texts
 
-plain_goes : (b : ℕ) (text : List PlacedByte) → IsPlain (bytes text) → Goes nothing b text
+pub plain_goes : (b : ℕ) (text : List PlacedByte) → IsPlain (bytes text) → Goes nothing b text
 unfolding Goes
 plain_goes b [] plain = tt
 plain_goes b (x ∷ xs) plain =
     let first = plain_byte x.0 plain.0 in
     (first.comma, rw (first.backslash, first.caret) (plain_goes x.0 xs plain.1))
 
-plain_after : (b : ℕ) (text : List PlacedByte) → IsPlain (bytes text) → by_after nothing b text ≡ nothing
+pub plain_after : (b : ℕ) (text : List PlacedByte) → IsPlain (bytes text) → by_after nothing b text ≡ nothing
 unfolding by_after
 plain_after b [] plain = refl
 plain_after b (x ∷ xs) plain =
     ap (λ (e : Escape). by_after e x.0 xs) (takes_none nothing b x.0 (plain_byte x.0 plain.0)) ∙ plain_after x.0 xs plain.1
 
-plain_line : (text : List ℕ) → IsPlain text → IsOneLine text
+pub plain_line : (text : List ℕ) → IsPlain text → IsOneLine text
 plain_line [] plain = tt
 plain_line (x ∷ xs) plain = ((plain_byte x plain.0).newline, plain_line xs plain.1)
 
-plain_both : (one other : List ℕ) → IsPlain one → IsPlain other → IsPlain (one ++ other)
+pub plain_both : (one other : List ℕ) → IsPlain one → IsPlain other → IsPlain (one ++ other)
 plain_both [] other plain more = more
 plain_both (x ∷ xs) other plain more = (plain.0, plain_both xs other plain.1 more)
 
 -- what is after a plain byte goes on whatever is before it
-back_goes : (by : Escape) (b c : ℕ) (back : List PlacedByte) → BeginsPlain (bytes back) → Goes by b back → Goes nothing c back
+pub back_goes : (by : Escape) (b c : ℕ) (back : List PlacedByte) → BeginsPlain (bytes back) → Goes by b back → Goes nothing c back
 unfolding Goes
 back_goes by b c [] plain goes = tt
 back_goes by b c (x ∷ xs) plain goes =
     let first = plain_byte x.0 plain in
     (first.comma, subst (λ (e : Escape). Goes e x.0 xs) (takes_none by b x.0 first ∙ sym (takes_none nothing c x.0 first)) goes.1)
 
-back_after : (by : Escape) (b c : ℕ) (x : PlacedByte) (xs : List PlacedByte) → is_plain x.0 ≡ true → by_after by b (x ∷ xs) ≡ by_after nothing c (x ∷ xs)
+pub back_after : (by : Escape) (b c : ℕ) (x : PlacedByte) (xs : List PlacedByte) → is_plain x.0 ≡ true → by_after by b (x ∷ xs) ≡ by_after nothing c (x ∷ xs)
 unfolding by_after
 back_after by b c x xs plain =
     let first = plain_byte x.0 plain in
@@ -107,7 +107,7 @@ back_after by b c x xs plain =
 
 -- ---- an item of a block goes on
 
-item_goes : (text : List PlacedByte) (ordinal : ℕ) (item : List PlacedByte) → slice_get (items_of text) ordinal ≡ Some item → Goes nothing 44 item
+pub item_goes : (text : List PlacedByte) (ordinal : ℕ) (item : List PlacedByte) → slice_get (items_of text) ordinal ≡ Some item → Goes nothing 44 item
 item_goes text ordinal item there =
     let raws = items_after 44 (rest_of text) in
     let found = found_raw (slice_get raws ordinal) item (sym (slice_get-map without_front raws ordinal) ∙ there) in
@@ -117,7 +117,7 @@ item_goes text ordinal item there =
     subst (Goes nothing 44) found.2 (goes_without_white 44 split.white (without_front raw) refl split.are (subst (Goes nothing 44) split.whole at.goes))
 
 -- a text that goes on is uncut
-goes_uncut : (text : List ℕ) → Goes nothing 44 (bytes_at 0 text) → IsUncut text
+pub goes_uncut : (text : List ℕ) → Goes nothing 44 (bytes_at 0 text) → IsUncut text
 goes_uncut text goes =
     let whole = bytes_at 0 text in
     subst (AreItems 44 whole) (computed whole ∙ one_if_goes nothing 44 whole goes) (items_computed 44 whole)

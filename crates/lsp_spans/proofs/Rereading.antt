@@ -70,10 +70,10 @@ fault_in ordinal faults =
     option_map (λ (fault : ReadFault). fault.code) (find (λ (fault : ReadFault). fault.ordinal == ordinal && not (is_of_header fault.code)) faults)
 
 -- a fault of an item, none if it is of the names field
-abbrev of_item : Code → Option Code
+abbrev pub of_item : Code → Option Code
 of_item c = cond (is_of_header c) None (Some c)
 
-abbrev fault_by : Verdict → Option Code
+abbrev pub fault_by : Verdict → Option Code
 fault_by v = option_and_then of_item (code_by v)
 
 fault_past : (m n : ℕ) (o : Option Judged) (rest : List ReadFault) → (m == n) ≡ false → fault_in n (faults_at m o ++ rest) ≡ fault_in n rest
@@ -127,7 +127,7 @@ past_header n field (Some names) rest =
 
 -- ---- the verdict on an item is that on its text
 
-verdict_in : List ℕ → Option Verdict
+unfoldable pub verdict_in : List ℕ → Option Verdict
 verdict_in text = option_map (λ (s : Statement). verdict_of s.name s.claim) (statement_of text)
 
 verdict_is : (item : List PlacedByte) (o : Option Judged) → IsJudged item o → option_map (λ (j : Judged). j.verdict) o ≡ verdict_in (text_read item)
@@ -149,7 +149,7 @@ through f (Some None) = refl
 through f (Some (Some j)) = refl
 
 -- what is read of an item, by its text
-said_is : (block : List ℕ) (at : ℕ) → said_at block at ≡ option_and_then said_by (option_and_then verdict_in (slice_get (item_texts block) at))
+pub said_is : (block : List ℕ) (at : ℕ) → said_at block at ≡ option_and_then said_by (option_and_then verdict_in (slice_get (item_texts block) at))
 said_is block at =
     let p = has_reading block in
     let items : (reading_of_text block).items ≡ items_from 0 p.judged = ap (λ (r : Reading). r.items) p.is in
@@ -157,7 +157,7 @@ said_is block at =
     ap (said_in at) items ∙ ap (λ (n : ℕ). said_in n (items_from 0 p.judged)) so ∙ said_among at 0 p.judged ∙ through said_by (slice_get p.judged at)
     ∙ ap (option_and_then said_by) (verdicts_are at p.items p.judged p.are_judged ∙ ap (λ (texts : List (List ℕ)). option_and_then verdict_in (slice_get texts at)) (sym (seen_are_read block (reading_of_text block) p)))
 
-fault_is : (block : List ℕ) (at : ℕ) → fault_at block at ≡ option_and_then fault_by (option_and_then verdict_in (slice_get (item_texts block) at))
+pub fault_is : (block : List ℕ) (at : ℕ) → fault_at block at ≡ option_and_then fault_by (option_and_then verdict_in (slice_get (item_texts block) at))
 fault_is block at =
     let p = has_reading block in
     let faults : (reading_of_text block).faults ≡ header_faults (bytes p.field) p.names ++ faults_from 0 p.judged = ap (λ (r : Reading). r.faults) p.is in
@@ -168,14 +168,14 @@ fault_is block at =
 
 -- ---- once an item is another
 
-other_got : (xs : List (List ℕ)) (k at : ℕ) (v : List ℕ) → at ≢ k → slice_get (slice_set xs k v) at ≡ slice_get xs at
+pub other_got : (xs : List (List ℕ)) (k at : ℕ) (v : List ℕ) → at ≢ k → slice_get (slice_set xs k v) at ≡ slice_get xs at
 other_got [] k at v other = refl
 other_got (x ∷ xs) zero zero v other = absurd (other refl)
 other_got (x ∷ xs) zero (suc at) v other = refl
 other_got (x ∷ xs) (suc k) zero v other = refl
 other_got (x ∷ xs) (suc k) (suc at) v other = other_got xs k at v (λ e. other (ap suc e))
 
-same_got : (items : List (List PlacedByte)) (k : ℕ) (v : List ℕ) (item : List PlacedByte) → slice_get items k ≡ Some item → slice_get (slice_set (map bytes items) k v) k ≡ Some v
+pub same_got : (items : List (List PlacedByte)) (k : ℕ) (v : List ℕ) (item : List PlacedByte) → slice_get items k ≡ Some item → slice_get (slice_set (map bytes items) k v) k ≡ Some v
 same_got [] k v item e = absurd cc
 same_got (x ∷ xs) zero v item e = refl
 same_got (x ∷ xs) (suc k) v item e = same_got xs k v item e
@@ -189,7 +189,7 @@ others_read block ordinal item part new text single there replaces at other =
       fault_is (exchanged block part new) at ∙ ap (λ (o : Option (List ℕ)). option_and_then fault_by (option_and_then verdict_in o)) same ∙ sym (fault_is block at),
     )
 
-only_code : (o : Option Code) (c : Code) → option_and_then of_item o ≡ Some c → o ≡ Some c
+pub only_code : (o : Option Code) (c : Code) → option_and_then of_item o ≡ Some c → o ≡ Some c
 only_code None c e = absurd cc
 only_code (Some x) c e = by_test (is_of_header x) e
   where
