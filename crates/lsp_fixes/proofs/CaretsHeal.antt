@@ -120,7 +120,7 @@ is_accepted name rest value c none on other named kind read =
 
 -- ---- the last byte
 
-data Lasts : List PlacedByte → Type 0 where
+pub data Lasts : List PlacedByte → Type 0 where
   no_byte : Lasts []
   last_byte_is : (front : List PlacedByte) (last : PlacedByte) → Lasts (front ++ last ∷ [])
 
@@ -128,11 +128,11 @@ lasts_more : (x : PlacedByte) (xs : List PlacedByte) → Lasts xs → Lasts (x �
 lasts_more x _ no_byte = last_byte_is [] x
 lasts_more x _ (last_byte_is front last) = last_byte_is (x ∷ front) last
 
-lasts : (xs : List PlacedByte) → Lasts xs
+pub lasts : (xs : List PlacedByte) → Lasts xs
 lasts [] = no_byte
 lasts (x ∷ xs) = lasts_more x xs (lasts xs)
 
-last_found : (first : Option PlacedByte) (front : List PlacedByte) (last : PlacedByte) → last_or first (front ++ last ∷ []) ≡ Some last
+pub last_found : (first : Option PlacedByte) (front : List PlacedByte) (last : PlacedByte) → last_or first (front ++ last ∷ []) ≡ Some last
 last_found first [] last = refl
 last_found first (x ∷ xs) last = last_found (Some x) xs last
 

@@ -1,7 +1,6 @@
 -- A block with a part of an item exchanged, and what is read of that item before and after.
-use Rattle.std.proofs.Common.{◌≡◌, ◌≢◌, ℕ, List, [], ◌∷◌, ◌++◌, map, Option, None, Some, slice_get, inl, inr, refl, sym, ap, subst, ◌∙◌}
+use Rattle.std.proofs.Common.{◌≡◌, ◌≢◌, ℕ, List, [], ◌∷◌, ◌++◌, map, Option, None, Some, slice_get, slice_set, refl, sym, ap, subst, ◌∙◌}
 use Rattle.std.specs.Option.{option_and_then, option_map}
-use Rattle.std.proofs.lemmas.Bool.{cases_Bool}
 use Rattle.std.proofs.lemmas.Option.{slice_get-map}
 use Rattle.ti_text.specs.WhiteSpace.{is_white_space}
 use Rattle.ti_source.specs.Cutting.{OneBlock}
@@ -13,15 +12,15 @@ use Rattle.ti_source.specs.Verdicts.{Verdict, accepted, accepted_odd, code_by, r
 use Rattle.ti_source.specs.declared.code.Code.{Code}
 use Rattle.ti_source.specs.declared.code.Code.TheVariants as code
 use Rattle.ti_source.specs.inside.Verdicts.{verdict_of}
-use Rattle.ti_source.proofs.ItemLaws.{BeginsVisible, has_statement}
-use Rattle.ti_source.proofs.JudgingLaws.{has_verdict}
+use Rattle.ti_source.proofs.ItemLaws.{BeginsVisible, has_statement, one_statement}
+use Rattle.ti_source.proofs.JudgingLaws.{has_verdict, one_verdict}
 use Rattle.lsp_spans.specs.Folding.{folded_of}
 use Rattle.lsp_spans.specs.Parts.{items_after, rest_of}
 use Rattle.lsp_spans.specs.Replacing.{IsReadBy, Replaces, exchanged, fault_at, item_texts, said_at}
-use Rattle.lsp_spans.specs.Subjects.{items_of}
+use Rattle.lsp_spans.specs.Subjects.{head_text, items_of}
 use Rattle.lsp_spans.specs.declared.parts.Part.{Part}
 use Rattle.lsp_spans.proofs.Exchanging.{begins_visible, found_raw, one_replaced}
-use Rattle.lsp_spans.proofs.Rereading.{fault_by, fault_is, new_read, only_code, others_read, said_is, verdict_in}
+use Rattle.lsp_spans.proofs.Rereading.{fault_by, fault_is, new_read, only_code, other_got, others_read, said_is, same_got, verdict_in}
 use Rattle.lsp_fixes.specs.Healing.{IsMended, LosesFault, OneItemChanges}
 use Rattle.lsp_fixes.specs.Laws.{IsAccepted, IsOfCapability, IsRead}
 
@@ -36,6 +35,33 @@ item_changes block ordinal item part new text single there replaces =
       reads = λ verdict read.
           new_read block ordinal item part new text verdict single there replaces (record { statement = read.statement; states = read.states; judges = read.judges });
       others = others_read block ordinal item part new text single there replaces;
+    }
+
+-- what another text of an item makes of a block
+pub changes_by_texts : (block after : List ℕ) (ordinal : ℕ) (item : List PlacedByte) (text : List ℕ) → slice_get (items_of (folded_of block)) ordinal ≡ Some item
+    → item_texts after ≡ slice_set (item_texts block) ordinal text → head_text after ≡ head_text block → OneItemChanges block after ordinal text
+unfolding verdict_in
+changes_by_texts block after ordinal item text there texts head =
+    let got : slice_get (item_texts after) ordinal ≡ Some text =
+    ap (λ (l : List (List ℕ)). slice_get l ordinal) texts ∙ same_got (items_of (folded_of block)) ordinal text item there in
+    let other : (at : ℕ) → at ≢ ordinal → slice_get (item_texts after) at ≡ slice_get (item_texts block) at =
+    λ at apart. ap (λ (l : List (List ℕ)). slice_get l at) texts ∙ other_got (item_texts block) ordinal at text apart in
+    record {
+      texts = texts;
+      head = head;
+      reads = λ verdict read.
+          let by : verdict_in text ≡ Some verdict =
+          ap (option_map (λ (s : Statement). verdict_of s.name s.claim)) (sym (one_statement text (Some read.statement) read.states))
+          ∙ ap (λ (v : Verdict). Some v) (sym (one_verdict read.statement.name read.statement.claim verdict read.judges)) in
+          record {
+            says = said_is after ordinal ∙ ap (λ (o : Option (List ℕ)). option_and_then said_by (option_and_then verdict_in o)) got ∙ ap (option_and_then said_by) by;
+            fault = λ c e. only_code (code_by verdict) c
+                (sym (fault_is after ordinal ∙ ap (λ (o : Option (List ℕ)). option_and_then fault_by (option_and_then verdict_in o)) got ∙ ap (option_and_then fault_by) by) ∙ e);
+          };
+      others = λ at apart. (
+        said_is after at ∙ ap (λ (o : Option (List ℕ)). option_and_then said_by (option_and_then verdict_in o)) (other at apart) ∙ sym (said_is block at),
+        fault_is after at ∙ ap (λ (o : Option (List ℕ)). option_and_then fault_by (option_and_then verdict_in o)) (other at apart) ∙ sym (fault_is block at),
+      );
     }
 
 -- ---- what is read of an item
@@ -75,6 +101,15 @@ faulty_item block ordinal item c there had =
     by_statement block ordinal (bytes item) c (statement_of (bytes item)) (has_statement (bytes item) (visible_item (folded_of block) ordinal item there))
     (said_is block ordinal ∙ ap (λ (o : Option (List ℕ)). option_and_then said_by (option_and_then verdict_in o)) got)
     (sym (ap (λ (o : Option (List ℕ)). option_and_then fault_by (option_and_then verdict_in o)) got) ∙ sym (fault_is block ordinal) ∙ had)
+
+-- what is said of an item, by the verdict on it
+pub said_item : (block : List ℕ) (ordinal : ℕ) (item : List PlacedByte) (verdict : Verdict) → slice_get (items_of (folded_of block)) ordinal ≡ Some item → IsRead (bytes item) verdict
+    → said_at block ordinal ≡ said_by verdict
+unfolding verdict_in
+said_item block ordinal item verdict there read =
+    said_is block ordinal ∙ ap (λ (o : Option (List ℕ)). option_and_then said_by (option_and_then verdict_in o)) (text_there block ordinal item there)
+    ∙ ap (λ (o : Option Statement). option_and_then said_by (option_map (λ (s : Statement). verdict_of s.name s.claim) o)) (sym (one_statement (bytes item) (Some read.statement) read.states))
+    ∙ ap said_by (sym (one_verdict read.statement.name read.statement.claim verdict read.judges))
 
 -- an item whose fault is none of an odd escape is refused
 refused_by : (verdict : Verdict) (c : Code) → code_by verdict ≡ Some c → c ≢ code.UnknownEscape → verdict ≡ refused c
@@ -133,8 +168,8 @@ loses_caret block after ordinal text had changes is =
 
 -- an item that is accepted as it is has no fault
 none_is : (o : Option Code) → ((c : Code) → o ≡ Some c → ⊥) → o ≡ None
-none_is None no = refl
-none_is (Some c) no = absurd (no c refl)
+none_is None never = refl
+none_is (Some c) never = absurd (never c refl)
 
 pub no_fault : (block after : List ℕ) (ordinal : ℕ) (text : List ℕ) (said : Said) → OneItemChanges block after ordinal text → IsRead text (accepted said)
     → (said_at after ordinal ≡ Some said) × (fault_at after ordinal ≡ None)

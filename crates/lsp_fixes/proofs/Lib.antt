@@ -1,8 +1,12 @@
 pub mod CaretsHeal
+pub mod CaretsMend
 pub mod Changing
+pub mod EditsMend
 pub mod Ending
 pub mod Exchanging
+pub mod Given
 pub mod InOrder
+pub mod ItemBytes
 pub mod Listing
 pub mod Marks
 pub mod NamesFit
@@ -14,6 +18,11 @@ pub mod Putting
 pub mod Ranging
 pub mod Readings
 pub mod SignsFit
+pub mod SignsHeal
+pub mod SpellingsHeal
 pub mod SpellingsRead
+pub mod TakenOut
+pub mod UsesMend
 pub mod Verdicts
 pub mod Wholes
+pub mod Written

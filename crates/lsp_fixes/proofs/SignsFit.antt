@@ -8,7 +8,7 @@ use Rattle.ti_caps.specs.Tables.{Capability, capability_named}
 use Rattle.ti_caps.specs.declared.capability.Kind.{Kind}
 use Rattle.ti_caps.specs.declared.capability.Kind.TheVariants.{Flag, Number, Text}
 use Rattle.ti_source.specs.Folding.{PlacedByte}
-use Rattle.ti_source.specs.Items.{HasNoMark, IsEnabled, Statement, bytes}
+use Rattle.ti_source.specs.Items.{HasNoMark, IsEnabled, Statement, bytes, is_mark}
 use Rattle.ti_source.specs.Verdicts.{refused}
 use Rattle.ti_source.specs.declared.code.Code.TheVariants as code
 use Rattle.ti_source.specs.Stating.{plain_statement, statement_by_mark, without_last}
@@ -26,7 +26,7 @@ use Rattle.lsp_fixes.proofs.Verdicts.{cancel_fits, flag_ends, read_states}
 
 -- ---- an item with a mark
 
-front_enabled : (name a b : List ℕ) → name ≢ [] → IsEnabled (name ++ a) → IsEnabled (name ++ b)
+pub front_enabled : (name a b : List ℕ) → name ≢ [] → IsEnabled (name ++ a) → IsEnabled (name ++ b)
 front_enabled [] a b some on = absurd (some refl)
 front_enabled (x ∷ xs) a b some on = on
 
@@ -60,11 +60,25 @@ signed Text name value mark c edit none order on named is has =
       | inr f ↦ subst IsOfCapability (sym (sign_in Text name value mark (codes "=") edit order (rw f at has))) (text_read (bytes name) (bytes value) c none (mark_enabled (bytes name) (mark.0 ∷ bytes value) (bytes value) 61 refl on) named is)
     ]
 
-by_name : (name value : List PlacedByte) (mark : PlacedByte) (edit : EditSeen) (o : Option Capability) → HasNoMark (bytes name) → IsInOrder (name ++ mark ∷ value)
+-- an item of a capability with a sign that is offered for its own
+pub record IsSigned (item : List PlacedByte) (edit : EditSeen) : Type 0 where
+  pub name : List PlacedByte
+  pub value : List PlacedByte
+  pub mark : PlacedByte
+  pub capability : Capability
+  pub whole : item ≡ name ++ mark ∷ value
+  pub none : HasNoMark (bytes name)
+  pub is : is_mark mark.0 ≡ true
+  pub on : IsEnabled (bytes name ++ mark.0 ∷ bytes value)
+  pub named : capability_named (bytes name) ≡ Some capability
+  pub has : Contains (sign_at capability.kind mark.1 (sign_for capability.kind (bytes (without_end value)))) edit
+
+by_name : (name value : List PlacedByte) (mark : PlacedByte) (edit : EditSeen) (o : Option Capability) → HasNoMark (bytes name) → is_mark mark.0 ≡ true
     → IsEnabled (bytes name ++ mark.0 ∷ bytes value) → capability_named (bytes name) ≡ o
-    → Contains (option_map_or (λ (c : Capability). signs c.kind (mark ∷ without_end value)) o []) edit → IsOfCapability (edited (name ++ mark ∷ value) edit)
-by_name name value mark edit None none order on named has = absurd (no_edit edit has)
-by_name name value mark edit (Some c) none order on named has = signed c.kind name value mark c edit none order on named refl has
+    → Contains (option_map_or (λ (c : Capability). signs c.kind (mark ∷ without_end value)) o []) edit → IsSigned (name ++ mark ∷ value) edit
+by_name name value mark edit None none is on named has = absurd (no_edit edit has)
+by_name name value mark edit (Some c) none is on named has =
+    record { name = name; value = value; mark = mark; capability = c; whole = refl; none = none; is = is; on = on; named = named; has = has }
 
 -- ---- an item with none
 
@@ -77,15 +91,15 @@ cancelled text at e = cancel_fits (without_last text) (rw at at e)
 
 -- ---- each item
 
-by_marks : (item : List PlacedByte) (edit : EditSeen) → MarkSays item → IsInOrder item → IsRead (bytes item) (refused code.WrongKind) → Contains (kind_signs item) edit → IsOfCapability (edited item edit)
-by_marks _ edit (has_mark name value mark none is) order read has =
+by_marks : (item : List PlacedByte) (edit : EditSeen) → MarkSays item → IsRead (bytes item) (refused code.WrongKind) → Contains (kind_signs item) edit → IsSigned item edit
+by_marks _ edit (has_mark name value mark none is) read has =
     let on : IsEnabled (bytes name ++ mark.0 ∷ bytes value) = subst IsEnabled (bytes_cut name value mark) (read_states (bytes (name ++ mark ∷ value)) (refused code.WrongKind) read).0 in
     let Has : (List PlacedByte) → (List PlacedByte) → Type 0 = λ n rest. Contains (option_map_or (λ (c : Capability). signs c.kind rest) (capability_named (bytes n)) []) edit in
     let item = name ++ mark ∷ value in
     let there : Has name (mark ∷ without_end value) =
     subst (λ n. Has n (mark ∷ without_end value)) (name_cut name value mark none is) (subst (λ rest. Has (written_name item) rest) (rest_cut name value mark none is) has) in
-    by_name name value mark edit (capability_named (bytes name)) none order on refl there
-by_marks _ edit (has_none item none) order read has =
+    by_name name value mark edit (capability_named (bytes name)) none is on refl there
+by_marks _ edit (has_none item none) read has =
     let core = without_trailing_space (bytes item) in
     let states : read.statement ≡ plain_statement core = (read_states (bytes item) (refused code.WrongKind) read).1 ∙ ap (statement_by_mark (bytes item)) (no_mark_left (bytes item) none) in
     let verdict : refused code.WrongKind ≡ verdict_of (plain_statement core).name (plain_statement core).claim =
@@ -98,5 +112,11 @@ by_marks _ edit (has_none item none) order read has =
           absurd (nothing_signed edit (capability_named (bytes (written_name item))) (subst Has (plain_name item none plain).1 has))
     ]
 
+pub signed_item : (item : List PlacedByte) (edit : EditSeen) → IsRead (bytes item) (refused code.WrongKind) → Contains (kind_signs item) edit → IsSigned item edit
+signed_item item edit read has = by_marks item edit (mark_says item) read has
+
 pub signs_fit : SignsFitTheKind
-signs_fit item edit order read has = by_marks item edit (mark_says item) order read has
+signs_fit item edit order read has =
+    let s = signed_item item edit read has in
+    subst (λ (i : List PlacedByte). IsOfCapability (edited i edit)) (sym s.whole)
+    (signed s.capability.kind s.name s.value s.mark s.capability edit s.none (subst IsInOrder s.whole order) s.on s.named refl s.has)

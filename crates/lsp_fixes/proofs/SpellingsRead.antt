@@ -40,7 +40,7 @@ text_shown : (percent edge : Bool) (byte : ℕ) → byte < 256 → shown (byte_t
 unfolding prints
 text_shown percent edge byte below = (bytes_eq-Decides (shown (byte_text percent edge byte)) (byte_text percent edge byte)).0 (prints_each percent edge byte below)
 
-written_shown : (first : Bool) (before : ℕ) (value : List ℕ) → AreBytes value → shown (written_from first before value) ≡ written_from first before value
+pub written_shown : (first : Bool) (before : ℕ) (value : List ℕ) → AreBytes value → shown (written_from first before value) ≡ written_from first before value
 written_shown first before [] are = refl
 written_shown first before (x ∷ xs) are =
     let text = byte_text (is_percent before) (first || is_empty xs) x in
@@ -103,9 +103,25 @@ in_value sound writes name (v ∷ vs) mark c value edit none is order on are oth
     subst (Reads c value) (sym (spelled_in name mark v vs value edit order has ∙ ap (λ (m : ℕ). bytes name ++ m ∷ text) is))
     (read_back sound writes (bytes name) (bytes (v ∷ vs)) (mark.0 ∷ bytes (v ∷ vs)) value c none on other named kind are spells)
 
-by_marks : ValuesAreSound → WrittenSpells → (item : List PlacedByte) (c : Capability) (value : List ℕ) (edit : EditSeen) → MarkSays item → IsInOrder item → AreBytes (bytes item)
-    → IsRead (bytes item) (accepted_odd (said_text c value)) → Contains (spellings item value) edit → Reads c value (edited item edit)
-by_marks sound writes _ c value edit (has_mark name raw mark none is) order are read has =
+-- an item with an odd escape, with a spelling that is offered for its value
+pub record IsOdd (item : List PlacedByte) (c : Capability) (value : List ℕ) (edit : EditSeen) : Type 0 where
+  pub name : List PlacedByte
+  pub raw : List PlacedByte
+  pub mark : PlacedByte
+  pub whole : item ≡ name ++ mark ∷ raw
+  pub none : HasNoMark (bytes name)
+  pub is : mark.0 ≡ 61
+  pub on : IsEnabled (bytes name ++ mark.0 ∷ bytes raw)
+  pub are : AreBytes (bytes raw)
+  pub other : is_import (bytes name) (claims_text (bytes raw)) ≡ false
+  pub named : capability_named (bytes name) ≡ Some c
+  pub kind : c.kind ≡ Text
+  pub spells : Spells (bytes raw) value true
+  pub has : Contains (spelling_in value (spanned raw)) edit
+
+by_marks : (item : List PlacedByte) (c : Capability) (value : List ℕ) (edit : EditSeen) → MarkSays item → AreBytes (bytes item)
+    → IsRead (bytes item) (accepted_odd (said_text c value)) → Contains (spellings item value) edit → IsOdd item c value edit
+by_marks _ c value edit (has_mark name raw mark none is) are read has =
     let text = bytes name ++ mark.0 ∷ bytes raw in
     let joined : bytes (name ++ mark ∷ raw) ≡ text = bytes_cut name raw mark in
     let moved : IsRead text (accepted_odd (said_text c value)) = subst (λ (t : List ℕ). IsRead t (accepted_odd (said_text c value))) joined read in
@@ -116,18 +132,35 @@ by_marks sound writes _ c value edit (has_mark name raw mark none is) order are 
     stated.1 ∙ ap (statement_by_mark text) cut.1 ∙ ap (λ (n : List ℕ). statement_with_value n mark.0 (bytes raw)) cut.0 in
     let named : moved.statement.name ≡ bytes name = ap (λ (s : Statement). s.name) states in
     let claim = text_claim (bytes name) (bytes raw) odd.raw mark.0 is (ap (λ (s : Statement). s.claim) (sym states) ∙ odd.claims) in
-    in_value sound writes name raw mark c value edit none claim.0 order stated.0
-    (All-tail (λ b. b < 256) mark.0 (bytes raw) (bytes_after (bytes name) (mark.0 ∷ bytes raw) (subst AreBytes joined are)))
-    (ap (λ (n : List ℕ). is_import n (claims_text odd.raw)) (sym named) ∙ odd.other) (ap capability_named (sym named) ∙ odd.named) odd.kind
-    (subst (λ (r : List ℕ). Spells r value true) (sym claim.1) odd.spells)
-    (subst (λ (r : List PlacedByte). Contains (spelling_in value (spanned r)) edit) (value_cut name raw mark none is) has)
-by_marks sound writes _ c value edit (has_none item none) order are read has =
+    record {
+      name = name;
+      raw = raw;
+      mark = mark;
+      whole = refl;
+      none = none;
+      is = claim.0;
+      on = stated.0;
+      are = All-tail (λ b. b < 256) mark.0 (bytes raw) (bytes_after (bytes name) (mark.0 ∷ bytes raw) (subst AreBytes joined are));
+      other = ap (λ (n : List ℕ). is_import n (claims_text odd.raw)) (sym named) ∙ odd.other;
+      named = ap capability_named (sym named) ∙ odd.named;
+      kind = odd.kind;
+      spells = subst (λ (r : List ℕ). Spells r value true) (sym claim.1) odd.spells;
+      has = subst (λ (r : List PlacedByte). Contains (spelling_in value (spanned r)) edit) (value_cut name raw mark none is) has;
+    }
+by_marks _ c value edit (has_none item none) are read has =
     let odd = odd_text read.statement.name read.statement.claim c value read.judges in
     let core = without_trailing_space (bytes item) in
     let states : read.statement ≡ plain_statement core =
     (read_states (bytes item) (accepted_odd (said_text c value)) read).1 ∙ ap (statement_by_mark (bytes item)) (no_mark_left (bytes item) none) in
     absurd (plain_claim core odd.raw (ap (λ (s : Statement). s.claim) (sym states) ∙ odd.claims))
 
+pub odd_item : (item : List PlacedByte) (c : Capability) (value : List ℕ) (edit : EditSeen) → AreBytes (bytes item) → IsRead (bytes item) (accepted_odd (said_text c value))
+    → Contains (spellings item value) edit → IsOdd item c value edit
+odd_item item c value edit are read has = by_marks item c value edit (mark_says item) are read has
+
 pub spellings_read : ValuesAreSound → WrittenSpells → SpellingsReadBack
 unfolding Reads
-spellings_read sound writes item c value edit order are read has = by_marks sound writes item c value edit (mark_says item) order are read has
+spellings_read sound writes item c value edit order are read has =
+    let o = odd_item item c value edit are read has in
+    subst (λ (i : List PlacedByte). Reads c value (edited i edit)) (sym o.whole)
+    (in_value sound writes o.name o.raw o.mark c value edit o.none o.is (subst IsInOrder o.whole order) o.on o.are o.other o.named o.kind o.spells o.has)

@@ -1,4 +1,5 @@
 //! Laws of the definitions on which the contracts of this crate depend. They compute nothing.
+ghost use Rattle.lsp_fixes.specs.Healing.{EditsHeal};
 ghost use Rattle.lsp_fixes.specs.Laws.{CaretsHeal, ItemsAreInOrder, ItemsHaveOneVerdict, NamesAreOfCapabilities, NamesAreOfOtherBlocks, SignsFitTheKind, SpellingsReadBack};
 
 /// An item is of a capability of its kind with a name that is offered for its own.
@@ -42,3 +43,13 @@ pub fn items_have_one_verdict()
 pub fn items_are_in_order()
     ensures { ItemsAreInOrder }
 {}
+
+/// An edit that is offered for an item of a block, once it is made, has taken the fault of the item
+/// away, and has changed no other item.
+pub fn edits_heal()
+    ensures { EditsHeal }
+{
+    ti_source::laws::one_outcome();
+    ti_source::laws::written_spells();
+    ti_source::laws::each_is_well_read();
+}

@@ -1,0 +1,100 @@
+-- An item of the wrong kind is healed by the sign that is offered for its own.
+use Rattle.std.proofs.Common.{◌≡◌, ℕ, suc, ◌==◌, ◌&&◌, not, true, false, Contains, List, [], ◌∷◌, ◌++◌, Some, codes, slice_get, inl, inr, refl, sym, ap, subst, ◌∙◌}
+use Rattle.std.specs.List.{list_all}
+use Rattle.std.proofs.lemmas.Bool.{cases_Bool, eqb-true}
+use Rattle.ti_text.specs.Texts.{is_empty, last_byte}
+use Rattle.ti_text.specs.WhiteSpace.{is_white_space}
+use Rattle.ti_caps.specs.declared.capability.Kind.{Kind}
+use Rattle.ti_caps.specs.declared.capability.Kind.TheVariants.{Flag, Number, Text}
+use Rattle.ti_source.specs.Cutting.{OneBlock}
+use Rattle.ti_source.specs.Folding.{PlacedByte}
+use Rattle.ti_source.specs.Items.{bytes, is_mark}
+use Rattle.ti_source.specs.declared.code.Code.TheVariants as code
+use Rattle.lsp_spans.specs.Folding.{folded_of}
+use Rattle.lsp_spans.specs.Replacing.{exchanged, fault_at, is_plain}
+use Rattle.lsp_spans.specs.Subjects.{items_of, without_end}
+use Rattle.lsp_spans.specs.declared.parts.Part.{Part}
+use Rattle.lsp_spans.proofs.Plain.{item_goes}
+use Rattle.lsp_fixes.specs.Edits.{EditSeen, advises_sign, is_digit, kind_signs, sign_at, sign_for}
+use Rattle.lsp_fixes.specs.Healing.{LosesFault, block_after}
+use Rattle.lsp_fixes.specs.Laws.{IsOfCapability}
+use Rattle.lsp_fixes.proofs.Changing.{item_changes, loses_kind, refused_item}
+use Rattle.lsp_fixes.proofs.Exchanging.{no_edit, only_edit}
+use Rattle.lsp_fixes.proofs.Marks.{empty_end, mark_enabled}
+use Rattle.lsp_fixes.proofs.Placing.{byte_replaces}
+use Rattle.lsp_fixes.proofs.Putting.{IsPut, capability_put}
+use Rattle.lsp_fixes.proofs.Readings.{flag_read, number_read, text_read}
+use Rattle.lsp_fixes.proofs.SignsFit.{IsSigned, front_enabled, signed_item}
+use Rattle.lsp_fixes.proofs.TakenOut.{taken_out}
+use Rattle.lsp_fixes.proofs.Verdicts.{flag_ends}
+
+-- what is known of a mark
+record IsOfMark (mark : ℕ) : Type 0 where
+  plain : is_plain mark ≡ true
+  visible : is_white_space mark ≡ false
+  other : (mark == 37) ≡ false
+
+of_mark : (mark : ℕ) → is_mark mark ≡ true → IsOfMark mark
+of_mark mark is =
+    elim (cases_Bool (mark == 35)) [
+      | inl t ↦ subst IsOfMark (sym (eqb-true mark 35 t)) (record { plain = refl; visible = refl; other = refl })
+      | inr f ↦ subst IsOfMark (sym (eqb-true mark 61 (rw f at is))) (record { plain = refl; visible = refl; other = refl })
+    ]
+
+abbrev at_mark : PlacedByte → Part
+at_mark mark = record { start = mark.1; end = suc mark.1 }
+
+-- another mark in the place of one
+marked : (block : List ℕ) (ordinal : ℕ) (name value : List PlacedByte) (mark : PlacedByte) (n : ℕ) → OneBlock block → slice_get (items_of (folded_of block)) ordinal ≡ Some (name ++ mark ∷ value)
+    → fault_at block ordinal ≡ Some code.WrongKind → IsPut (bytes name) → IsOfMark mark.0 → IsOfMark n → IsOfCapability (bytes name ++ n ∷ bytes value)
+    → LosesFault block (exchanged block (at_mark mark) (n ∷ [])) ordinal
+marked block ordinal name value mark n single there had put old new is =
+    let replaces = byte_replaces name mark value (at_mark mark) n refl put.plain (old.plain, tt) (new.plain, tt) old.other new.other new.visible (item_goes (folded_of block) ordinal (name ++ mark ∷ value) there) in
+    loses_kind block (exchanged block (at_mark mark) (n ∷ [])) ordinal (bytes name ++ n ∷ bytes value) had
+    (item_changes block ordinal (name ++ mark ∷ value) (at_mark mark) (n ∷ []) (bytes name ++ n ∷ bytes value) single there replaces) is
+
+-- the sign of each kind
+by_kind : (block : List ℕ) (ordinal : ℕ) (edit : EditSeen) (kind : Kind) (item : List PlacedByte) (s : IsSigned item edit) → OneBlock block
+    → slice_get (items_of (folded_of block)) ordinal ≡ Some (s.name ++ s.mark ∷ s.value) → fault_at block ordinal ≡ Some code.WrongKind → s.capability.kind ≡ kind
+    → Contains (sign_at kind s.mark.1 (sign_for kind (bytes (without_end s.value)))) edit → LosesFault block (block_after block edit) ordinal
+by_kind block ordinal edit Flag item s single there had kind has =
+    let name = bytes s.name in
+    elim (cases_Bool (is_empty (bytes (without_end s.value)))) [
+      | inr f ↦ absurd (no_edit edit (rw f at has))
+      | inl t ↦
+          let one : EditSeen = record { advice = advises_sign Flag; part = at_mark s.mark; text = [] } in
+          let put = capability_put name s.capability s.named in
+          let out = taken_out block ordinal s.name s.value s.mark single put (empty_end s.value t) there in
+          let on = front_enabled name (s.mark.0 ∷ bytes s.value) out.end (λ e. (flag_ends name s.capability s.named kind).1 (ap (last_byte 64) e)) s.on in
+          subst (λ (e : EditSeen). LosesFault block (block_after block e) ordinal) (only_edit one edit (rw t at has))
+          (loses_kind block (block_after block one) ordinal (name ++ out.end) had out.changes (flag_read name out.end s.capability s.none out.are on s.named kind))
+    ]
+by_kind block ordinal edit Number item s single there had kind has =
+    let name = bytes s.name in
+    let value = bytes s.value in
+    let written = bytes (without_end s.value) in
+    elim (cases_Bool (not (is_empty written) && list_all is_digit written)) [
+      | inr f ↦ absurd (no_edit edit (rw f at has))
+      | inl t ↦
+          let one : EditSeen = record { advice = advises_sign Number; part = at_mark s.mark; text = codes "#" } in
+          subst (λ (e : EditSeen). LosesFault block (block_after block e) ordinal) (only_edit one edit (rw t at has))
+          (marked block ordinal s.name s.value s.mark 35 single there had (capability_put name s.capability s.named) (of_mark s.mark.0 s.is) (of_mark 35 refl)
+          (number_read name value s.capability s.none (mark_enabled name (s.mark.0 ∷ value) value 35 refl s.on) s.named kind))
+    ]
+by_kind block ordinal edit Text item s single there had kind has =
+    let name = bytes s.name in
+    let value = bytes s.value in
+    elim (cases_Bool (is_empty (bytes (without_end s.value)))) [
+      | inl t ↦ absurd (no_edit edit (rw t at has))
+      | inr f ↦
+          let one : EditSeen = record { advice = advises_sign Text; part = at_mark s.mark; text = codes "=" } in
+          subst (λ (e : EditSeen). LosesFault block (block_after block e) ordinal) (only_edit one edit (rw f at has))
+          (marked block ordinal s.name s.value s.mark 61 single there had (capability_put name s.capability s.named) (of_mark s.mark.0 s.is) (of_mark 61 refl)
+          (text_read name value s.capability s.none (mark_enabled name (s.mark.0 ∷ value) value 61 refl s.on) s.named kind))
+    ]
+
+pub signs_heal : (block : List ℕ) (ordinal : ℕ) (item : List PlacedByte) (edit : EditSeen) → OneBlock block → slice_get (items_of (folded_of block)) ordinal ≡ Some item
+    → fault_at block ordinal ≡ Some code.WrongKind → Contains (kind_signs item) edit → LosesFault block (block_after block edit) ordinal
+signs_heal block ordinal item edit single there had has =
+    let s = signed_item item edit (refused_item block ordinal item code.WrongKind there had (λ e. cc)) has in
+    by_kind block ordinal edit s.capability.kind item s single (there ∙ ap (λ (i : List PlacedByte). Some i) s.whole) had refl s.has
