@@ -16,12 +16,13 @@ use Rattle.lsp_spans.proofs.Plain.{after_both, goes_both, goes_front, item_goes,
 use Rattle.lsp_spans.proofs.Recutting.{Goes, by_after}
 use Rattle.lsp_fixes.specs.Carets.{can_be_read, caret_at, healing_caret, with_backslash}
 use Rattle.lsp_fixes.specs.Edits.{EditSeen, advises_caret, caret_in, carets}
-use Rattle.lsp_fixes.specs.Healing.{LosesFault, block_after}
+use Rattle.lsp_fixes.specs.Healing.{IsPartOf, LosesFault, block_after}
 use Rattle.lsp_fixes.specs.Laws.{IsInOrder, edited}
 use Rattle.lsp_fixes.specs.Pieces.{value_of, written_name}
 use Rattle.lsp_fixes.proofs.CaretsHeal.{Lasts, carets_heal, last_byte_is, last_found, lasts, no_byte}
 use Rattle.lsp_fixes.proofs.Changing.{item_changes, loses_caret, refused_item}
 use Rattle.lsp_fixes.proofs.Exchanging.{edited_at, no_edit, only_edit}
+use Rattle.lsp_fixes.proofs.ItemParts.{replaced_part}
 use Rattle.lsp_fixes.proofs.Placing.{item_in_order, text_replaces}
 
 -- the edit that is offered
@@ -72,7 +73,7 @@ caret_replaces front last was =
     (λ ends. ap (λ (e : Escape). cuts e 44) (after_both nothing 44 front new) ∙ two_end by (last_of 44 front))
 
 pub carets_mend : (block : List ℕ) (ordinal : ℕ) (item : List PlacedByte) (edit : EditSeen) → OneBlock block → slice_get (items_of (folded_of block)) ordinal ≡ Some item
-    → fault_at block ordinal ≡ Some code.BadString → Contains (carets item) edit → LosesFault block (block_after block edit) ordinal
+    → fault_at block ordinal ≡ Some code.BadString → Contains (carets item) edit → LosesFault block (block_after block edit) ordinal × IsPartOf block edit.part
 carets_mend block ordinal item edit single there had has =
     let size = length (written_name item) + 1 in
     let cut = caret_cut (value_of item) edit (lasts (value_of item)) has in
@@ -85,6 +86,8 @@ carets_mend block ordinal item edit single there had has =
     edited_at (backslashed last) front (last ∷ []) [] (subst IsInOrder whole (item_in_order block ordinal item there)) refl in
     let moved = subst (λ (i : List PlacedByte). Replaces i (backslashed last).part (92 ∷ 94 ∷ []) (edited i (backslashed last))) (sym whole)
     (subst (Replaces (front ++ ((last ∷ []) ++ [])) (backslashed last).part (92 ∷ 94 ∷ [])) (sym text) replaces) in
-    let is = subst (λ (e : EditSeen). Replaces item e.part e.text (edited item e)) cut.is moved in
-    loses_caret block (block_after block edit) ordinal (edited item edit) had (item_changes block ordinal item edit.part edit.text (edited item edit) single there is)
-    (carets_heal item edit (item_in_order block ordinal item there) (refused_item block ordinal item code.BadString there had (λ e. cc)) has)
+    let is = subst (λ (e : EditSeen). Replaces item e.part e.text (edited item e)) cut.is moved in (
+      loses_caret block (block_after block edit) ordinal (edited item edit) had (item_changes block ordinal item edit.part edit.text (edited item edit) single there is)
+          (carets_heal item edit (item_in_order block ordinal item there) (refused_item block ordinal item code.BadString there had (λ e. cc)) has),
+      replaced_part block ordinal item edit.part edit.text (edited item edit) there is,
+    )

@@ -26,13 +26,13 @@ use Rattle.lsp_document.specs.Diagnostics.{text_at}
 use Rattle.lsp_features.specs.Renaming.{can_be_given}
 use Rattle.lsp_fixes.specs.Edits.{EditSeen, edits_for, renames, spellings}
 use Rattle.lsp_fixes.specs.Fixes.{given_names, other_names, text_said, used_edits, value_at}
-use Rattle.lsp_fixes.specs.Healing.{EditsHeal, GetsOwner, Heals, LosesFault, block_after}
+use Rattle.lsp_fixes.specs.Healing.{EditsHeal, GetsOwner, Heals, IsPartOf, LosesFault, block_after}
 use Rattle.lsp_fixes.specs.Laws.{IsRead}
 use Rattle.lsp_fixes.proofs.CaretsMend.{carets_mend}
 use Rattle.lsp_fixes.proofs.Changing.{faulty_item}
 use Rattle.lsp_fixes.proofs.Exchanging.{no_edit}
 use Rattle.lsp_fixes.proofs.Given.{IsGiven, given}
-use Rattle.lsp_fixes.proofs.ItemBytes.{item_bytes}
+use Rattle.lsp_fixes.proofs.ItemParts.{item_bytes}
 use Rattle.lsp_fixes.proofs.NamesFit.{each_edit}
 use Rattle.lsp_fixes.proofs.NamesHeal.{names_heal}
 use Rattle.lsp_fixes.proofs.OthersOwn.{others_own}
@@ -76,7 +76,7 @@ odd_item block ordinal item value there had is =
 
 by_value : ValuesAreSound → WrittenSpells → (block : List ℕ) (ordinal : ℕ) (item : List PlacedByte) (edit : EditSeen) (v : Option (List ℕ)) → OneBlock block → AreBytes block
     → slice_get (items_of (folded_of block)) ordinal ≡ Some item → fault_at block ordinal ≡ Some code.UnknownEscape → value_at ordinal (reading_of_text block).items ≡ v
-    → Contains (edits_for item (Some code.UnknownEscape) v) edit → LosesFault block (block_after block edit) ordinal
+    → Contains (edits_for item (Some code.UnknownEscape) v) edit → LosesFault block (block_after block edit) ordinal × IsPartOf block edit.part
 by_value sound writes block ordinal item edit None single are there had is has = absurd (no_edit edit has)
 by_value sound writes block ordinal item edit (Some value) single are there had is has =
     let odd = odd_item block ordinal item value there had is in
@@ -84,7 +84,7 @@ by_value sound writes block ordinal item edit (Some value) single are there had 
 
 by_code : ValuesAreSound → WrittenSpells → (block : List ℕ) (ordinal : ℕ) (item : List PlacedByte) (edit : EditSeen) (o : Option Code) → OneBlock block → AreBytes block
     → slice_get (items_of (folded_of block)) ordinal ≡ Some item → fault_at block ordinal ≡ o
-    → Contains (edits_for item o (value_at ordinal (reading_of_text block).items)) edit → LosesFault block (block_after block edit) ordinal
+    → Contains (edits_for item o (value_at ordinal (reading_of_text block).items)) edit → LosesFault block (block_after block edit) ordinal × IsPartOf block edit.part
 by_code sound writes block ordinal item edit None single are there had has = absurd (no_edit edit has)
 by_code sound writes block ordinal item edit (Some code.UnknownCapability) single are there had has = names_heal block ordinal item edit single there had has
 by_code sound writes block ordinal item edit (Some code.WrongKind) single are there had has = signs_heal block ordinal item edit single there had has
@@ -122,7 +122,7 @@ given_at blocks own (v ∷ vs) edit has =
         record { there = refl; given = subst IsGiven (sym is.is_shown) is }) has
 
 by_use : EachIsWellRead → (blocks : List (List ℕ)) (at : ℕ) (block : List ℕ) (ordinal : ℕ) (item : List PlacedByte) (edit : EditSeen) (o : Option (List PlacedByte)) → All OneBlock blocks → OneBlock block
-    → slice_get (items_of (folded_of block)) ordinal ≡ Some item → used_name item ≡ o → Contains (used_edits blocks at o) edit → GetsOwner blocks at block (block_after block edit) ordinal
+    → slice_get (items_of (folded_of block)) ordinal ≡ Some item → used_name item ≡ o → Contains (used_edits blocks at o) edit → GetsOwner blocks at block (block_after block edit) ordinal × IsPartOf block edit.part
 by_use well blocks at block ordinal item edit None all single there is has = absurd (no_edit edit has)
 by_use well blocks at block ordinal item edit (Some name) all single there is has =
     let owned = others_own well blocks at name edit all has in
@@ -131,19 +131,22 @@ by_use well blocks at block ordinal item edit (Some name) all single there is ha
       | inl t ↦
           let put = given_at blocks at name edit (rw t at has) in
           let now = uses_mend block ordinal item name edit single there is put.there put.given in
-          record {
-            name = bytes name;
-            other = edit.text;
-            place = owned.0;
-            text = now.text;
-            used = now.used;
-            missing = none_owns (owner (readings blocks) (bytes name)) t;
-            changes = now.changes;
-            uses = now.uses;
-            sound = now.sound;
-            owned = owned.1;
-            apart = owned.2;
-          }
+          let mended = now.0 in (
+            record {
+              name = bytes name;
+              other = edit.text;
+              place = owned.0;
+              text = mended.text;
+              used = mended.used;
+              missing = none_owns (owner (readings blocks) (bytes name)) t;
+              changes = mended.changes;
+              uses = mended.uses;
+              sound = mended.sound;
+              owned = owned.1;
+              apart = owned.2;
+            },
+            now.1,
+          )
     ]
 
 pub edits_mend : ValuesAreSound → WrittenSpells → EachIsWellRead → EditsHeal
@@ -151,6 +154,6 @@ edits_mend sound writes well blocks at ordinal item edit all within are there ha
     let block = text_at blocks at in
     let single : OneBlock block = subst OneBlock (sym (text_got blocks at within)) (all at [] within) in
     elim (Contains-append_cases (edits_for item (fault_at block ordinal) (value_at ordinal (reading_of_text block).items)) (used_edits blocks at (used_name item)) edit has) [
-      | inl first ↦ inl (by_code sound writes block ordinal item edit (fault_at block ordinal) single are there refl first)
-      | inr second ↦ inr (by_use well blocks at block ordinal item edit (used_name item) all single there refl second)
+      | inl first ↦ let mended = by_code sound writes block ordinal item edit (fault_at block ordinal) single are there refl first in (inl mended.0, mended.1)
+      | inr second ↦ let mended = by_use well blocks at block ordinal item edit (used_name item) all single there refl second in (inr mended.0, mended.1)
     ]

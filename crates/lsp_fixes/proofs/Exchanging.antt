@@ -138,7 +138,7 @@ front_cut x xs rest order =
 
 -- ---- any part of an item
 
-any_cut : (front : List PlacedByte) (x : PlacedByte) (xs back : List PlacedByte) → IsInOrder (front ++ x ∷ (xs ++ back)) → IsCutAt x.1 (end_of (suc x.1) xs) front (x ∷ xs) back
+pub any_cut : (front : List PlacedByte) (x : PlacedByte) (xs back : List PlacedByte) → IsInOrder (front ++ x ∷ (xs ++ back)) → IsCutAt x.1 (end_of (suc x.1) xs) front (x ∷ xs) back
 any_cut front x xs back order =
     let parts = rising_parts front x (xs ++ back) order in
     let within = all_before_end x xs (front_rises (x ∷ xs) back parts.2) in

@@ -6,7 +6,7 @@ pub mod Ending
 pub mod Exchanging
 pub mod Given
 pub mod InOrder
-pub mod ItemBytes
+pub mod ItemParts
 pub mod Listing
 pub mod Marks
 pub mod NamesFit

@@ -13,11 +13,12 @@ use Rattle.lsp_spans.specs.Subjects.{items_of, without_end}
 use Rattle.lsp_spans.proofs.Plain.{plain_replace}
 use Rattle.lsp_fixes.specs.Candidates.{names_for}
 use Rattle.lsp_fixes.specs.Edits.{EditSeen, known_names, renames}
-use Rattle.lsp_fixes.specs.Healing.{LosesFault, block_after}
+use Rattle.lsp_fixes.specs.Healing.{IsPartOf, LosesFault, block_after}
 use Rattle.lsp_fixes.specs.Laws.{IsInOrder, edited}
 use Rattle.lsp_fixes.specs.Pieces.{after_name, written_name}
 use Rattle.lsp_fixes.proofs.Changing.{item_changes, loses_unknown}
 use Rattle.lsp_fixes.proofs.Exchanging.{edited_at}
+use Rattle.lsp_fixes.proofs.ItemParts.{replaced_part}
 use Rattle.lsp_fixes.proofs.Marks.{MarkSays, cancel_of, end_split, has_mark, has_none, mark_says, name_cut, plain_name}
 use Rattle.lsp_fixes.proofs.NamesFit.{names_fit}
 use Rattle.lsp_fixes.proofs.Placing.{item_in_order}
@@ -87,8 +88,10 @@ name_replaces block ordinal item edit there is has =
     (subst (Replaces ([] ++ (name ++ is.rest)) edit.part edit.text) (sym text) replaces)
 
 pub names_heal : (block : List ℕ) (ordinal : ℕ) (item : List PlacedByte) (edit : EditSeen) → OneBlock block → slice_get (items_of (folded_of block)) ordinal ≡ Some item
-    → fault_at block ordinal ≡ Some code.UnknownCapability → Contains (known_names item) edit → LosesFault block (block_after block edit) ordinal
+    → fault_at block ordinal ≡ Some code.UnknownCapability → Contains (known_names item) edit → LosesFault block (block_after block edit) ordinal × IsPartOf block edit.part
 names_heal block ordinal item edit single there had has =
-    loses_unknown block (block_after block edit) ordinal (edited item edit) had
-    (item_changes block ordinal item edit.part edit.text (edited item edit) single there (name_replaces block ordinal item edit there (named item (mark_says item)) has))
-    (names_fit item edit (item_in_order block ordinal item there) has)
+    let replaces = name_replaces block ordinal item edit there (named item (mark_says item)) has in (
+      loses_unknown block (block_after block edit) ordinal (edited item edit) had (item_changes block ordinal item edit.part edit.text (edited item edit) single there replaces)
+          (names_fit item edit (item_in_order block ordinal item there) has),
+      replaced_part block ordinal item edit.part edit.text (edited item edit) there replaces,
+    )

@@ -20,11 +20,12 @@ use Rattle.lsp_spans.proofs.Plain.{after_both, goes_both, item_goes, last_of, pl
 use Rattle.lsp_spans.proofs.Recutting.{Goes, by_after}
 use Rattle.lsp_spans.proofs.Refolding.{bytes_of_at}
 use Rattle.lsp_fixes.specs.Edits.{EditSeen, advises_spelling, spelling_in, spellings}
-use Rattle.lsp_fixes.specs.Healing.{LosesFault, block_after}
+use Rattle.lsp_fixes.specs.Healing.{IsPartOf, LosesFault, block_after}
 use Rattle.lsp_fixes.specs.Laws.{IsInOrder, IsRead, edited}
 use Rattle.lsp_fixes.specs.Shown.{shown}
 use Rattle.lsp_fixes.proofs.Changing.{item_changes, loses_escape, said_item}
 use Rattle.lsp_fixes.proofs.Exchanging.{edited_at, no_edit, only_edit}
+use Rattle.lsp_fixes.proofs.ItemParts.{replaced_part}
 use Rattle.lsp_fixes.proofs.Placing.{item_in_order, last_pushed, plain_pushed, text_replaces}
 use Rattle.lsp_fixes.proofs.Putting.{capability_put}
 use Rattle.lsp_fixes.proofs.SpellingsRead.{IsOdd, odd_item, spellings_read, written_shown}
@@ -78,14 +79,16 @@ spelled block ordinal name (v ∷ vs) mark (n ∷ ns) edit there plain is are so
 
 pub spellings_heal : ValuesAreSound → WrittenSpells → (block : List ℕ) (ordinal : ℕ) (item : List PlacedByte) (c : Capability) (value : List ℕ) (edit : EditSeen) → OneBlock block
     → AreBytes (bytes item) → slice_get (items_of (folded_of block)) ordinal ≡ Some item → fault_at block ordinal ≡ Some code.UnknownEscape
-    → IsRead (bytes item) (accepted_odd (said_text c value)) → Contains (spellings item value) edit → LosesFault block (block_after block edit) ordinal
+    → IsRead (bytes item) (accepted_odd (said_text c value)) → Contains (spellings item value) edit → LosesFault block (block_after block edit) ordinal × IsPartOf block edit.part
 spellings_heal sound writes block ordinal item c value edit single are there had read has =
     let o = odd_item item c value edit are read has in
     let put = capability_put (bytes o.name) c o.named in
     let value_bytes = (sound (bytes o.raw) value true o.spells).bytes o.are in
     let here = there ∙ ap (λ (i : List PlacedByte). Some i) o.whole in
     let replaces = spelled block ordinal o.name o.raw o.mark value edit here put.plain o.is value_bytes (no_value 0 (bytes o.raw) value true o.spells refl) o.has in
-    let moved = subst (λ (i : List PlacedByte). Replaces i edit.part edit.text (edited i edit)) (sym o.whole) replaces in
-    loses_escape block (block_after block edit) ordinal (edited item edit) (said_text c value) had (said_item block ordinal item (accepted_odd (said_text c value)) there read)
-    (item_changes block ordinal item edit.part edit.text (edited item edit) single there moved)
-    (spellings_read sound writes item c value edit (item_in_order block ordinal item there) are read has)
+    let moved = subst (λ (i : List PlacedByte). Replaces i edit.part edit.text (edited i edit)) (sym o.whole) replaces in (
+      loses_escape block (block_after block edit) ordinal (edited item edit) (said_text c value) had (said_item block ordinal item (accepted_odd (said_text c value)) there read)
+          (item_changes block ordinal item edit.part edit.text (edited item edit) single there moved)
+          (spellings_read sound writes item c value edit (item_in_order block ordinal item there) are read has),
+      replaced_part block ordinal item edit.part edit.text (edited item edit) there moved,
+    )

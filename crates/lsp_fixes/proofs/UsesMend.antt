@@ -22,10 +22,11 @@ use Rattle.lsp_spans.proofs.Plain.{after_both, item_goes, last_of, plain_after, 
 use Rattle.lsp_spans.proofs.Recutting.{Goes, by_after}
 use Rattle.lsp_spans.proofs.Refolding.{bytes_of_at}
 use Rattle.lsp_fixes.specs.Edits.{EditSeen}
-use Rattle.lsp_fixes.specs.Healing.{OneItemChanges, block_after}
+use Rattle.lsp_fixes.specs.Healing.{IsPartOf, OneItemChanges, block_after}
 use Rattle.lsp_fixes.specs.Laws.{IsRead}
 use Rattle.lsp_fixes.proofs.Changing.{item_changes, no_fault, said_item}
 use Rattle.lsp_fixes.proofs.Given.{AreNameLike, HasNone, IsGiven, none_both, none_goes, none_named, none_white, outer_dropped, used_bytes}
+use Rattle.lsp_fixes.proofs.ItemParts.{replaced_part}
 use Rattle.lsp_fixes.proofs.Marks.{end_split}
 use Rattle.lsp_fixes.proofs.NamesHeal.{white_plain}
 use Rattle.lsp_fixes.proofs.Placing.{after_from, text_replaces}
@@ -153,7 +154,7 @@ pub record UsesAnother (block after : List ℕ) (ordinal : ℕ) (name other : Li
   pub sound : fault_at after ordinal ≡ None
 
 pub uses_mend : (block : List ℕ) (ordinal : ℕ) (item name : List PlacedByte) (edit : EditSeen) → OneBlock block → slice_get (items_of (folded_of block)) ordinal ≡ Some item → used_name item ≡ Some name
-    → spanned name ≡ Some edit.part → IsGiven edit.text → UsesAnother block (block_after block edit) ordinal (bytes name) edit.text
+    → spanned name ≡ Some edit.part → IsGiven edit.text → UsesAnother block (block_after block edit) ordinal (bytes name) edit.text × IsPartOf block edit.part
 uses_mend block ordinal item name edit single there is span given =
     let u = use_cut item name is in
     let new = edit.text in
@@ -165,6 +166,9 @@ uses_mend block ordinal item name edit single there is span given =
     let now : IsRead text (accepted (said_import new)) =
     subst (λ (t : List ℕ). IsRead t (accepted (said_import new))) (sym (use_text item name u new))
     (use_read (bytes u.white ++ (new ++ bytes u.end)) new (outer_dropped (bytes u.white) new (bytes u.end) u.blank given.like u.ends given.visible)) in
-    let changes = item_changes block ordinal item edit.part new text single there (named item name u edit.part new span given (item_goes (folded_of block) ordinal item there)) in
-    let after = no_fault block (block_after block edit) ordinal text (said_import new) changes now in
-    record { text = text; used = said_item block ordinal item (accepted (said_import (bytes name))) there before; changes = changes; uses = after.0; sound = after.1 }
+    let replaces = named item name u edit.part new span given (item_goes (folded_of block) ordinal item there) in
+    let changes = item_changes block ordinal item edit.part new text single there replaces in
+    let after = no_fault block (block_after block edit) ordinal text (said_import new) changes now in (
+      record { text = text; used = said_item block ordinal item (accepted (said_import (bytes name))) there before; changes = changes; uses = after.0; sound = after.1 },
+      replaced_part block ordinal item edit.part new text there replaces,
+    )

@@ -1,6 +1,6 @@
 -- What a fix makes of the block of its item once the client has made the edit (own; Language Server
 -- Protocol 3.17, "TextEdit"): that item has lost its fault, and the others are as they were.
-use Rattle.std.specs.Prelude.{ℕ, ◌≡◌, ◌≢◌, ◌<◌, ◌⊎◌, All, Contains, List, length, Option, None, Some, slice_get, slice_set}
+use Rattle.std.specs.Prelude.{ℕ, ◌≡◌, ◌≢◌, ◌≤◌, ◌<◌, ◌⊎◌, All, Contains, List, length, Option, None, Some, slice_get, slice_set}
 use Rattle.ti_text.specs.Texts.{AreBytes}
 use Rattle.ti_source.specs.Cutting.{OneBlock}
 use Rattle.ti_source.specs.Folding.{PlacedByte}
@@ -13,10 +13,15 @@ use Rattle.base_meaning.specs.Owner.{owner, readings}
 use Rattle.lsp_spans.specs.Folding.{folded_of}
 use Rattle.lsp_spans.specs.Replacing.{IsReadBy, exchanged, fault_at, item_texts, said_at}
 use Rattle.lsp_spans.specs.Subjects.{head_text, items_of}
+use Rattle.lsp_spans.specs.declared.parts.Part.{Part}
 use Rattle.lsp_document.specs.Diagnostics.{text_at}
 use Rattle.lsp_fixes.specs.Edits.{EditSeen}
 use Rattle.lsp_fixes.specs.Fixes.{item_edits}
 use Rattle.lsp_fixes.specs.Laws.{IsOfCapability, IsRead}
+
+-- a part is one of a block
+abbrev pub IsPartOf : List ℕ → Part → Type 0
+IsPartOf block part = (part.start ≤ part.end) × (part.end ≤ length block)
 
 -- a block once an edit of it is made
 abbrev pub block_after : List ℕ → EditSeen → List ℕ
@@ -67,10 +72,10 @@ pub record GetsOwner (blocks : List (List ℕ)) (at : ℕ) (block after : List �
 abbrev pub Heals : (blocks : List (List ℕ)) (at : ℕ) (block after : List ℕ) (ordinal : ℕ) → Type 0
 Heals blocks at block after ordinal = LosesFault block after ordinal ⊎ GetsOwner blocks at block after ordinal
 
--- each edit that is offered for an item of a block heals that item
+-- each edit that is offered for an item of a block is of a part of the block, and heals that item
 abbrev pub EditsHeal : Type 0
 EditsHeal =
     (blocks : List (List ℕ)) (at ordinal : ℕ) (item : List PlacedByte) (edit : EditSeen) → All OneBlock blocks → at < length blocks → AreBytes (text_at blocks at)
     → slice_get (items_of (folded_of (text_at blocks at))) ordinal ≡ Some item
     → Contains (item_edits blocks at ordinal (reading_of_text (text_at blocks at)) item) edit
-    → Heals blocks at (text_at blocks at) (block_after (text_at blocks at) edit) ordinal
+    → Heals blocks at (text_at blocks at) (block_after (text_at blocks at) edit) ordinal × IsPartOf (text_at blocks at) edit.part
