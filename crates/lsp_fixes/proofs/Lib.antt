@@ -1,9 +1,11 @@
+pub mod Applying
 pub mod CaretsHeal
 pub mod CaretsMend
 pub mod Changing
 pub mod EditsMend
 pub mod Ending
 pub mod Exchanging
+pub mod FixesMend
 pub mod Given
 pub mod InOrder
 pub mod ItemParts

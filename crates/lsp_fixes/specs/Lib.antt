@@ -1,4 +1,5 @@
 -- The definitions that the contracts of this crate cite.
+pub mod Applied
 pub mod Candidates
 pub mod Carets
 pub mod Edits

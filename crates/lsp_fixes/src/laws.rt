@@ -1,4 +1,5 @@
 //! Laws of the definitions on which the contracts of this crate depend. They compute nothing.
+ghost use Rattle.lsp_fixes.specs.Applied.{AsciiPlacesAreStarts, FixesHeal};
 ghost use Rattle.lsp_fixes.specs.Healing.{EditsHeal};
 ghost use Rattle.lsp_fixes.specs.Laws.{CaretsHeal, ItemsAreInOrder, ItemsHaveOneVerdict, NamesAreOfCapabilities, NamesAreOfOtherBlocks, SignsFitTheKind, SpellingsReadBack};
 
@@ -52,4 +53,15 @@ pub fn edits_heal()
     ti_source::laws::one_outcome();
     ti_source::laws::written_spells();
     ti_source::laws::each_is_well_read();
+}
+
+/// A fix of a text, once the client has made the edit at the range of the fix, has taken the fault
+/// of its item away, and has changed no other item, if the range begins and ends at starts of
+/// characters. In ASCII with no CR each place is one.
+pub fn fixes_heal()
+    ensures fixes { FixesHeal }
+    ensures ascii { AsciiPlacesAreStarts }
+{
+    lsp_document::laws::held_blocks_fit();
+    edits_heal();
 }

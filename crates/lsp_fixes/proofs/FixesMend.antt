@@ -1,0 +1,253 @@
+-- Each fix of a text heals its item in the text as the client has it after the edit.
+use Rattle.std.proofs.Common.{◌≡◌, ◌≢◌, ℕ, zero, suc, ◌+◌, ◌-◌, ◌<◌, ◌==◌, ◌&&◌, not, nat_lt, All, Bool, true, false, Contains, List, [], ◌∷◌, ◌++◌, append_assoc, cond, drop, flat_map, get_or, length, map, take, Option, None, Some, slice_get, sum_by, inl, inr, refl, sym, ap, ap₂, subst, ◌∙◌, arith, zero-add}
+use Rattle.std.specs.List.{concat, enumerate_from}
+use Rattle.std.specs.Option.{option_map_or}
+use Rattle.std.proofs.lemmas.Bool.{cases_Bool, eq-eqb, lt-ltb, ne_eqb}
+use Rattle.std.proofs.lemmas.List.Elements.{All-cons, All-head, All-nil, All-tail, Contains-append_cases}
+use Rattle.std.proofs.lemmas.List.Sums.{sum_by-append}
+use Rattle.std.proofs.lemmas.Option.{same_Some}
+use Rattle.ti_text.specs.Lines.{line_count}
+use Rattle.ti_text.specs.Texts.{AreBytes, last_byte}
+use Rattle.ti_text.proofs.LineLaws.{lines_add}
+use Rattle.ti_source.specs.Cutting.{AreBlocks, OneBlock, blocks_from_head, front_of}
+use Rattle.ti_source.specs.Folding.{PlacedByte}
+use Rattle.ti_source.specs.Parsing.{reading_of_text}
+use Rattle.ti_source.specs.Reading.{Reading}
+use Rattle.ti_source.proofs.CutLemmas.{each_has_cut}
+use Rattle.tools_sources.specs.Sources.{first_line, preface_of, source_refusal, source_texts, with_last_newline}
+use Rattle.tools_sources.specs.declared.source_error.SourceError.{SourceError}
+use Rattle.lsp_types.specs.declared.places.Position.{Position}
+use Rattle.lsp_types.specs.declared.places.Range.{Range}
+use Rattle.lsp_spans.specs.Folding.{folded_of}
+use Rattle.lsp_spans.specs.Subjects.{items_of}
+use Rattle.lsp_document.specs.Diagnostics.{text_at}
+use Rattle.lsp_document.specs.Documents.{HeldBlocksFit, held, unless_refused}
+use Rattle.lsp_document.specs.Position.{is_start}
+use Rattle.lsp_features.specs.Spots.{head_line, settled, spot_at, spot_from}
+use Rattle.lsp_features.specs.declared.spots.Spot.{Spot}
+use Rattle.lsp_fixes.specs.Applied.{AsciiPlacesAreStarts, EndsAreStarts, FixesHeal, IsHealing, client_edited}
+use Rattle.lsp_fixes.specs.Edits.{EditSeen}
+use Rattle.lsp_fixes.specs.Fixes.{FixSeen, edits_in, fix_of, fixes_from, item_edits, stretch_to, touched_edits, touches}
+use Rattle.lsp_fixes.specs.Healing.{EditsHeal, IsPartOf, block_after}
+use Rattle.lsp_fixes.specs.declared.fixes.Stretch.{Stretch}
+use Rattle.lsp_fixes.proofs.Applying.{applied_in}
+use Rattle.lsp_features.proofs.Outlines.{text_got}
+
+-- ---- an element of a list that is made of another
+
+record IsMapped {X Y : Type 0} (f : X → Y) (xs : List X) (y : Y) : Type 0 where
+  of : X
+  has : Contains xs of
+  is : f of ≡ y
+
+mapped_at : {X Y : Type 0} (f : X → Y) (xs : List X) (y : Y) (i : ℕ) → i < length (map f xs) → get_or (map f xs) i y ≡ y → IsMapped f xs y
+mapped_at f [] y i within e = absurd (omega (arith, within))
+mapped_at f (x ∷ xs) y zero within e = record { of = x; has = (0, omega arith, refl); is = e }
+mapped_at f (x ∷ xs) y (suc i) within e =
+    let later = mapped_at f xs y i (omega (arith, within)) e in
+    let has = later.has in
+    let less = has.1 in
+    record { of = later.of; has = (suc has.0, omega (arith, less), has.2); is = later.is }
+
+record IsOfOne {X Y : Type 0} (f : X → List Y) (xs : List X) (y : Y) : Type 0 where
+  of : X
+  has : Contains xs of
+  is : Contains (f of) y
+
+of_one : {X Y : Type 0} (f : X → List Y) (xs : List X) (y : Y) → Contains (flat_map f xs) y → IsOfOne f xs y
+of_one f [] y has = let less = has.1 in absurd (omega (arith, less))
+of_one f (x ∷ xs) y has =
+    elim (Contains-append_cases (f x) (flat_map f xs) y has) [
+      | inl first ↦ record { of = x; has = (0, omega arith, refl); is = first }
+      | inr later ↦
+          let found = of_one f xs y later in
+          let has = found.has in
+          let less = has.1 in
+          record { of = found.of; has = (suc has.0, omega (arith, less), has.2); is = found.is }
+    ]
+
+numbered_at : {X : Type 0} (n : ℕ) (xs : List X) (p : ℕ × X) (i : ℕ) → i < length (enumerate_from n xs) → get_or (enumerate_from n xs) i p ≡ p → (k : ℕ) × (p.0 ≡ n + k) × (slice_get xs k ≡ Some p.1)
+numbered_at n [] p i within e = absurd (omega (arith, within))
+numbered_at n (x ∷ xs) p zero within e = let first = ap (λ (q : ℕ × _). q.0) e in (0, omega (arith, first), ap (λ (q : ℕ × _). Some q.1) e)
+numbered_at n (x ∷ xs) p (suc i) within e =
+    let later = numbered_at (n + 1) xs p i (omega (arith, within)) e in
+    let is = later.1 in
+    (suc later.0, omega (arith, is), later.2)
+
+-- ---- the block in which a fix is
+
+sum_first : (block : List ℕ) (blocks : List (List ℕ)) → sum_by line_count (block ∷ blocks) ≡ line_count block + sum_by line_count blocks
+sum_first block blocks = sum_by-append line_count (block ∷ []) blocks ∙ ap (λ (n : ℕ). n + sum_by line_count blocks) (zero-add (line_count block))
+
+record IsSpot (at first : ℕ) (blocks : List (List ℕ)) (spot : Spot) : Type 0 where
+  place : ℕ
+  is : spot.at ≡ at + place
+  within : place < length blocks
+  line : spot.line ≡ first + sum_by line_count (take place blocks)
+
+spot_is : (at first : ℕ) (p : Position) (blocks : List (List ℕ)) (spot : Spot) → spot_from at first p blocks ≡ Some spot → IsSpot at first blocks spot
+spot_is at first p [] spot e = absurd cc
+spot_is at first p (block ∷ blocks) spot e =
+    elim (cases_Bool (nat_lt p.line first)) [
+      | inl t ↦ let none : None ≡ Some spot = rw t at e in absurd cc
+      | inr f ↦
+          elim (cases_Bool (nat_lt p.line (first + line_count block))) [
+            | inl t ↦
+                let is = same_Some _ spot (rw (f, t) at e) in
+                let here : at ≡ spot.at = ap (λ (s : Spot). s.at) is in
+                let line : first ≡ spot.line = ap (λ (s : Spot). s.line) is in
+                record { place = 0; is = omega (arith, here); within = omega arith; line = let none : sum_by line_count (take 0 (block ∷ blocks)) ≡ 0 = refl in omega (arith, line, none) }
+            | inr g ↦
+                let later = spot_is (suc at) (first + line_count block) p blocks spot (rw (f, g) at e) in
+                let is = later.is in
+                let within = later.within in
+                let line = later.line in
+                let sum : sum_by line_count (take (suc later.place) (block ∷ blocks)) ≡ line_count block + sum_by line_count (take later.place blocks) = sum_first block (take later.place blocks) in
+                record { place = suc later.place; is = omega (arith, is); within = omega (arith, within); line = omega (arith, line, sum) }
+          ]
+    ]
+
+-- ---- the text before and after the block
+
+concat_cut : (blocks : List (List ℕ)) (k : ℕ) → k < length blocks → concat blocks ≡ concat (take k blocks) ++ (text_at blocks k ++ concat (drop (suc k) blocks))
+concat_cut [] k within = absurd (omega (arith, within))
+concat_cut (block ∷ blocks) zero within = refl
+concat_cut (block ∷ blocks) (suc k) within =
+    ap (λ (t : List ℕ). block ++ t) (concat_cut blocks k (omega (arith, within))) ∙ sym (append_assoc block (concat (take k blocks)) (text_at blocks k ++ concat (drop (suc k) blocks)))
+
+lines_of_all : (blocks : List (List ℕ)) → line_count (concat blocks) ≡ sum_by line_count blocks
+lines_of_all [] = refl
+lines_of_all (block ∷ blocks) = lines_add block (concat blocks) ∙ ap (λ (n : ℕ). line_count block + n) (lines_of_all blocks) ∙ sym (sum_first block blocks)
+
+last_both : (before : ℕ) (one other : List ℕ) → last_byte before (one ++ other) ≡ last_byte (last_byte before one) other
+last_both before [] other = refl
+last_both before (x ∷ xs) other = last_both x xs other
+
+ends_before : (before : ℕ) (blocks : List (List ℕ)) (k : ℕ) → k < length blocks → AreBlocks before blocks → last_byte before (concat (take k blocks)) ≡ 10
+ends_before before [] k within are = absurd (omega (arith, within))
+ends_before before (block ∷ blocks) zero within are = are.0
+ends_before before (block ∷ blocks) (suc k) within are =
+    last_both before block (concat (take k blocks)) ∙ ends_before (last_byte before block) blocks k (omega (arith, within)) are.2
+
+-- a block that is one ends with a newline
+block_ends : (block : List ℕ) → OneBlock block → last_byte 10 block ≡ 10
+block_ends [] single = refl
+block_ends (x ∷ xs) single = single.ends
+
+record IsCutIn (text : List ℕ) (blocks : List (List ℕ)) (k : ℕ) : Type 0 where
+  whole : text ≡ (preface_of text ++ concat (take k blocks)) ++ (text_at blocks k ++ concat (drop (suc k) blocks))
+  ends : last_byte 10 (preface_of text ++ concat (take k blocks)) ≡ 10
+  lines : line_count (preface_of text ++ concat (take k blocks)) ≡ head_line text + sum_by line_count (take k blocks)
+
+not_refused : (o : Option SourceError) (blocks : List (List ℕ)) (k : ℕ) → k < length (unless_refused o blocks) → unless_refused o blocks ≡ blocks
+not_refused None blocks k within = refl
+not_refused (Some error) blocks k within = absurd (omega (arith, within))
+
+ended : (text : List ℕ) → last_byte 10 text ≡ 10 → with_last_newline text ≡ text
+ended text last = let is = eq-eqb (last_byte 10 text) 10 last in rw is refl
+
+less_one : (n : ℕ) → n + 1 - 1 ≡ n
+less_one n = omega arith
+
+cut_at : (text : List ℕ) (k : ℕ) → last_byte 10 text ≡ 10 → k < length (held text) → IsCutIn text (held text) k
+cut_at text k last within =
+    let blocks = source_texts text in
+    let preface = preface_of text in
+    let same : held text ≡ blocks = not_refused (source_refusal text) blocks k within in
+    let cut = each_has_cut (with_last_newline text) in
+    let inside : k < length blocks = subst (λ (b : List (List ℕ)). k < length b) same within in
+    let whole : text ≡ (preface ++ concat (take k blocks)) ++ (text_at blocks k ++ concat (drop (suc k) blocks)) =
+    sym (ended text last) ∙ cut.whole ∙ ap (λ (t : List ℕ). preface ++ t) (concat_cut blocks k inside)
+    ∙ sym (append_assoc preface (concat (take k blocks)) (text_at blocks k ++ concat (drop (suc k) blocks))) in
+    let lines : line_count (preface ++ concat (take k blocks)) ≡ head_line text + sum_by line_count (take k blocks) =
+    lines_add preface (concat (take k blocks)) ∙ ap₂ (λ (a b : ℕ). a + b) (sym (less_one (line_count preface))) (lines_of_all (take k blocks)) in
+    subst (λ (b : List (List ℕ)). IsCutIn text b k) (sym same)
+    (record { whole = whole; ends = last_both 10 preface (concat (take k blocks)) ∙ ends_before (last_byte 10 preface) blocks k inside cut.each; lines = lines })
+
+-- ---- bytes of a part
+
+bytes_back : (front back : List ℕ) → AreBytes (front ++ back) → AreBytes back
+bytes_back [] back are = are
+bytes_back (x ∷ xs) back are = bytes_back xs back (All-tail (λ b. b < 256) x (xs ++ back) are)
+
+bytes_front : (front back : List ℕ) → AreBytes (front ++ back) → AreBytes front
+bytes_front [] back are = All-nil (λ b. b < 256)
+bytes_front (x ∷ xs) back are = All-cons (λ b. b < 256) x xs (All-head (λ b. b < 256) x (xs ++ back) are) (bytes_front xs back (All-tail (λ b. b < 256) x (xs ++ back) are))
+
+-- ---- the fix
+
+-- the text once the part is exchanged where its ends are, if the block begins on that line
+abbrev IsAppliedOn : List ℕ → ℕ → List ℕ → EditSeen → List ℕ → Type 0
+IsAppliedOn text line block edit after = client_edited text (fix_of line block edit) ≡ after
+
+applied_on : (text front block back : List ℕ) (line : ℕ) (edit : EditSeen) → text ≡ front ++ (block ++ back) → line ≡ line_count front → last_byte 10 front ≡ 10 → last_byte 10 block ≡ 10
+    → IsPartOf block edit.part → EndsAreStarts text (length front) edit.part → IsAppliedOn text line block edit (front ++ (block_after block edit ++ back))
+applied_on text front block back line edit whole counts ends one is starts =
+    let after = front ++ (block_after block edit ++ back) in
+    let there = subst (λ (t : List ℕ). EndsAreStarts t (length front) edit.part) whole starts in
+    subst (λ (l : ℕ). IsAppliedOn text l block edit after) (sym counts)
+    (subst (λ (t : List ℕ). IsAppliedOn t (line_count front) block edit after) (sym whole)
+    (applied_in front block back edit.part edit.text ends one is there.0 there.1))
+
+-- an item that a stretch touches
+touched : (blocks : List (List ℕ)) (stretch : Stretch) (block : Reading) (placed : ℕ × List PlacedByte) (edit : EditSeen) (b : Bool)
+    → Contains (cond b (item_edits blocks stretch.at placed.0 block placed.1) []) edit → Contains (item_edits blocks stretch.at placed.0 block placed.1) edit
+touched blocks stretch block placed edit true has = has
+touched blocks stretch block placed edit false has = let less = has.1 in absurd (omega (arith, less))
+
+by_spot : EditsHeal → HeldBlocksFit → (text : List ℕ) (range : Range) (fix : FixSeen) (o : Option Spot) → AreBytes text → last_byte 10 text ≡ 10 → spot_at text range.start ≡ o
+    → Contains (option_map_or (fixes_from (held text) range.end) o []) fix → IsHealing text fix
+by_spot heals fit text range fix None are last e has = let less = has.1 in absurd (omega (arith, less))
+by_spot heals fit text range fix (Some spot) are last e has =
+    let blocks = held text in
+    let at = spot.at in
+    let s = spot_is 0 (head_line text) (settled text range.start) blocks spot e in
+    let same : at ≡ s.place = s.is ∙ zero-add s.place in
+    let inside = s.within in
+    let within : at < length blocks = omega (arith, same, inside) in
+    let cut = cut_at text at last within in
+    let front = preface_of text ++ concat (take at blocks) in
+    let back = concat (drop (suc at) blocks) in
+    let block = text_at blocks at in
+    let line : spot.line ≡ line_count front = s.line ∙ ap (λ (k : ℕ). head_line text + sum_by line_count (take k blocks)) (sym same) ∙ sym cut.lines in
+    let single : OneBlock block = subst OneBlock (sym (text_got blocks at within)) ((fit text).1 at [] within).1 in
+    let stretch = stretch_to block range.end spot in
+    let items = items_of (folded_of block) in
+    let reading = reading_of_text block in
+    let made = mapped_at (fix_of spot.line block) (edits_in blocks stretch) fix has.0 has.1 has.2 in
+    let edit = made.of in
+    let one = of_one (touched_edits blocks stretch reading) (enumerate_from 0 items) edit made.has in
+    let placed = one.of in
+    let numbered = numbered_at 0 items placed one.has.0 one.has.1 one.has.2 in
+    let ordinal : placed.0 ≡ numbered.0 = numbered.1 ∙ zero-add numbered.0 in
+    let there : slice_get items placed.0 ≡ Some placed.1 = ap (slice_get items) ordinal ∙ numbered.2 in
+    let block_bytes : AreBytes block = bytes_front block back (bytes_back front (block ++ back) (subst AreBytes cut.whole are)) in
+    let healed = heals blocks at placed.0 placed.1 edit (λ i d w. ((fit text).1 i d w).1) within block_bytes there
+    (touched blocks stretch reading placed edit (touches stretch placed.1) one.is) in
+    record {
+      at = at;
+      ordinal = placed.0;
+      edit = edit;
+      front = front;
+      back = back;
+      before = refl;
+      whole = cut.whole;
+      heals = healed.0;
+      applied = λ starts.
+          subst (λ (f : FixSeen). client_edited text f ≡ front ++ (block_after block edit ++ back)) made.is
+          (applied_on text front block back spot.line edit cut.whole line cut.ends (block_ends block single) healed.1 starts);
+    }
+
+pub fixes_mend : EditsHeal → HeldBlocksFit → FixesHeal
+fixes_mend heals fit text range fix are last has = by_spot heals fit text range fix (spot_at text range.start) are last refl has
+
+-- ---- places in ASCII
+
+starts_from : (before : ℕ) (text : List ℕ) (offset : ℕ) → (before == 13) ≡ false → All (λ byte. byte < 128) text → All (λ byte. byte ≢ 13) text → is_start before text offset ≡ true
+starts_from before [] offset other low none = refl
+starts_from before (byte ∷ bytes) zero other low none = rw (lt-ltb byte 128 (All-head (λ b. b < 128) byte bytes low), other) refl
+starts_from before (byte ∷ bytes) (suc offset) other low none =
+    starts_from byte bytes offset (ne_eqb byte 13 (All-head (λ b. b ≢ 13) byte bytes none)) (All-tail (λ b. b < 128) byte bytes low) (All-tail (λ b. b ≢ 13) byte bytes none)
+
+pub ascii_starts : AsciiPlacesAreStarts
+ascii_starts text offset low none = starts_from 0 text offset refl low none
