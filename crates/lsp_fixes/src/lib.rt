@@ -10,7 +10,8 @@
 //! - `giving`: the names that a source can give
 //! - `uses`: what is offered against a use of a name that no block has
 //! - `fixes`: what is offered for the items that a range touches
-//! - `laws`: an item that is edited as it is offered has lost its fault
+//! - `laws`: an item that is edited as it is offered has lost its fault, in its block and in the text
+//!   as the client has it then
 #![tactic(auto)]
 
 mod candidates;
