@@ -16,7 +16,7 @@ use Rattle.lsp_spans.proofs.Plain.{after_both, goes_both, goes_front, item_goes,
 use Rattle.lsp_spans.proofs.Recutting.{Goes, by_after}
 use Rattle.lsp_fixes.specs.Carets.{can_be_read, caret_at, healing_caret, with_backslash}
 use Rattle.lsp_fixes.specs.Edits.{EditSeen, advises_caret, caret_in, carets}
-use Rattle.lsp_fixes.specs.Healing.{IsPartOf, LosesFault, block_after}
+use Rattle.lsp_fixes.specs.Healing.{LosesFault, Stays, block_after}
 use Rattle.lsp_fixes.specs.Laws.{IsInOrder, edited}
 use Rattle.lsp_fixes.specs.Pieces.{value_of, written_name}
 use Rattle.lsp_fixes.proofs.CaretsHeal.{Lasts, carets_heal, last_byte_is, last_found, lasts, no_byte}
@@ -73,7 +73,7 @@ caret_replaces front last was =
     (λ ends. ap (λ (e : Escape). cuts e 44) (after_both nothing 44 front new) ∙ two_end by (last_of 44 front))
 
 pub carets_mend : (block : List ℕ) (ordinal : ℕ) (item : List PlacedByte) (edit : EditSeen) → OneBlock block → slice_get (items_of (folded_of block)) ordinal ≡ Some item
-    → fault_at block ordinal ≡ Some code.BadString → Contains (carets item) edit → LosesFault block (block_after block edit) ordinal × IsPartOf block edit.part
+    → fault_at block ordinal ≡ Some code.BadString → Contains (carets item) edit → LosesFault block (block_after block edit) ordinal × Stays block edit
 carets_mend block ordinal item edit single there had has =
     let size = length (written_name item) + 1 in
     let cut = caret_cut (value_of item) edit (lasts (value_of item)) has in
@@ -89,5 +89,5 @@ carets_mend block ordinal item edit single there had has =
     let is = subst (λ (e : EditSeen). Replaces item e.part e.text (edited item e)) cut.is moved in (
       loses_caret block (block_after block edit) ordinal (edited item edit) had (item_changes block ordinal item edit.part edit.text (edited item edit) single there is)
           (carets_heal item edit (item_in_order block ordinal item there) (refused_item block ordinal item code.BadString there had (λ e. cc)) has),
-      replaced_part block ordinal item edit.part edit.text (edited item edit) there is,
+      replaced_part block ordinal item edit.part edit.text (edited item edit) single there is,
     )

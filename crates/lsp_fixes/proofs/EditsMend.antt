@@ -26,7 +26,7 @@ use Rattle.lsp_document.specs.Diagnostics.{text_at}
 use Rattle.lsp_features.specs.Renaming.{can_be_given}
 use Rattle.lsp_fixes.specs.Edits.{EditSeen, edits_for, renames, spellings}
 use Rattle.lsp_fixes.specs.Fixes.{given_names, other_names, text_said, used_edits, value_at}
-use Rattle.lsp_fixes.specs.Healing.{EditsHeal, GetsOwner, Heals, IsPartOf, LosesFault, block_after}
+use Rattle.lsp_fixes.specs.Healing.{EditsHeal, GetsOwner, Heals, LosesFault, Stays, block_after}
 use Rattle.lsp_fixes.specs.Laws.{IsRead}
 use Rattle.lsp_fixes.proofs.CaretsMend.{carets_mend}
 use Rattle.lsp_fixes.proofs.Changing.{faulty_item}
@@ -76,7 +76,7 @@ odd_item block ordinal item value there had is =
 
 by_value : ValuesAreSound → WrittenSpells → (block : List ℕ) (ordinal : ℕ) (item : List PlacedByte) (edit : EditSeen) (v : Option (List ℕ)) → OneBlock block → AreBytes block
     → slice_get (items_of (folded_of block)) ordinal ≡ Some item → fault_at block ordinal ≡ Some code.UnknownEscape → value_at ordinal (reading_of_text block).items ≡ v
-    → Contains (edits_for item (Some code.UnknownEscape) v) edit → LosesFault block (block_after block edit) ordinal × IsPartOf block edit.part
+    → Contains (edits_for item (Some code.UnknownEscape) v) edit → LosesFault block (block_after block edit) ordinal × Stays block edit
 by_value sound writes block ordinal item edit None single are there had is has = absurd (no_edit edit has)
 by_value sound writes block ordinal item edit (Some value) single are there had is has =
     let odd = odd_item block ordinal item value there had is in
@@ -84,7 +84,7 @@ by_value sound writes block ordinal item edit (Some value) single are there had 
 
 by_code : ValuesAreSound → WrittenSpells → (block : List ℕ) (ordinal : ℕ) (item : List PlacedByte) (edit : EditSeen) (o : Option Code) → OneBlock block → AreBytes block
     → slice_get (items_of (folded_of block)) ordinal ≡ Some item → fault_at block ordinal ≡ o
-    → Contains (edits_for item o (value_at ordinal (reading_of_text block).items)) edit → LosesFault block (block_after block edit) ordinal × IsPartOf block edit.part
+    → Contains (edits_for item o (value_at ordinal (reading_of_text block).items)) edit → LosesFault block (block_after block edit) ordinal × Stays block edit
 by_code sound writes block ordinal item edit None single are there had has = absurd (no_edit edit has)
 by_code sound writes block ordinal item edit (Some code.UnknownCapability) single are there had has = names_heal block ordinal item edit single there had has
 by_code sound writes block ordinal item edit (Some code.WrongKind) single are there had has = signs_heal block ordinal item edit single there had has
@@ -122,7 +122,7 @@ given_at blocks own (v ∷ vs) edit has =
         record { there = refl; given = subst IsGiven (sym is.is_shown) is }) has
 
 by_use : EachIsWellRead → (blocks : List (List ℕ)) (at : ℕ) (block : List ℕ) (ordinal : ℕ) (item : List PlacedByte) (edit : EditSeen) (o : Option (List PlacedByte)) → All OneBlock blocks → OneBlock block
-    → slice_get (items_of (folded_of block)) ordinal ≡ Some item → used_name item ≡ o → Contains (used_edits blocks at o) edit → GetsOwner blocks at block (block_after block edit) ordinal × IsPartOf block edit.part
+    → slice_get (items_of (folded_of block)) ordinal ≡ Some item → used_name item ≡ o → Contains (used_edits blocks at o) edit → GetsOwner blocks at block (block_after block edit) ordinal × Stays block edit
 by_use well blocks at block ordinal item edit None all single there is has = absurd (no_edit edit has)
 by_use well blocks at block ordinal item edit (Some name) all single there is has =
     let owned = others_own well blocks at name edit all has in

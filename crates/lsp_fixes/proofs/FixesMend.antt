@@ -235,7 +235,7 @@ by_spot heals fit text range fix (Some spot) are last e has =
       heals = healed.0;
       applied = λ starts.
           subst (λ (f : FixSeen). client_edited text f ≡ front ++ (block_after block edit ++ back)) made.is
-          (applied_on text front block back spot.line edit cut.whole line cut.ends (block_ends block single) healed.1 starts);
+          (applied_on text front block back spot.line edit cut.whole line cut.ends (block_ends block single) healed.1.0 starts);
     }
 
 pub fixes_mend : EditsHeal → HeldBlocksFit → FixesHeal

@@ -5,17 +5,19 @@ use Rattle.std.proofs.lemmas.List.Elements.{All-cons, All-from_recursion, All-he
 use Rattle.std.proofs.lemmas.Option.{get_or_from_slice_get, slice_get_within}
 use Rattle.ti_text.specs.Texts.{AreBytes}
 use Rattle.ti_text.specs.WhiteSpace.{is_white_space}
+use Rattle.ti_source.specs.Cutting.{OneBlock}
 use Rattle.ti_source.specs.Folding.{PlacedByte}
 use Rattle.ti_source.specs.Items.{bytes, takes, without_front}
 use Rattle.lsp_spans.specs.Folding.{bytes_at, folded_of, in_comment, without_breaks, without_comments}
 use Rattle.lsp_spans.specs.Parts.{end_of, items_after, rest_of, spanned, with_first}
-use Rattle.lsp_spans.specs.Replacing.{Replaces}
+use Rattle.lsp_spans.specs.Replacing.{IsOneLine, Replaces, exchanged}
 use Rattle.lsp_spans.specs.Subjects.{items_of}
 use Rattle.lsp_spans.specs.declared.parts.Part.{Part}
 use Rattle.lsp_fixes.specs.Healing.{IsPartOf}
 use Rattle.lsp_fixes.specs.Laws.{IsInOrder}
 use Rattle.lsp_fixes.proofs.Exchanging.{any_cut}
 use Rattle.lsp_fixes.proofs.Placing.{item_in_order}
+use Rattle.lsp_fixes.proofs.Staying.{stays_one}
 
 -- what holds of each byte of a block holds of each byte of an item
 module _ (P : PlacedByte → Type 0) where
@@ -112,7 +114,7 @@ end_below size end [] back within all = within
 end_below size end (x ∷ xs) back within all = let below = all.0 in end_below size (suc x.1) xs back (omega (arith, below)) all.1
 
 -- a part of an item is one of its block
-pub item_part : (block : List ℕ) (ordinal : ℕ) (item front middle back : List PlacedByte) (part : Part) → slice_get (items_of (folded_of block)) ordinal ≡ Some item → item ≡ front ++ (middle ++ back)
+item_part : (block : List ℕ) (ordinal : ℕ) (item front middle back : List PlacedByte) (part : Part) → slice_get (items_of (folded_of block)) ordinal ≡ Some item → item ≡ front ++ (middle ++ back)
     → spanned middle ≡ Some part → IsPartOf block part
 item_part block ordinal item front [] back part there whole is = absurd cc
 item_part block ordinal item front (x ∷ xs) back part there whole is =
@@ -125,6 +127,12 @@ item_part block ordinal item front (x ∷ xs) back part there whole is =
     let cut = any_cut front x xs back (subst IsInOrder whole (item_in_order block ordinal item there)) in
     subst (IsPartOf block) same (cut.forward, end_below size (suc x.1) xs back (omega (arith, first)) here.1)
 
-pub replaced_part : (block : List ℕ) (ordinal : ℕ) (item : List PlacedByte) (part : Part) (new text : List ℕ) → slice_get (items_of (folded_of block)) ordinal ≡ Some item → Replaces item part new text
-    → IsPartOf block part
-replaced_part block ordinal item part new text there r = item_part block ordinal item r.front r.middle r.back part there r.whole r.there
+-- and once it is exchanged the block is one
+pub exchanged_part : (block : List ℕ) (ordinal : ℕ) (item front middle back : List PlacedByte) (part : Part) (new : List ℕ) → OneBlock block → slice_get (items_of (folded_of block)) ordinal ≡ Some item
+    → item ≡ front ++ (middle ++ back) → spanned middle ≡ Some part → IsOneLine new → IsPartOf block part × OneBlock (exchanged block part new)
+exchanged_part block ordinal item front middle back part new single there whole is line =
+    (item_part block ordinal item front middle back part there whole is, stays_one block ordinal item front middle back part new single there whole is line)
+
+pub replaced_part : (block : List ℕ) (ordinal : ℕ) (item : List PlacedByte) (part : Part) (new text : List ℕ) → OneBlock block → slice_get (items_of (folded_of block)) ordinal ≡ Some item
+    → Replaces item part new text → IsPartOf block part × OneBlock (exchanged block part new)
+replaced_part block ordinal item part new text single there r = exchanged_part block ordinal item r.front r.middle r.back part new single there r.whole r.there r.one_line

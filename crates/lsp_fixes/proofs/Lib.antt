@@ -23,6 +23,7 @@ pub mod SignsFit
 pub mod SignsHeal
 pub mod SpellingsHeal
 pub mod SpellingsRead
+pub mod Staying
 pub mod TakenOut
 pub mod UsesMend
 pub mod Verdicts

@@ -13,7 +13,7 @@ use Rattle.lsp_spans.specs.Subjects.{items_of, without_end}
 use Rattle.lsp_spans.proofs.Plain.{plain_replace}
 use Rattle.lsp_fixes.specs.Candidates.{names_for}
 use Rattle.lsp_fixes.specs.Edits.{EditSeen, known_names, renames}
-use Rattle.lsp_fixes.specs.Healing.{IsPartOf, LosesFault, block_after}
+use Rattle.lsp_fixes.specs.Healing.{LosesFault, Stays, block_after}
 use Rattle.lsp_fixes.specs.Laws.{IsInOrder, edited}
 use Rattle.lsp_fixes.specs.Pieces.{after_name, written_name}
 use Rattle.lsp_fixes.proofs.Changing.{item_changes, loses_unknown}
@@ -88,10 +88,10 @@ name_replaces block ordinal item edit there is has =
     (subst (Replaces ([] ++ (name ++ is.rest)) edit.part edit.text) (sym text) replaces)
 
 pub names_heal : (block : List ℕ) (ordinal : ℕ) (item : List PlacedByte) (edit : EditSeen) → OneBlock block → slice_get (items_of (folded_of block)) ordinal ≡ Some item
-    → fault_at block ordinal ≡ Some code.UnknownCapability → Contains (known_names item) edit → LosesFault block (block_after block edit) ordinal × IsPartOf block edit.part
+    → fault_at block ordinal ≡ Some code.UnknownCapability → Contains (known_names item) edit → LosesFault block (block_after block edit) ordinal × Stays block edit
 names_heal block ordinal item edit single there had has =
     let replaces = name_replaces block ordinal item edit there (named item (mark_says item)) has in (
       loses_unknown block (block_after block edit) ordinal (edited item edit) had (item_changes block ordinal item edit.part edit.text (edited item edit) single there replaces)
           (names_fit item edit (item_in_order block ordinal item there) has),
-      replaced_part block ordinal item edit.part edit.text (edited item edit) there replaces,
+      replaced_part block ordinal item edit.part edit.text (edited item edit) single there replaces,
     )

@@ -20,7 +20,7 @@ use Rattle.lsp_spans.proofs.Plain.{after_both, goes_both, item_goes, last_of, pl
 use Rattle.lsp_spans.proofs.Recutting.{Goes, by_after}
 use Rattle.lsp_spans.proofs.Refolding.{bytes_of_at}
 use Rattle.lsp_fixes.specs.Edits.{EditSeen, advises_spelling, spelling_in, spellings}
-use Rattle.lsp_fixes.specs.Healing.{IsPartOf, LosesFault, block_after}
+use Rattle.lsp_fixes.specs.Healing.{LosesFault, Stays, block_after}
 use Rattle.lsp_fixes.specs.Laws.{IsInOrder, IsRead, edited}
 use Rattle.lsp_fixes.specs.Shown.{shown}
 use Rattle.lsp_fixes.proofs.Changing.{item_changes, loses_escape, said_item}
@@ -79,7 +79,7 @@ spelled block ordinal name (v ∷ vs) mark (n ∷ ns) edit there plain is are so
 
 pub spellings_heal : ValuesAreSound → WrittenSpells → (block : List ℕ) (ordinal : ℕ) (item : List PlacedByte) (c : Capability) (value : List ℕ) (edit : EditSeen) → OneBlock block
     → AreBytes (bytes item) → slice_get (items_of (folded_of block)) ordinal ≡ Some item → fault_at block ordinal ≡ Some code.UnknownEscape
-    → IsRead (bytes item) (accepted_odd (said_text c value)) → Contains (spellings item value) edit → LosesFault block (block_after block edit) ordinal × IsPartOf block edit.part
+    → IsRead (bytes item) (accepted_odd (said_text c value)) → Contains (spellings item value) edit → LosesFault block (block_after block edit) ordinal × Stays block edit
 spellings_heal sound writes block ordinal item c value edit single are there had read has =
     let o = odd_item item c value edit are read has in
     let put = capability_put (bytes o.name) c o.named in
@@ -90,5 +90,5 @@ spellings_heal sound writes block ordinal item c value edit single are there had
       loses_escape block (block_after block edit) ordinal (edited item edit) (said_text c value) had (said_item block ordinal item (accepted_odd (said_text c value)) there read)
           (item_changes block ordinal item edit.part edit.text (edited item edit) single there moved)
           (spellings_read sound writes item c value edit (item_in_order block ordinal item there) are read has),
-      replaced_part block ordinal item edit.part edit.text (edited item edit) there moved,
+      replaced_part block ordinal item edit.part edit.text (edited item edit) single there moved,
     )

@@ -22,7 +22,7 @@ use Rattle.lsp_spans.proofs.Plain.{after_both, item_goes, last_of, plain_after, 
 use Rattle.lsp_spans.proofs.Recutting.{Goes, by_after}
 use Rattle.lsp_spans.proofs.Refolding.{bytes_of_at}
 use Rattle.lsp_fixes.specs.Edits.{EditSeen}
-use Rattle.lsp_fixes.specs.Healing.{IsPartOf, OneItemChanges, block_after}
+use Rattle.lsp_fixes.specs.Healing.{OneItemChanges, Stays, block_after}
 use Rattle.lsp_fixes.specs.Laws.{IsRead}
 use Rattle.lsp_fixes.proofs.Changing.{item_changes, no_fault, said_item}
 use Rattle.lsp_fixes.proofs.Given.{AreNameLike, HasNone, IsGiven, none_both, none_goes, none_named, none_white, outer_dropped, used_bytes}
@@ -154,7 +154,7 @@ pub record UsesAnother (block after : List ℕ) (ordinal : ℕ) (name other : Li
   pub sound : fault_at after ordinal ≡ None
 
 pub uses_mend : (block : List ℕ) (ordinal : ℕ) (item name : List PlacedByte) (edit : EditSeen) → OneBlock block → slice_get (items_of (folded_of block)) ordinal ≡ Some item → used_name item ≡ Some name
-    → spanned name ≡ Some edit.part → IsGiven edit.text → UsesAnother block (block_after block edit) ordinal (bytes name) edit.text × IsPartOf block edit.part
+    → spanned name ≡ Some edit.part → IsGiven edit.text → UsesAnother block (block_after block edit) ordinal (bytes name) edit.text × Stays block edit
 uses_mend block ordinal item name edit single there is span given =
     let u = use_cut item name is in
     let new = edit.text in
@@ -170,5 +170,5 @@ uses_mend block ordinal item name edit single there is span given =
     let changes = item_changes block ordinal item edit.part new text single there replaces in
     let after = no_fault block (block_after block edit) ordinal text (said_import new) changes now in (
       record { text = text; used = said_item block ordinal item (accepted (said_import (bytes name))) there before; changes = changes; uses = after.0; sound = after.1 },
-      replaced_part block ordinal item edit.part new text there replaces,
+      replaced_part block ordinal item edit.part new text single there replaces,
     )

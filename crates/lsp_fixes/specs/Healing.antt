@@ -27,6 +27,10 @@ IsPartOf block part = (part.start ≤ part.end) × (part.end ≤ length block)
 abbrev pub block_after : List ℕ → EditSeen → List ℕ
 block_after block edit = exchanged block edit.part edit.text
 
+-- an edit is of a part of a block, which is one block then too
+abbrev pub Stays : List ℕ → EditSeen → Type 0
+Stays block edit = IsPartOf block edit.part × OneBlock (block_after block edit)
+
 -- the item of that ordinal gets this text, and is read as the text is judged; the names field and
 -- every other item have the texts that they had, and are read as they were
 pub record OneItemChanges (block after : List ℕ) (ordinal : ℕ) (text : List ℕ) : Type 0 where
@@ -72,10 +76,11 @@ pub record GetsOwner (blocks : List (List ℕ)) (at : ℕ) (block after : List �
 abbrev pub Heals : (blocks : List (List ℕ)) (at : ℕ) (block after : List ℕ) (ordinal : ℕ) → Type 0
 Heals blocks at block after ordinal = LosesFault block after ordinal ⊎ GetsOwner blocks at block after ordinal
 
--- each edit that is offered for an item of a block is of a part of the block, and heals that item
+-- each edit that is offered for an item of a block is of a part of the block, which stays one block,
+-- and heals that item
 abbrev pub EditsHeal : Type 0
 EditsHeal =
     (blocks : List (List ℕ)) (at ordinal : ℕ) (item : List PlacedByte) (edit : EditSeen) → All OneBlock blocks → at < length blocks → AreBytes (text_at blocks at)
     → slice_get (items_of (folded_of (text_at blocks at))) ordinal ≡ Some item
     → Contains (item_edits blocks at ordinal (reading_of_text (text_at blocks at)) item) edit
-    → Heals blocks at (text_at blocks at) (block_after (text_at blocks at) edit) ordinal × IsPartOf (text_at blocks at) edit.part
+    → Heals blocks at (text_at blocks at) (block_after (text_at blocks at) edit) ordinal × Stays (text_at blocks at) edit
