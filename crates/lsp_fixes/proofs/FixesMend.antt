@@ -1,5 +1,5 @@
 -- Each fix of a text heals its item in the text as the client has it after the edit.
-use Rattle.std.proofs.Common.{◌≡◌, ◌≢◌, ℕ, zero, suc, ◌+◌, ◌-◌, ◌<◌, ◌==◌, ◌&&◌, not, nat_lt, All, Bool, true, false, Contains, List, [], ◌∷◌, ◌++◌, append_assoc, cond, drop, flat_map, get_or, length, map, take, Option, None, Some, slice_get, sum_by, inl, inr, refl, sym, ap, ap₂, subst, ◌∙◌, arith, zero-add}
+use Rattle.std.proofs.Common.{◌≡◌, ◌≢◌, ℕ, zero, suc, ◌+◌, ◌-◌, ◌<◌, ◌==◌, ◌&&◌, not, nat_lt, All, Bool, true, false, Contains, List, [], ◌∷◌, ◌++◌, append_assoc, cond, drop, flat_map, get_or, length, map, take, Option, None, Some, slice_get, slice_set, sum_by, inl, inr, refl, sym, ap, ap₂, subst, ◌∙◌, arith, zero-add}
 use Rattle.std.specs.List.{concat, enumerate_from}
 use Rattle.std.specs.Option.{option_map_or}
 use Rattle.std.proofs.lemmas.Bool.{cases_Bool, eq-eqb, lt-ltb, ne_eqb}
@@ -9,11 +9,11 @@ use Rattle.std.proofs.lemmas.Option.{same_Some}
 use Rattle.ti_text.specs.Lines.{line_count}
 use Rattle.ti_text.specs.Texts.{AreBytes, last_byte}
 use Rattle.ti_text.proofs.LineLaws.{lines_add}
-use Rattle.ti_source.specs.Cutting.{AreBlocks, OneBlock, blocks_from_head, front_of}
+use Rattle.ti_source.specs.Cutting.{AreBlocks, Cut, HasOneHead, OneBlock, blocks_from_head, front_of}
 use Rattle.ti_source.specs.Folding.{PlacedByte}
 use Rattle.ti_source.specs.Parsing.{reading_of_text}
 use Rattle.ti_source.specs.Reading.{Reading}
-use Rattle.ti_source.proofs.CutLemmas.{each_has_cut}
+use Rattle.ti_source.proofs.CutLemmas.{each_has_cut, one_cut_law}
 use Rattle.tools_sources.specs.Sources.{first_line, preface_of, source_refusal, source_texts, with_last_newline}
 use Rattle.tools_sources.specs.declared.source_error.SourceError.{SourceError}
 use Rattle.lsp_types.specs.declared.places.Position.{Position}
@@ -164,6 +164,52 @@ cut_at text k last within =
     subst (λ (b : List (List ℕ)). IsCutIn text b k) (sym same)
     (record { whole = whole; ends = last_both 10 preface (concat (take k blocks)) ∙ ends_before (last_byte 10 preface) blocks k inside cut.each; lines = lines })
 
+-- ---- the blocks of the text once that block is another
+
+concat_set : (blocks : List (List ℕ)) (k : ℕ) (block : List ℕ) → k < length blocks → concat (slice_set blocks k block) ≡ concat (take k blocks) ++ (block ++ concat (drop (suc k) blocks))
+concat_set [] k block within = absurd (omega (arith, within))
+concat_set (one ∷ blocks) zero block within = refl
+concat_set (one ∷ blocks) (suc k) block within =
+    ap (λ (t : List ℕ). one ++ t) (concat_set blocks k block (omega (arith, within))) ∙ sym (append_assoc one (concat (take k blocks)) (block ++ concat (drop (suc k) blocks)))
+
+next_blocks : (one other : ℕ) (blocks : List (List ℕ)) → other ≡ 10 → AreBlocks one blocks → AreBlocks other blocks
+next_blocks one other [] e are = tt
+next_blocks one other ([] ∷ blocks) e are = absurd are.1
+next_blocks one other ((x ∷ xs) ∷ blocks) e are = (e, are.1, are.2)
+
+blocks_set : (before : ℕ) (blocks : List (List ℕ)) (k : ℕ) (block : List ℕ) → HasOneHead block → ((b : ℕ) → last_byte b block ≡ 10) → AreBlocks before blocks → AreBlocks before (slice_set blocks k block)
+blocks_set before [] k block head ends are = tt
+blocks_set before (one ∷ blocks) zero block head ends are = (are.0, head, next_blocks (last_byte before one) (last_byte before block) blocks (ends before) are.2)
+blocks_set before (one ∷ blocks) (suc k) block head ends are = (are.0, are.1, blocks_set (last_byte before one) blocks k block head ends are.2)
+
+single_ends : (block : List ℕ) → OneBlock block → (b : ℕ) → last_byte b block ≡ 10
+single_ends [] single b = absurd single.cut.each.1
+single_ends (x ∷ xs) single b = single.ends
+
+-- a block in the place of another
+blocks_with : (text : List ℕ) (k : ℕ) (block : List ℕ) → last_byte 10 text ≡ 10 → k < length (held text) → OneBlock (text_at (held text) k) → OneBlock block
+    → source_texts ((preface_of text ++ concat (take k (held text))) ++ (block ++ concat (drop (suc k) (held text)))) ≡ slice_set (held text) k block
+blocks_with text k block last within was single =
+    let blocks = held text in
+    let preface = preface_of text in
+    let same : blocks ≡ source_texts text = not_refused (source_refusal text) (source_texts text) k within in
+    let old = each_has_cut (with_last_newline text) in
+    let at = cut_at text k last within in
+    let front = preface ++ concat (take k blocks) in
+    let back = concat (drop (suc k) blocks) in
+    let other = front ++ (block ++ back) in
+    let ends_with : (b : List ℕ) → last_byte 10 b ≡ 10 → last_byte 10 (front ++ (b ++ back)) ≡ last_byte 10 back =
+    λ b e. last_both 10 front (b ++ back) ∙ ap (λ (n : ℕ). last_byte n (b ++ back)) at.ends ∙ last_both 10 b back ∙ ap (λ (n : ℕ). last_byte n back) e in
+    let back_ends : last_byte 10 back ≡ 10 = sym (ends_with (text_at blocks k) (single_ends (text_at blocks k) was 10)) ∙ ap (last_byte 10) (sym at.whole) ∙ last in
+    let closed : with_last_newline other ≡ other = ended other (ends_with block (single_ends block single 10) ∙ back_ends) in
+    let now : Cut other preface (slice_set blocks k block) = record {
+      whole = append_assoc preface (concat (take k blocks)) (block ++ back) ∙ ap (λ (t : List ℕ). preface ++ t) (sym (concat_set blocks k block within));
+      front = old.front;
+      each = blocks_set (last_byte 10 preface) blocks k block single.cut.each.1 (single_ends block single) (subst (AreBlocks (last_byte 10 preface)) (sym same) old.each);
+    } in
+    let found = each_has_cut other in
+    ap (blocks_from_head 10) closed ∙ (one_cut_law other (front_of 10 other) preface (blocks_from_head 10 other) (slice_set blocks k block) found now).1
+
 -- ---- bytes of a part
 
 bytes_back : (front back : List ℕ) → AreBytes (front ++ back) → AreBytes back
@@ -224,6 +270,10 @@ by_spot heals fit text range fix (Some spot) are last e has =
     let block_bytes : AreBytes block = bytes_front block back (bytes_back front (block ++ back) (subst AreBytes cut.whole are)) in
     let healed = heals blocks at placed.0 placed.1 edit (λ i d w. ((fit text).1 i d w).1) within block_bytes there
     (touched blocks stretch reading placed edit (touches stretch placed.1) one.is) in
+    let applied : EndsAreStarts text (length front) edit.part → client_edited text fix ≡ front ++ (block_after block edit ++ back) =
+    λ starts.
+        subst (λ (f : FixSeen). client_edited text f ≡ front ++ (block_after block edit ++ back)) made.is
+        (applied_on text front block back spot.line edit cut.whole line cut.ends (block_ends block single) healed.1.0 starts) in
     record {
       at = at;
       ordinal = placed.0;
@@ -233,9 +283,8 @@ by_spot heals fit text range fix (Some spot) are last e has =
       before = refl;
       whole = cut.whole;
       heals = healed.0;
-      applied = λ starts.
-          subst (λ (f : FixSeen). client_edited text f ≡ front ++ (block_after block edit ++ back)) made.is
-          (applied_on text front block back spot.line edit cut.whole line cut.ends (block_ends block single) healed.1.0 starts);
+      applied = applied;
+      cut = λ starts. ap source_texts (applied starts) ∙ blocks_with text at (block_after block edit) last within single healed.1.1;
     }
 
 pub fixes_mend : EditsHeal → HeldBlocksFit → FixesHeal

@@ -1,10 +1,10 @@
 -- What a fix makes of the text of a document once the client has made the edit (own; Language
 -- Server Protocol 3.17, "TextEdit" and "Position").
-use Rattle.std.specs.Prelude.{ℕ, ◌≡◌, ◌≢◌, ◌<◌, ◌+◌, All, Contains, List, ◌++◌, length, take, true}
+use Rattle.std.specs.Prelude.{ℕ, ◌≡◌, ◌≢◌, ◌<◌, ◌+◌, All, Contains, List, ◌++◌, length, slice_set, take, true}
 use Rattle.std.specs.List.{concat}
 use Rattle.ti_text.specs.Ascii as ascii
 use Rattle.ti_text.specs.Texts.{AreBytes, last_byte}
-use Rattle.tools_sources.specs.Sources.{preface_of}
+use Rattle.tools_sources.specs.Sources.{preface_of, source_texts}
 use Rattle.lsp_types.specs.declared.places.Range.{Range}
 use Rattle.lsp_spans.specs.declared.parts.Part.{Part}
 use Rattle.lsp_document.specs.Diagnostics.{text_at}
@@ -27,7 +27,8 @@ EndsAreStarts text size part = (is_start 0 text (size + part.start) ≡ true) ×
 -- A fix is of a block of the text, of which an item has a fault or uses a name that no block has:
 -- once the edit is made the item is healed, and all other items of the block are as they were. The
 -- client that makes it at the range of the fix has the block so, and what is before and after the
--- block as it was, if the range begins and ends at starts of characters.
+-- block as it was, and the blocks of the text are those that it had but for this one, if the range
+-- begins and ends at starts of characters.
 pub record IsHealing (text : List ℕ) (fix : FixSeen) : Type 0 where
   pub at : ℕ
   pub ordinal : ℕ
@@ -38,6 +39,7 @@ pub record IsHealing (text : List ℕ) (fix : FixSeen) : Type 0 where
   pub whole : text ≡ front ++ (text_at (held text) at ++ back)
   pub heals : Heals (held text) at (text_at (held text) at) (block_after (text_at (held text) at) edit) ordinal
   pub applied : EndsAreStarts text (length front) edit.part → client_edited text fix ≡ front ++ (block_after (text_at (held text) at) edit ++ back)
+  pub cut : EndsAreStarts text (length front) edit.part → source_texts (client_edited text fix) ≡ slice_set (held text) at (block_after (text_at (held text) at) edit)
 
 -- each fix of a text that ends with a newline is so
 abbrev pub FixesHeal : Type 0
