@@ -35,6 +35,7 @@ use Rattle.lsp_fixes.proofs.Given.{IsGiven, given}
 use Rattle.lsp_fixes.proofs.ItemParts.{item_bytes}
 use Rattle.lsp_fixes.proofs.NamesFit.{each_edit}
 use Rattle.lsp_fixes.proofs.NamesHeal.{names_heal}
+use Rattle.lsp_fixes.proofs.NamesKept.{owner_kept}
 use Rattle.lsp_fixes.proofs.OthersOwn.{others_own}
 use Rattle.lsp_fixes.proofs.SignsHeal.{signs_heal}
 use Rattle.lsp_fixes.proofs.SpellingsHeal.{spellings_heal}
@@ -121,10 +122,12 @@ given_at blocks own (v ∷ vs) edit has =
         let is = given other (filter_passes can_be_given (other_names blocks own) index d within) in
         record { there = refl; given = subst IsGiven (sym is.is_shown) is }) has
 
-by_use : EachIsWellRead → (blocks : List (List ℕ)) (at : ℕ) (block : List ℕ) (ordinal : ℕ) (item : List PlacedByte) (edit : EditSeen) (o : Option (List PlacedByte)) → All OneBlock blocks → OneBlock block
-    → slice_get (items_of (folded_of block)) ordinal ≡ Some item → used_name item ≡ o → Contains (used_edits blocks at o) edit → GetsOwner blocks at block (block_after block edit) ordinal × Stays block edit
-by_use well blocks at block ordinal item edit None all single there is has = absurd (no_edit edit has)
-by_use well blocks at block ordinal item edit (Some name) all single there is has =
+by_use : EachIsWellRead → (blocks : List (List ℕ)) (at ordinal : ℕ) (item : List PlacedByte) (edit : EditSeen) (o : Option (List PlacedByte)) → All OneBlock blocks → OneBlock (text_at blocks at)
+    → slice_get (items_of (folded_of (text_at blocks at))) ordinal ≡ Some item → used_name item ≡ o → Contains (used_edits blocks at o) edit
+    → GetsOwner blocks at (text_at blocks at) (block_after (text_at blocks at) edit) ordinal × Stays (text_at blocks at) edit
+by_use well blocks at ordinal item edit None all single there is has = absurd (no_edit edit has)
+by_use well blocks at ordinal item edit (Some name) all single there is has =
+    let block = text_at blocks at in
     let owned = others_own well blocks at name edit all has in
     elim (cases_Bool (is_none (owner (readings blocks) (bytes name)))) [
       | inr f ↦ absurd (no_edit edit (rw f at has))
@@ -143,6 +146,7 @@ by_use well blocks at block ordinal item edit (Some name) all single there is ha
               uses = mended.uses;
               sound = mended.sound;
               owned = owned.1;
+              leads = owner_kept blocks at (block_after block edit) edit.text mended.changes.head ∙ owned.1;
               apart = owned.2;
             },
             now.1,
@@ -155,5 +159,5 @@ edits_mend sound writes well blocks at ordinal item edit all within are there ha
     let single : OneBlock block = subst OneBlock (sym (text_got blocks at within)) (all at [] within) in
     elim (Contains-append_cases (edits_for item (fault_at block ordinal) (value_at ordinal (reading_of_text block).items)) (used_edits blocks at (used_name item)) edit has) [
       | inl first ↦ let mended = by_code sound writes block ordinal item edit (fault_at block ordinal) single are there refl first in (inl mended.0, mended.1)
-      | inr second ↦ let mended = by_use well blocks at block ordinal item edit (used_name item) all single there refl second in (inr mended.0, mended.1)
+      | inr second ↦ let mended = by_use well blocks at ordinal item edit (used_name item) all single there refl second in (inr mended.0, mended.1)
     ]

@@ -13,6 +13,7 @@ pub mod Listing
 pub mod Marks
 pub mod NamesFit
 pub mod NamesHeal
+pub mod NamesKept
 pub mod OthersOwn
 pub mod Placing
 pub mod Printing

@@ -57,8 +57,8 @@ pub record LosesFault (block after : List ℕ) (ordinal : ℕ) : Type 0 where
   pub changes : OneItemChanges block after ordinal text
   pub mended : IsMended code block after ordinal text
 
--- an item that used a name which no block has uses one of another block (E6), and no other item has
--- changed
+-- an item that used a name which no block has uses one of another block (E6), also once the block
+-- is in its place, and no other item has changed
 pub record GetsOwner (blocks : List (List ℕ)) (at : ℕ) (block after : List ℕ) (ordinal : ℕ) : Type 0 where
   pub name : List ℕ
   pub other : List ℕ
@@ -70,6 +70,7 @@ pub record GetsOwner (blocks : List (List ℕ)) (at : ℕ) (block after : List �
   pub uses : said_at after ordinal ≡ Some (said_import other)
   pub sound : fault_at after ordinal ≡ None
   pub owned : owner (readings blocks) other ≡ Some place
+  pub leads : owner (readings (slice_set blocks at after)) other ≡ Some place
   pub apart : place ≢ at
 
 -- either of these
