@@ -118,9 +118,9 @@ given_at blocks own (v ∷ vs) edit has =
     let part : Part = record { start = v.1; end = end_of (suc v.1) vs } in
     each_edit (IsGivenAt (v ∷ vs)) (bytes (v ∷ vs)) part (given_names blocks own) edit
     (λ index d within.
-        let other = get_or (given_names blocks own) index d in
-        let is = given other (filter_passes can_be_given (other_names blocks own) index d within) in
-        record { there = refl; given = subst IsGiven (sym is.is_shown) is }) has
+    let other = get_or (given_names blocks own) index d in
+    let is = given other (filter_passes can_be_given (other_names blocks own) index d within) in
+    record { there = refl; given = subst IsGiven (sym is.is_shown) is }) has
 
 by_use : EachIsWellRead → (blocks : List (List ℕ)) (at ordinal : ℕ) (item : List PlacedByte) (edit : EditSeen) (o : Option (List PlacedByte)) → All OneBlock blocks → OneBlock (text_at blocks at)
     → slice_get (items_of (folded_of (text_at blocks at))) ordinal ≡ Some item → used_name item ≡ o → Contains (used_edits blocks at o) edit

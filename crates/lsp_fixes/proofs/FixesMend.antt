@@ -272,8 +272,8 @@ by_spot heals fit text range fix (Some spot) are last e has =
     (touched blocks stretch reading placed edit (touches stretch placed.1) one.is) in
     let applied : EndsAreStarts text (length front) edit.part → client_edited text fix ≡ front ++ (block_after block edit ++ back) =
     λ starts.
-        subst (λ (f : FixSeen). client_edited text f ≡ front ++ (block_after block edit ++ back)) made.is
-        (applied_on text front block back spot.line edit cut.whole line cut.ends (block_ends block single) healed.1.0 starts) in
+    subst (λ (f : FixSeen). client_edited text f ≡ front ++ (block_after block edit ++ back)) made.is
+    (applied_on text front block back spot.line edit cut.whole line cut.ends (block_ends block single) healed.1.0 starts) in
     record {
       at = at;
       ordinal = placed.0;

@@ -77,8 +77,8 @@ pub record GetsOwner (blocks : List (List ℕ)) (at : ℕ) (block after : List �
 abbrev pub Heals : (blocks : List (List ℕ)) (at : ℕ) (block after : List ℕ) (ordinal : ℕ) → Type 0
 Heals blocks at block after ordinal = LosesFault block after ordinal ⊎ GetsOwner blocks at block after ordinal
 
--- each edit that is offered for an item of a block is of a part of the block, which stays one block,
--- and heals that item
+-- each edit that is offered for an item of a block is of a part of the block, which stays one
+-- block, and heals that item
 abbrev pub EditsHeal : Type 0
 EditsHeal =
     (blocks : List (List ℕ)) (at ordinal : ℕ) (item : List PlacedByte) (edit : EditSeen) → All OneBlock blocks → at < length blocks → AreBytes (text_at blocks at)
