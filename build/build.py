@@ -24,15 +24,13 @@ import hashlib
 import os
 import re
 import shutil
-import subprocess
 import sys
 from concurrent.futures import FIRST_COMPLETED, ThreadPoolExecutor, wait
 
+import toolchain
 from crates import all_below, direct_needs, files_of, read_crates
 from repository import TOP
 
-# Each command of rt is a file of the toolchain's directory `bin`.
-KIT = os.path.dirname(os.path.dirname(os.path.realpath(shutil.which("rt") or "rt")))
 # The one directory of this crate in which rt expects built libraries and looks for no sources.
 LIBRARIES = f"{TOP}/crates/ti/out/rlib"
 FIRST_BUILD = "the first build proves each crate; README.md says how long that takes"
@@ -67,7 +65,7 @@ def digest_of(crates, name, known):
     What is known already, by name, is not read again, and what is found is added to it.
     """
     if name not in known:
-        made_from = [read(f"{KIT}/WHAT"), repr(crates[name].needs).encode()]
+        made_from = [read(toolchain.IDENTITY), repr(crates[name].needs).encode()]
         for need in direct_needs(crates, name):
             made_from.append(digest_of(crates, need, known).encode())
         for file in files_of(name):
@@ -106,29 +104,12 @@ def is_proved(digests, name):
         return False
 
 
-def run(directory, *words):
-    """Runs a command of the toolchain. Gives whether it ended well, and what it said."""
-    ran = subprocess.run(
-        [f"{KIT}/bin/{words[0]}", *words[1:]], cwd=directory, errors="replace", check=False,
-        stdin=subprocess.DEVNULL, stdout=subprocess.PIPE, stderr=subprocess.STDOUT,
-    )
-    if ran.returncode >= 0:
-        return ran.returncode == 0, ran.stdout
-    why = f"{words[0]} was ended by signal {-ran.returncode}; TI_JOBS=1 takes the least memory\n"
-    return False, ran.stdout + why
-
-
 def prove(crates, name, jobs, root, *more):
-    """Proves a crate, by further words makes something of it. Gives what `run` gives."""
-    words = ["--crate-name", name, f"src/{root}.rt", "--links", f"{name}=", "--jobs", str(jobs)]
-    words += ["--antt-project", f"{KIT}/rattle/logic/antt-project.json"]
-    words += ["--logic-built", f"{KIT}/logic_built"]
-    for need in ["std", *crates[name].needs]:
-        directory = LIBRARIES if need in crates else f"{KIT}/rlibs"
-        words += ["--extern", f"{need}={directory}/{need}.rlib"]
-    for directory in (LIBRARIES, f"{KIT}/rlibs"):
-        words += ["-L", f"dependency={directory}"]
-    return run(f"{TOP}/crates/{name}", "rattle", "build", *words, *more)
+    """Proves a crate, by further words makes something of it. Gives whether that went well, and
+    what was said."""
+    own = direct_needs(crates, name)
+    kept = [need for need in crates[name].needs if need not in own]
+    return toolchain.prove(f"{TOP}/crates/{name}", name, root, own, kept, LIBRARIES, jobs, *more)
 
 
 def prove_marked(crates, digests, name, make):
@@ -144,8 +125,8 @@ def prove_marked(crates, digests, name, make):
 
 def prove_library(crates, digests, name, jobs):
     """Proves a library and stores what it states. Gives whether it is proved, and what was said."""
-    words = ["lib", "--statements", "-o", f"{LIBRARIES}/{name}.rlib"]
-    return prove_marked(crates, digests, name, lambda: prove(crates, name, jobs, *words))
+    words = toolchain.library_words(f"{LIBRARIES}/{name}.rlib")
+    return prove_marked(crates, digests, name, lambda: prove(crates, name, jobs, "lib", *words))
 
 
 def prove_all(crates, digests, libraries, jobs, log):
@@ -184,19 +165,17 @@ def prove_all(crates, digests, libraries, jobs, log):
 def link_program(crates, name, jobs):
     """Proves a program, compiles and links it. Gives whether that went well, and what was said."""
     program = f"{LIBRARIES}/{name}"
-    tools = ["--toolchain", f"{KIT}/toolchain"]
-    proved, said = prove(crates, name, jobs, "main", *tools, "-o", f"{program}.o")
+    proved, said = prove(crates, name, jobs, "main", *toolchain.object_words(f"{program}.o"))
     if not proved:
         return False, said
-    words = ["--target", "x86_64-unknown-linux-gnu", *tools, "-o", program, f"{program}.o"]
-    linked, more = run(TOP, "rattle-link", *words, f"{KIT}/c/libos_c.a", f"{KIT}/c/liblibc_c.a")
+    linked, more = toolchain.link(program, f"{program}.o")
     return linked, said + more
 
 
 def make_archive(crates, name, jobs):
     """Proves a static library and compiles it. Gives whether that went well, and what was said."""
-    words = ["lib", "--crate-type", "staticlib", "--toolchain", f"{KIT}/toolchain"]
-    return prove(crates, name, jobs, *words, "-o", f"{LIBRARIES}/{file_of(crates[name])}")
+    words = toolchain.archive_words(f"{LIBRARIES}/{file_of(crates[name])}")
+    return prove(crates, name, jobs, "lib", *words)
 
 
 def file_of(crate):

@@ -15,7 +15,8 @@ import subprocess
 import sys
 import tempfile
 
-from build import KIT, build_if_changed, place_of, tell
+import toolchain
+from build import build_if_changed, place_of, tell
 from crates import read_crates
 from repository import TOP
 
@@ -35,7 +36,7 @@ def make(archive, directory, flags=(), names=("libti.a", SONAME)):
     with tempfile.TemporaryDirectory() as room:
         run = lambda *words: subprocess.run(words, cwd=room, check=True)
         run(compiler(), *FLAGS, *flags, "-I", f"{TOP}/include", "-c", f"{TOP}/include/ti.c", "-o", "c.o")
-        whole = [os.path.abspath(archive), f"{KIT}/c/liblibc_c.a"]
+        whole = [os.path.abspath(archive), toolchain.C_LIBRARY]
         run("ld", "-r", "-o", "ti.o", "c.o", "--whole-archive", *whole, "--no-whole-archive")
         run("objcopy", "--wildcard", "--keep-global-symbol=ti_*", "ti.o")
         run("ar", "rcsD", "libti.a", "ti.o")
