@@ -1,8 +1,10 @@
 -- Texts that a list of blocks takes, so that an edit of them is refused only if memory runs out.
 use Rattle.std.proofs.Common.{◌≡◌, ℕ, ◌+◌, ◌<◌, ◌≤◌, All, Bor, List, [], ◌∷◌, ◌++◌, drop, get_or, length, map, take, sym, ap, subst, ◌∙◌, arith}
-use Rattle.std.proofs.lemmas.List.{drop-map, drop_more, get_or-map, length-map, length-take-le, take-append-drop, take-map}
+use Rattle.std.proofs.Math.Seq.{get_or-append_seam}
+use Rattle.std.proofs.lemmas.List.{drop-map, drop_more, get_or-map, length-append, length-map, length-take-le, take-append-drop, take-map}
 use Rattle.std.proofs.lemmas.List.Elements.{All-drop, All-take}
-use Rattle.ti_text.specs.Limits.{blocks_max}
+use Rattle.ti_text.specs.Limits.{block_bytes_max, blocks_max}
+use Rattle.ti_source.specs.Cutting.{OneBlock}
 use Rattle.base_meaning.specs.Edits.{Change, EditStep, IsSoundEdit, insertion, removal, replacement}
 use Rattle.base_meaning.specs.declared.edits.EditError.{EditError}
 use Rattle.base_meaning.specs.declared.edits.EditError.TheVariants.{Memory}
@@ -30,6 +32,18 @@ taken_below blocks i taken within =
 pub taken_few : (blocks : List (List ℕ)) → AreTaken blocks → length blocks ≤ blocks_max
 taken_few [] taken = omega arith
 taken_few (block ∷ blocks) taken = omega (arith, taken_below (block ∷ blocks) (length blocks) taken (omega arith))
+
+-- short blocks are taken if they are no more than a list may have
+pub few_taken : (blocks : List (List ℕ)) → All OneBlock blocks → All (λ block. length block ≤ block_bytes_max) blocks → length blocks ≤ blocks_max → AreTaken blocks
+few_taken blocks single short few front block back e =
+    let n = ap length e ∙ length-append front (block ∷ back) in
+    let is : get_or blocks (length front) [] ≡ block = ap (λ (bs : List (List ℕ)). get_or bs (length front) []) e ∙ get_or-append_seam front block back [] in
+    record {
+      in_place = omega arith;
+      short = subst (λ (b : List ℕ). length b ≤ block_bytes_max) is (short (length front) [] (omega (arith, n)));
+      block = subst OneBlock is (single (length front) [] (omega (arith, n)));
+      room = omega (arith, n, few);
+    }
 
 -- so is a part of them
 pub part_short : (texts : List (Bor (List ℕ))) (front n : ℕ) → All IsShortBlock (map text_of texts) → All IsShortBlock (map text_of (take n (drop front texts)))

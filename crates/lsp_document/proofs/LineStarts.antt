@@ -1,6 +1,7 @@
 -- A line begins at the first offset with so many newlines before it.
-use Rattle.std.proofs.Common.{◌≡◌, ℕ, suc, zero, ◌<◌, ◌≤◌, ◌==◌, true, false, List, [], ◌∷◌, take, refl, sym, ap, subst, ◌∙◌, inl, inr, arith}
-use Rattle.std.proofs.lemmas.Bool.{cases_Bool, cases_lt}
+use Rattle.std.proofs.Common.{◌≡◌, ℕ, suc, zero, ◌+◌, ◌<◌, ◌≤◌, ◌==◌, true, false, List, [], ◌∷◌, None, Some, drop, length, take, refl, sym, ap, subst, ◌∙◌, inl, inr, arith}
+use Rattle.std.proofs.lemmas.Bool.{cases_Bool, cases_lt, false_from_ne_true}
+use Rattle.memchr.specs.Find.{IsFirstByte, is_byte}
 use Rattle.ti_text.specs.Lines.{line_count}
 use Rattle.lsp_document.specs.LineStarts.{IsLineStart, LinesAreFound, LinesHaveOneStart, OtherLinesAreTheEnd}
 use Rattle.lsp_document.specs.Position.{line_start}
@@ -46,11 +47,11 @@ after_plain byte bytes line start plain rest = record {
   first = λ earlier before. few_plain byte bytes line start earlier plain rest before;
 }
 
-start-newline : (byte : ℕ) (bytes : List ℕ) (line : ℕ) → (byte == 10) ≡ true → line_start (byte ∷ bytes) (suc line) ≡ suc (line_start bytes line)
+pub start-newline : (byte : ℕ) (bytes : List ℕ) (line : ℕ) → (byte == 10) ≡ true → line_start (byte ∷ bytes) (suc line) ≡ suc (line_start bytes line)
 start-newline byte bytes line newline =
     start_of-later byte bytes (suc line) (omega arith) ∙ ap (λ (k : ℕ). suc (line_start bytes k)) (left_newline byte line newline)
 
-start-plain : (byte : ℕ) (bytes : List ℕ) (line : ℕ) → (byte == 10) ≡ false → line_start (byte ∷ bytes) (suc line) ≡ suc (line_start bytes (suc line))
+pub start-plain : (byte : ℕ) (bytes : List ℕ) (line : ℕ) → (byte == 10) ≡ false → line_start (byte ∷ bytes) (suc line) ≡ suc (line_start bytes (suc line))
 start-plain byte bytes line plain =
     start_of-later byte bytes (suc line) (omega arith) ∙ ap (λ (k : ℕ). suc (line_start bytes k)) (left_plain byte (suc line) plain)
 
@@ -81,3 +82,23 @@ past_lines (byte ∷ bytes) (suc line) past =
           let few : line_count bytes < suc line = omega (arith, past, count_plain byte bytes plain) in
           start-plain byte bytes line plain ∙ ap suc (past_lines bytes (suc line) few)
     ]
+
+-- ---- the next newline
+
+-- after the first newline there is a line less to be passed
+pub start-found : (text : List ℕ) (at line : ℕ) → IsFirstByte (is_byte 10) text (Some at) → line_start text (suc line) ≡ suc at + line_start (drop (suc at) text) line
+start-found [] at line first = absurd (omega (arith, first.0.high))
+start-found (byte ∷ bytes) zero line first = let next = start-newline byte bytes line first.1 in omega (arith, next)
+start-found (byte ∷ bytes) (suc at) line first =
+    let plain : (byte == 10) ≡ false = false_from_ne_true (byte == 10) (λ t. first.0.before 0 (omega arith) (omega arith) t) in
+    let high : at < length bytes = omega (arith, first.0.high) in
+    let rest : line_start bytes (suc line) ≡ suc at + line_start (drop (suc (suc at)) (byte ∷ bytes)) line = start-found bytes at line
+    (record { low = omega arith; high = high; before = λ k low less t. first.0.before (suc k) (omega arith) (omega (arith, less)) t }, first.1) in
+    omega (arith, start-plain byte bytes line plain, rest)
+
+-- without one there is no later line
+pub start-none : (text : List ℕ) (line : ℕ) → IsFirstByte (is_byte 10) text None → line_start text (suc line) ≡ length text
+start-none [] line none = refl
+start-none (byte ∷ bytes) line none =
+    let plain : (byte == 10) ≡ false = false_from_ne_true (byte == 10) (λ t. none 0 (omega arith) (omega arith) t) in
+    start-plain byte bytes line plain ∙ ap suc (start-none bytes line (λ k low less t. none (suc k) (omega arith) (omega (arith, less)) t))

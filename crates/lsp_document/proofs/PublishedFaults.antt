@@ -1,5 +1,5 @@
 -- The diagnostics of a source are the faults of its report.
-use Rattle.std.proofs.Common.{◌≡◌, ℕ, zero, suc, List, [], ◌∷◌, ◌++◌, None, Some, length, map, slice_get, refl, sym, ap, subst, ◌∙◌}
+use Rattle.std.proofs.Common.{◌≡◌, ℕ, zero, suc, List, [], ◌∷◌, ◌++◌, Some, map, slice_get, refl, sym, ap, subst, ◌∙◌}
 use Rattle.std.proofs.lemmas.List.{append_assoc, length-map}
 use Rattle.base_meaning.specs.Faults.{SourceFault, faults}
 use Rattle.base_meaning.specs.Owner.{readings}
@@ -8,7 +8,7 @@ use Rattle.std.specs.Fmt.{decimal}
 use Rattle.ti_source.specs.Code.{code_name, label_of}
 use Rattle.tools_sources.specs.Sources.{first_line, source_texts}
 use Rattle.lsp_document.specs.Advice.{advice}
-use Rattle.lsp_document.specs.Diagnostics.{AreOfFaults, DiagnosticsAreTheFaults, IsOfFault, Shown, diagnostics_unless, fault_diagnostic}
+use Rattle.lsp_document.specs.Diagnostics.{AreOfFaults, DiagnosticsAreTheFaults, IsOfFault, diagnostics_unless, fault_diagnostic}
 
 get-map : {A B : Type 0} (f : A → B) (xs : List A) (at : ℕ) (x : A) → slice_get xs at ≡ Some x → slice_get (map f xs) at ≡ Some (f x)
 get-map f [] at x e = absurd (cc)

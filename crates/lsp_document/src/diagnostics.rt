@@ -6,6 +6,7 @@ ghost use Rattle.base_meaning.specs.Faults.{fault_seen, faults};
 ghost use Rattle.base_meaning.specs.Owner.{readings};
 ghost use Rattle.base_meaning.specs.Report as report;
 ghost use Rattle.base_meaning.specs.Usable.{IsPlaced};
+ghost use Rattle.tools_sources.specs.Sources.{source_refusal};
 ghost use Rattle.lsp_document.specs.Diagnostics as spec;
 ghost use Rattle.lsp_document.specs.Diagnostics.{diagnostic_seen, diagnostics_of, fault_diagnostic, fault_message, text_at};
 ghost use Rattle.lsp_document.specs.Documents.{held};
@@ -18,7 +19,7 @@ use std::alloc::{AllocError, Global};
 use std::rc::RcSlice;
 use ti_base::{Database, Fault, write_detail};
 use ti_source::Code;
-use tools_sources::{SourceError, check, first_line};
+use tools_sources::{SourceError, first_line};
 
 /// What is wrong.
 #[derive(Clone, Copy, Debug, PartialEq, Eq)]
@@ -222,19 +223,21 @@ fn alone(alloc: Global, diagnostic: Diagnostic) -> Result<Vec<Diagnostic>, Alloc
     Ok(all)
 }
 
-/// What is wrong with a source, whose blocks the database holds.
+/// What is wrong with a source, whose blocks the database holds and which is refused for that cause,
+/// if it is.
 pub(crate) fn source_diagnostics(
     alloc: Global,
     text: &[u8],
     database: &Database,
+    refusal: Option<SourceError>,
 ) -> Result<Vec<Diagnostic>, AllocError>
-    requires { database.now ≡ held text.now }
+    requires held { database.now ≡ held text.now }
+    requires refusal { refusal ≡ source_refusal text.now }
     ensures { IfOk result (λ all. map diagnostic_seen all.items ≡ diagnostics_of text.now) }
 {
-    tools_sources::laws::sources_have_one_refusal();
-    match check(text) {
-        Ok(()) => fault_diagnostics(alloc, database, first_line(text)),
-        Err(error) => {
+    match refusal {
+        None => fault_diagnostics(alloc, database, first_line(text)),
+        Some(error) => {
             let diagnostic = refusal_diagnostic(alloc, text, error)?;
             alone(alloc, diagnostic)
         }

@@ -11,11 +11,12 @@ ghost use Rattle.lsp_document.specs.Diagnostics.{diagnostic_seen, diagnostics_of
 use crate::cut::{common_back, common_front};
 use crate::diagnostics::{Diagnostic, source_diagnostics};
 use crate::exchanging::exchange;
+use crate::taking::refusal_of;
 use std::alloc::{AllocError, Global};
 use std::marker::Model;
 use ti_base::{Database, EditError};
 use ti_source::blocks;
-use tools_sources::{check, database_of, is_ended};
+use tools_sources::{SourceError, database_of, is_ended};
 
 // The most blocks that are exchanged one by one; of more the database is loaded anew.
 const EDITS_MAX: usize = 64;
@@ -27,17 +28,20 @@ pub struct Document {
     alloc: Global,
     text: Vec<u8>,
     database: Database,
+    // Why the source is refused, if it is.
+    refusal: Option<SourceError>,
 }
 
 impl Model for Document {
     ghost use Rattle.std.specs.Prelude.{◌≡◌, List, ℕ};
+    ghost use Rattle.tools_sources.specs.Sources.{source_refusal};
     ghost use Rattle.lsp_document.specs.Documents.{held};
 
     ghost Value = { List ℕ };
 
     ghost view = { λ d. d.text.items };
 
-    ghost invariant = { λ d. d.database ≡ held d.text.items };
+    ghost invariant = { λ d. (d.database ≡ held d.text.items) × (d.refusal ≡ source_refusal d.text.items) };
 }
 
 // The texts of the blocks.
@@ -89,52 +93,69 @@ fn load(alloc: Global, ended: &[u8]) -> Result<Database, EditError>
     database_of(alloc, ended)
 }
 
-// Makes the blocks of a database those of a text that is not refused, and gives the number of
-// edits.
-fn exchange_all(alloc: Global, database: &mut Database, ended: &[u8]) -> Result<usize, EditError>
-    requires ended { last_byte ascii.newline ended.now ≡ ascii.newline }
+// What came of a change of a database to the blocks of a text.
+#[derive(Clone, Copy)]
+struct Changed {
+    // The number of edits.
+    edits: usize,
+    // Why the text is refused as a source, if it is.
+    refusal: Option<SourceError>,
+}
+
+// Makes the blocks of a database these texts, those of a source that is not refused, and gives the
+// number of edits.
+fn exchange_all(
+    alloc: Global,
+    database: &mut Database,
+    ended: &[u8],
+    texts: &[&[u8]],
+) -> Result<usize, EditError>
+    requires texts { map (λ text. text.now) texts.now ≡ source_texts ended.now }
     requires taken { AreTaken (source_texts ended.now) }
     ensures held { OnOk result (database.new ≡ source_texts ended.now) }
     ensures edits { IfOk result (Exchanged database.old (source_texts ended.now)) }
     ensures refused { IfErr result (λ error. error ≡ Memory) }
 {
-    let texts = texts_of(alloc, ended)?;
-    let (front, back) = common_ends(alloc, database, &texts)?;
+    let (front, back) = common_ends(alloc, database, texts)?;
     if database.len().max(texts.len()) - front - back > EDITS_MAX {
         *database = load(alloc, ended)?;
         return Ok(0);
     }
-    exchange(database, &texts, front, back)
+    exchange(database, texts, front, back)
 }
 
 // Makes the blocks of a database those of a text whose last line is ended, or none if the source is
-// refused, and gives the number of edits.
-fn change_to(alloc: Global, database: &mut Database, ended: &[u8]) -> Result<usize, EditError>
+// refused.
+fn change_to(alloc: Global, database: &mut Database, ended: &[u8]) -> Result<Changed, EditError>
     requires { last_byte ascii.newline ended.now ≡ ascii.newline }
     ensures held { OnOk result (database.new ≡ held ended.now) }
-    ensures edits { IfOk result (λ edits. source_refusal ended.now ≡ None → Exchanged database.old (source_texts ended.now) edits) }
+    ensures refusal { IfOk result (λ changed. changed.refusal ≡ source_refusal ended.now) }
+    ensures edits { IfOk result (λ changed. source_refusal ended.now ≡ None → Exchanged database.old (source_texts ended.now) changed.edits) }
     ensures refused { IfErr result (λ error. error ≡ Memory) }
 {
-    tools_sources::laws::sources_have_one_refusal();
-    match check(ended) {
-        Ok(()) => exchange_all(alloc, database, ended),
-        Err(_) => {
+    let texts = texts_of(alloc, ended)?;
+    let refusal = refusal_of(ended, &texts);
+    let edits = match refusal {
+        None => exchange_all(alloc, database, ended, &texts)?,
+        Some(_) => {
             *database = Database::new(alloc);
-            Ok(0)
+            0
         }
-    }
+    };
+    Ok(Changed { edits, refusal })
 }
 
-// Makes the blocks of a database those of a text, or none if the source is refused, and gives the
-// number of edits. The text stays as it is.
+// Makes the blocks of a database those of a text, or none if the source is refused. The text stays
+// as it is.
 fn change_to_text(
     alloc: Global,
     database: &mut Database,
     text: &mut Vec<u8>,
-) -> Result<usize, EditError>
+) -> Result<Changed, EditError>
     ensures held { OnOk result (database.new ≡ held text.old.items) }
     ensures text { OnOk result (text.new.items ≡ text.old.items) }
-    ensures edits { IfOk result (λ edits. source_refusal text.old.items ≡ None → Exchanged database.old (source_texts text.old.items) edits) }
+    ensures refusal { IfOk result (λ changed. changed.refusal ≡ source_refusal text.old.items) }
+    ensures edits { IfOk result (λ changed. source_refusal text.old.items ≡ None → Exchanged database.old (source_texts text.old.items) changed.edits) }
     ensures refused { IfErr result (λ error. error ≡ Memory) }
 {
     tools_sources::laws::ended_texts_end();
@@ -144,9 +165,9 @@ fn change_to_text(
     if text.push(b'\n').is_err() {
         return Err(EditError::Memory);
     }
-    let edits = change_to(alloc, database, text)?;
+    let changed = change_to(alloc, database, text)?;
     text.pop();
-    Ok(edits)
+    Ok(changed)
 }
 
 // That memory ran out, when there is no other cause.
@@ -168,6 +189,7 @@ impl Document {
             alloc,
             text: Vec::new(alloc),
             database: Database::new(alloc),
+            refusal: None,
         }
     }
 
@@ -195,13 +217,15 @@ impl Document {
     {
         let mut text = text;
         match change_to_text(self.alloc, &mut self.database, &mut text) {
-            Ok(edits) => {
+            Ok(changed) => {
                 self.text = text;
-                Ok(edits)
+                self.refusal = changed.refusal;
+                Ok(changed.edits)
             }
             Err(error) => {
                 self.text = Vec::new(self.alloc);
                 self.database = Database::new(self.alloc);
+                self.refusal = None;
                 Err(out_of_memory(error))
             }
         }
@@ -229,7 +253,7 @@ impl Document {
     pub fn diagnostics(&self, alloc: Global) -> Result<Vec<Diagnostic>, AllocError>
         ensures { IfOk result (λ all. map diagnostic_seen all.items ≡ diagnostics_of self.now) }
     {
-        source_diagnostics(alloc, self.text.as_slice(), &self.database)
+        source_diagnostics(alloc, &self.text, &self.database, self.refusal)
     }
 }
 

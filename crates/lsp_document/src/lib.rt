@@ -5,6 +5,7 @@
 //! - `splicing`: a text with a part of it exchanged
 //! - `lines`: a line of a text, what of it is shown as faulty, and laws of lines and columns
 //! - `cut`: what two lists of blocks have in common at their ends
+//! - `taking`: whether the blocks of a source are taken, once they are cut
 //! - `exchanging`: the edits that make the blocks of one text those of another
 //! - `document`: a text with a database of its blocks
 //! - `advice`: what each fault means, and what to do about it
@@ -20,6 +21,7 @@ pub mod laws;
 mod lines;
 mod position;
 mod splicing;
+mod taking;
 
 pub use diagnostics::{Diagnostic, Problem, shown_detail};
 pub use document::Document;

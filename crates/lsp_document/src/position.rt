@@ -4,6 +4,7 @@ ghost use Rattle.std.specs.Prelude.{◌≡◌, ◌+◌, ◌*◌, ◌^◌, ◌<�
 ghost use Rattle.lsp_document.specs.Position as spec;
 
 use lsp_types::Position;
+use memchr::memchr;
 
 // The UTF-16 units of the character that begins with the byte; none for a byte within a character.
 pub(crate) fn units(byte: u8) -> usize
@@ -28,31 +29,20 @@ pub(crate) fn ends_line(text: &[u8]) -> bool
     matches!(text, [] | [b'\n', ..] | [b'\r', b'\n', ..])
 }
 
-// How many newlines are still to be passed after the byte.
-fn lines_left(left: usize, byte: u8) -> usize
-    ensures { result ≡ spec.lines_left left byte }
-{
-    if byte == b'\n' {
-        left.saturating_sub(1)
-    } else {
-        left
-    }
-}
-
 /// The offset at which the line of that number begins; the length of the text if it has no such
 /// line.
 pub(crate) fn line_start(text: &[u8], line: usize) -> usize
     ensures start { result ≡ spec.line_start text.now line }
     ensures within { result ≤ length text.now }
 {
-    let mut left = line;
-    for (at, byte) in text.iter().enumerate() {
-        if left == 0 {
-            return at;
+    let mut start = 0;
+    for _passed in 0..line {
+        match memchr(b'\n', &text[start..]) {
+            Some(at) => start += at + 1,
+            None => return text.len(),
         }
-        left = lines_left(left, *byte);
     }
-    text.len()
+    start
 }
 
 // The offset in a line, from its start, of a column; that of its end if it is past it.

@@ -21,7 +21,7 @@ fn with_part(
     ensures { IfOk result (λ all. all.items ≡ with_part text.now start end new.now) }
 {
     let back = start.max(end).min(text.len());
-    let mut all = Vec::new(alloc);
+    let mut all = Vec::with_capacity(alloc, start + new.len() + (text.len() - back))?;
     all.extend_from_slice(&text[..start])?;
     all.extend_from_slice(new)?;
     all.extend_from_slice(&text[back..])?;
@@ -58,9 +58,14 @@ pub fn edited<D: HeldText>(
 ) -> Result<Vec<u8>, AllocError>
     ensures { IfOk result (λ all. all.items ≡ edited D.place_in text.now (map edit_view changes.now)) }
 {
-    let mut all = Vec::from_slice(alloc, text)?;
-    for change in changes {
-        all = with_range::<D>(alloc, &all, change.range, change.text.as_bytes())?;
+    match changes.split_first() {
+        None => Vec::from_slice(alloc, text),
+        Some((first, others)) => {
+            let mut all = with_range::<D>(alloc, text, first.range, first.text.as_bytes())?;
+            for change in others {
+                all = with_range::<D>(alloc, &all, change.range, change.text.as_bytes())?;
+            }
+            Ok(all)
+        }
     }
-    Ok(all)
 }

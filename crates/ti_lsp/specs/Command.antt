@@ -1,16 +1,23 @@
 -- The command line that the program takes, as what clap reads of it (ti-lsp(1)), and what it asks
 -- for.
-use Rattle.std.specs.Prelude.{◌≡◌, ◌≢◌, ◌⊎◌, [], codes, true}
+use Rattle.std.specs.Prelude.{◌≡◌, ◌≢◌, ◌⊎◌, [], Some, codes, true}
 use Rattle.clap.specs.Kinds.{IsAmong, Kinds}
-use Rattle.clap.specs.Simple.{App, new_app, on_top}
+use Rattle.clap.specs.Simple.{App, new_app, new_rule, on_top, with_rule}
+use Rattle.clap.specs.Walk.{Rule}
+use Rattle.clap.specs.declared.builder.action.ArgAction.TheVariants.{SetTrue}
 use Rattle.clap.specs.declared.error.ErrorKind.{ErrorKind}
 use Rattle.clap.specs.declared.error.ErrorKind.TheVariants.{DisplayHelp, DisplayVersion}
 use Rattle.ti_lsp.specs.declared.command.Task.{Task}
 use Rattle.ti_lsp.specs.declared.command.Task.TheVariants.{Serve, Text, Refusal}
 
--- `ti-lsp`, with `--help` and `--version` and no words
+-- the option `--stdio`, by which clients say how they speak (LSP 3.17, "Implementation
+-- Considerations")
+abbrev pub stdio_rule : Rule
+stdio_rule = record (new_rule (codes "stdio")) { long = Some (codes "stdio"); action = Some SetTrue }
+
+-- `ti-lsp [--stdio]`, with `--help` and `--version`
 abbrev pub lsp_app : App
-lsp_app = on_top (λ top. record top { has_version = true }) (new_app (codes "ti-lsp"))
+lsp_app = with_rule (on_top (λ top. record top { has_version = true }) (new_app (codes "ti-lsp"))) stdio_rule
 
 -- clap answers with a text: it was asked for the help or the version
 abbrev pub AsksForText : ErrorKind → Type 0

@@ -1,13 +1,13 @@
 //! The command line of the program, by clap.
-ghost use Rattle.std.specs.Prelude.{◌≡◌, ◌≢◌, IfOk, map, true};
+ghost use Rattle.std.specs.Prelude.{◌≡◌, ◌≢◌, IfOk, false, map, true};
 ghost use Rattle.std.specs.String.{string_bytes};
 ghost use Rattle.clap.specs.Takes.{takes};
-ghost use Rattle.clap.specs.Words.{app_of, fault_of, kind_of};
-ghost use Rattle.ti_lsp.specs.Command.{lsp_app, IsAskedBy, IsSaidOf};
+ghost use Rattle.clap.specs.Words.{app_of, fault_of, kind_of, rule_of};
+ghost use Rattle.ti_lsp.specs.Command.{lsp_app, stdio_rule, IsAskedBy, IsSaidOf};
 ghost use Rattle.ti_lsp.specs.declared.command.Task.TheVariants.{Serve};
 
-use clap::Command;
 use clap::error::ErrorKind;
+use clap::{Arg, ArgAction, Command};
 use lsp_server::VERSION;
 use std::alloc::{AllocError, Global};
 
@@ -36,14 +36,26 @@ pub enum Task {
     Refusal(String),
 }
 
+// The option with which clients name the way to speak with a server; there is no other way.
+fn stdio<'a>(alloc: Global) -> Arg<'a>
+    ensures rule { rule_of result ≡ stdio_rule }
+    ensures local { result.global ≡ false }
+{
+    Arg::new(alloc, "stdio")
+        .long("stdio")
+        .action(ArgAction::SetTrue)
+        .help("Speak over standard input and output, as without this option")
+}
+
 // The program's command line.
-fn command<'a>(alloc: Global) -> Command<'a>
-    ensures { app_of result ≡ lsp_app }
+fn command<'a>(alloc: Global) -> Result<Command<'a>, AllocError>
+    ensures { IfOk result (λ command. app_of command ≡ lsp_app) }
 {
     Command::new(alloc, "ti-lsp")
         .version(VERSION)
         .about(ABOUT)
         .after_help(NOTES)
+        .arg(stdio(alloc))
 }
 
 // What clap says of words that it does not take.
@@ -68,7 +80,7 @@ pub fn asked(alloc: Global, words: &[String]) -> Result<Task, AllocError>
     ensures asked { IfOk result (IsAskedBy (fault_of lsp_app (map string_bytes words.now))) }
     ensures served { IfOk result (λ task. takes lsp_app (map string_bytes words.now) ≡ true → task ≡ Serve) }
 {
-    match command(alloc).try_get_matches_from(words) {
+    match command(alloc)?.try_get_matches_from(words) {
         Ok(_) => Ok(Task::Serve),
         Err(error) => said(alloc, &error),
     }

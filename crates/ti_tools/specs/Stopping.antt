@@ -67,20 +67,18 @@ plain_text Memory = codes "out of memory"
 abbrev pub is_known : List ℕ → Bool
 is_known name = is_some (capability_named name) || bytes_eq name (codes "init") || bytes_eq name (codes "reset")
 
--- the parts of a line: the name of the tool, the bytes before a name, the name, the bytes after it,
--- a detail, and the end
-abbrev pub line_parts : List ℕ → List ℕ → List ℕ → List ℕ → List ℕ → List ℕ → List (List ℕ)
-line_parts tool head subject link detail end = tool ∷ head ∷ subject ∷ link ∷ detail ∷ end ∷ []
+-- the bytes before a capability that is unknown, or whose string is bad
+abbrev pub capability_head : List ℕ → List ℕ
+capability_head name = if is_known name then codes ": bad string \"" else codes ": unknown terminfo capability \""
 
 -- The line, in parts: the name of the tool, and the fault; if there is none, the capability of that
 -- name is unknown or its string is bad.
 abbrev pub message_parts : List ℕ → List ℕ → Option ToolError → List (List ℕ)
-message_parts tool name None =
-    line_parts tool (if is_known name then codes ": bad string \"" else codes ": unknown terminfo capability \"") name [] [] (codes "\"\n")
-message_parts tool name (Some NoTerminal) = line_parts tool (codes ": unknown terminal \"") name [] [] (codes "\"\n")
-message_parts tool name (Some (BadEntry why)) = line_parts tool (codes ": bad entry \"") name (codes "\" (") (refusal_name why) (codes ")\n")
-message_parts tool name (Some (BlockTooLong line)) = line_parts tool (codes ": ") [] (codes "block too long at line ") (decimal line) (codes "\n")
-message_parts tool name (Some error) = line_parts tool (codes ": ") [] [] (plain_text error) (codes "\n")
+message_parts tool name None = tool ∷ capability_head name ∷ name ∷ codes "\"\n" ∷ []
+message_parts tool name (Some NoTerminal) = tool ∷ codes ": unknown terminal \"" ∷ name ∷ codes "\"\n" ∷ []
+message_parts tool name (Some (BadEntry why)) = tool ∷ codes ": bad entry \"" ∷ name ∷ codes "\" (" ∷ refusal_name why ∷ codes ")\n" ∷ []
+message_parts tool name (Some (BlockTooLong line)) = tool ∷ codes ": block too long at line " ∷ decimal line ∷ codes "\n" ∷ []
+message_parts tool name (Some error) = tool ∷ codes ": " ∷ plain_text error ∷ codes "\n" ∷ []
 
 -- the line with its newline
 abbrev pub message_text : Job → List ℕ → Option ToolError → List ℕ

@@ -3,9 +3,8 @@ ghost use Rattle.std.specs.Prelude.{◌≡◌, [], None, Some, codes, decimal, m
 ghost use Rattle.std.specs.List.{concat};
 ghost use Rattle.tools_devices.specs.Counted.{observation};
 ghost use Rattle.tools_devices.specs.Writing.{Wrote};
-ghost use Rattle.tools_commands.specs.Jobs.{tool_name};
 ghost use Rattle.ti_tools.specs.Stopping.{plain_status, status_of, tput_status};
-ghost use Rattle.ti_tools.specs.Stopping.{is_known, line_parts, message_parts, message_text, plain_text, refusal_name};
+ghost use Rattle.ti_tools.specs.Stopping.{capability_head, is_known, message_parts, message_text, plain_text, refusal_name};
 
 use itoa::Buffer;
 use std::io::Write;
@@ -46,13 +45,6 @@ pub fn status(job: &Job, error: &ToolError, found: bool) -> u8
         Job::Tput { .. } => tput_status(error, found),
         Job::Tic { .. } | Job::Session | Job::Infocmp { .. } => plain_status(error),
     }
-}
-
-// The name of the tool of a job.
-fn tool_name(job: &Job) -> &'static [u8]
-    ensures { result.now ≡ tool_name job.now }
-{
-    job.tool_name().as_bytes()
 }
 
 // The name of the refusal of an entry.
@@ -105,126 +97,15 @@ fn write_parts<W: Write>(writer: &mut Counted<W>, parts: &[&[u8]]) -> Result<(),
     Ok(())
 }
 
-// A line that begins with the name of a tool.
-#[derive(Clone, Copy)]
-struct Line<'a> {
-    tool: &'a [u8],
-    head: &'a [u8],
-    subject: &'a [u8],
-    link: &'a [u8],
-    detail: &'a [u8],
-    end: &'a [u8],
-}
-
-// Writes a line.
-fn write_line<W: Write>(writer: &mut Counted<W>, line: Line<'_>) -> Result<(), ToolError>
-    ensures { Wrote (observation W.contents writer.old) (observation W.contents writer.new)
-        (concat (line_parts line.entry.tool.now line.entry.head.now line.entry.subject.now
-        line.entry.link.now line.entry.detail.now line.entry.end.now)) result }
+// The bytes before a capability that is unknown, or whose string is bad.
+fn capability_head(name: &[u8]) -> &'static [u8]
+    ensures { result.now ≡ capability_head name.now }
 {
-    write_parts(
-        writer,
-        &[
-            line.tool,
-            line.head,
-            line.subject,
-            line.link,
-            line.detail,
-            line.end,
-        ],
-    )
-}
-
-// The line of a fault that has no name or number.
-fn write_plain<W: Write>(
-    writer: &mut Counted<W>,
-    tool: &[u8],
-    error: &ToolError,
-) -> Result<(), ToolError>
-    ensures { Wrote (observation W.contents writer.old) (observation W.contents writer.new)
-        (concat (line_parts tool.now (codes ": ") [] [] (plain_text error.now) (codes "\n"))) result }
-{
-    write_line(
-        writer,
-        Line {
-            tool,
-            head: b": ",
-            subject: b"",
-            link: b"",
-            detail: plain_text(error),
-            end: b"\n",
-        },
-    )
-}
-
-// The line on a name.
-fn write_named<W: Write>(
-    writer: &mut Counted<W>,
-    tool: &[u8],
-    head: &[u8],
-    name: &[u8],
-) -> Result<(), ToolError>
-    ensures { Wrote (observation W.contents writer.old) (observation W.contents writer.new)
-        (concat (line_parts tool.now head.now name.now [] [] (codes "\"\n"))) result }
-{
-    write_line(
-        writer,
-        Line {
-            tool,
-            head,
-            subject: name,
-            link: b"",
-            detail: b"",
-            end: b"\"\n",
-        },
-    )
-}
-
-// The line on a bad entry.
-fn write_refusal<W: Write>(
-    writer: &mut Counted<W>,
-    tool: &[u8],
-    name: &[u8],
-    why: ReadError,
-) -> Result<(), ToolError>
-    ensures { Wrote (observation W.contents writer.old) (observation W.contents writer.new)
-        (concat (line_parts tool.now (codes ": bad entry \"") name.now (codes "\" (") (refusal_name why) (codes ")\n"))) result }
-{
-    write_line(
-        writer,
-        Line {
-            tool,
-            head: b": bad entry \"",
-            subject: name,
-            link: b"\" (",
-            detail: refusal_name(why),
-            end: b")\n",
-        },
-    )
-}
-
-// The line on a block that is too long.
-fn write_block<W: Write>(
-    writer: &mut Counted<W>,
-    tool: &[u8],
-    number: usize,
-) -> Result<(), ToolError>
-    ensures { Wrote (observation W.contents writer.old) (observation W.contents writer.new)
-        (concat (line_parts tool.now (codes ": ") [] (codes "block too long at line ") (decimal number) (codes "\n"))) result }
-{
-    let mut buffer = Buffer::new();
-    let detail = buffer.format(number).as_bytes();
-    write_line(
-        writer,
-        Line {
-            tool,
-            head: b": ",
-            subject: b"",
-            link: b"block too long at line ",
-            detail,
-            end: b"\n",
-        },
-    )
+    if is_known(name) {
+        b": bad string \""
+    } else {
+        b": unknown terminfo capability \""
+    }
 }
 
 // The line on a fault.
@@ -238,31 +119,25 @@ fn write_fault<W: Write>(
         (concat (message_parts tool.now name.now (Some error.now))) result }
 {
     match error {
-        ToolError::NoTerminal => write_named(writer, tool, b": unknown terminal \"", name),
-        ToolError::BadEntry(why) => write_refusal(writer, tool, name, *why),
-        ToolError::BlockTooLong(number) => write_block(writer, tool, *number),
+        ToolError::NoTerminal => {
+            write_parts(writer, &[tool, b": unknown terminal \"", name, b"\"\n"])
+        }
+        ToolError::BadEntry(why) => {
+            let why = refusal_name(*why);
+            write_parts(writer, &[tool, b": bad entry \"", name, b"\" (", why, b")\n"])
+        }
+        ToolError::BlockTooLong(line) => {
+            let mut digits = Buffer::new();
+            let line = digits.format(*line).as_bytes();
+            write_parts(writer, &[tool, b": block too long at line ", line, b"\n"])
+        }
         ToolError::Usage
         | ToolError::ReadFault
         | ToolError::WriteFault
         | ToolError::LineTooLong
         | ToolError::TooManyBlocks
-        | ToolError::Memory => write_plain(writer, tool, error),
+        | ToolError::Memory => write_parts(writer, &[tool, b": ", plain_text(error), b"\n"]),
     }
-}
-
-// The line on a capability that is unknown, or whose string is bad.
-fn write_capability<W: Write>(
-    writer: &mut Counted<W>,
-    tool: &[u8],
-    name: &[u8],
-) -> Result<(), ToolError>
-    ensures { Wrote (observation W.contents writer.old) (observation W.contents writer.new)
-        (concat (message_parts tool.now name.now None)) result }
-{
-    if is_known(name) {
-        return write_named(writer, tool, b": bad string \"", name);
-    }
-    write_named(writer, tool, b": unknown terminfo capability \"", name)
 }
 
 /// Writes the line for standard error on which a tool that stops says why: the name of the tool,
@@ -280,9 +155,10 @@ pub fn message<W: Write>(
     ensures { Wrote (observation W.contents writer.old) (observation W.contents writer.new)
         (message_text job.now name.now (option_map (λ e. e.now) error.entry)) result }
 {
-    let tool = tool_name(job);
+    let tool = job.tool_name().as_bytes();
+    let name = name.as_bytes();
     match error {
-        None => write_capability(writer, tool, name.as_bytes()),
-        Some(error) => write_fault(writer, tool, name.as_bytes(), error),
+        None => write_parts(writer, &[tool, capability_head(name), name, b"\"\n"]),
+        Some(error) => write_fault(writer, tool, name, error),
     }
 }
