@@ -47,6 +47,21 @@ fn with_range<D: HeldText>(
     }
 }
 
+// A text after changes, in order.
+fn edited_by<D: HeldText>(
+    alloc: Global,
+    text: Vec<u8>,
+    changes: &[Change<'_>],
+) -> Result<Vec<u8>, AllocError>
+    ensures { IfOk result (λ all. all.items ≡ edited D.place_in text.items (map edit_view changes.now)) }
+{
+    let mut all = text;
+    for change in changes {
+        all = with_range::<D>(alloc, &all, change.range, change.text.as_bytes())?;
+    }
+    Ok(all)
+}
+
 /// A text after changes, in order: each is one of the text that the ones before made.
 ///
 /// # Errors
@@ -61,11 +76,8 @@ pub fn edited<D: HeldText>(
     match changes.split_first() {
         None => Vec::from_slice(alloc, text),
         Some((first, others)) => {
-            let mut all = with_range::<D>(alloc, text, first.range, first.text.as_bytes())?;
-            for change in others {
-                all = with_range::<D>(alloc, &all, change.range, change.text.as_bytes())?;
-            }
-            Ok(all)
+            let made = with_range::<D>(alloc, text, first.range, first.text.as_bytes())?;
+            edited_by::<D>(alloc, made, others)
         }
     }
 }
