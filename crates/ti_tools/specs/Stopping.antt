@@ -40,16 +40,16 @@ status_of (Infocmp mode names layout first_dir other_dir) error found = plain_st
 
 -- ---- the line on standard error
 
--- the name of the refusal of an entry
-abbrev pub refusal_name : ReadError → List ℕ
-refusal_name Short = codes "Short"
-refusal_name Magic = codes "Magic"
-refusal_name Counts = codes "Counts"
-refusal_name Truncated = codes "Truncated"
-refusal_name BadNames = codes "BadNames"
-refusal_name BadFlag = codes "BadFlag"
-refusal_name BadNumber = codes "BadNumber"
-refusal_name BadOffset = codes "BadOffset"
+-- what is said after the name of a terminal whose entry is refused
+abbrev pub refusal_end : ReadError → List ℕ
+refusal_end Short = codes "\" (Short)\n"
+refusal_end Magic = codes "\" (Magic)\n"
+refusal_end Counts = codes "\" (Counts)\n"
+refusal_end Truncated = codes "\" (Truncated)\n"
+refusal_end BadNames = codes "\" (BadNames)\n"
+refusal_end BadFlag = codes "\" (BadFlag)\n"
+refusal_end BadNumber = codes "\" (BadNumber)\n"
+refusal_end BadOffset = codes "\" (BadOffset)\n"
 
 -- what a fault without a name or number is called
 abbrev pub plain_text : ToolError → List ℕ
@@ -71,14 +71,18 @@ is_known name = is_some (capability_named name) || bytes_eq name (codes "init") 
 abbrev pub capability_head : List ℕ → List ℕ
 capability_head name = if is_known name then codes ": bad string \"" else codes ": unknown terminfo capability \""
 
--- The line, in parts: the name of the tool, and the fault; if there is none, the capability of that
--- name is unknown or its string is bad.
+-- the parts of a line: the name of the tool, what is wrong, what it is about, and the end
+abbrev pub line_parts : List ℕ → List ℕ → List ℕ → List ℕ → List (List ℕ)
+line_parts tool wrong subject end = tool ∷ wrong ∷ subject ∷ end ∷ []
+
+-- The line of a fault; if there is none, the capability of that name is unknown or its string is
+-- bad.
 abbrev pub message_parts : List ℕ → List ℕ → Option ToolError → List (List ℕ)
-message_parts tool name None = tool ∷ capability_head name ∷ name ∷ codes "\"\n" ∷ []
-message_parts tool name (Some NoTerminal) = tool ∷ codes ": unknown terminal \"" ∷ name ∷ codes "\"\n" ∷ []
-message_parts tool name (Some (BadEntry why)) = tool ∷ codes ": bad entry \"" ∷ name ∷ codes "\" (" ∷ refusal_name why ∷ codes ")\n" ∷ []
-message_parts tool name (Some (BlockTooLong line)) = tool ∷ codes ": block too long at line " ∷ decimal line ∷ codes "\n" ∷ []
-message_parts tool name (Some error) = tool ∷ codes ": " ∷ plain_text error ∷ codes "\n" ∷ []
+message_parts tool name None = line_parts tool (capability_head name) name (codes "\"\n")
+message_parts tool name (Some NoTerminal) = line_parts tool (codes ": unknown terminal \"") name (codes "\"\n")
+message_parts tool name (Some (BadEntry why)) = line_parts tool (codes ": bad entry \"") name (refusal_end why)
+message_parts tool name (Some (BlockTooLong line)) = line_parts tool (codes ": block too long at line ") (decimal line) (codes "\n")
+message_parts tool name (Some error) = line_parts tool (codes ": ") (plain_text error) (codes "\n")
 
 -- the line with its newline
 abbrev pub message_text : Job → List ℕ → Option ToolError → List ℕ

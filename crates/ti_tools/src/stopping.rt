@@ -4,7 +4,7 @@ ghost use Rattle.std.specs.List.{concat};
 ghost use Rattle.tools_devices.specs.Counted.{observation};
 ghost use Rattle.tools_devices.specs.Writing.{Wrote};
 ghost use Rattle.ti_tools.specs.Stopping.{plain_status, status_of, tput_status};
-ghost use Rattle.ti_tools.specs.Stopping.{capability_head, is_known, message_parts, message_text, plain_text, refusal_name};
+ghost use Rattle.ti_tools.specs.Stopping.{capability_head, is_known, line_parts, message_parts, message_text, plain_text, refusal_end};
 
 use itoa::Buffer;
 use std::io::Write;
@@ -47,19 +47,19 @@ pub fn status(job: &Job, error: &ToolError, found: bool) -> u8
     }
 }
 
-// The name of the refusal of an entry.
-fn refusal_name(error: ReadError) -> &'static [u8]
-    ensures { result.now ≡ refusal_name error }
+// What is said after the name of a terminal whose entry is refused.
+fn refusal_end(error: ReadError) -> &'static [u8]
+    ensures { result.now ≡ refusal_end error }
 {
     match error {
-        ReadError::Short => b"Short",
-        ReadError::Magic => b"Magic",
-        ReadError::Counts => b"Counts",
-        ReadError::Truncated => b"Truncated",
-        ReadError::BadNames => b"BadNames",
-        ReadError::BadFlag => b"BadFlag",
-        ReadError::BadNumber => b"BadNumber",
-        ReadError::BadOffset => b"BadOffset",
+        ReadError::Short => b"\" (Short)\n",
+        ReadError::Magic => b"\" (Magic)\n",
+        ReadError::Counts => b"\" (Counts)\n",
+        ReadError::Truncated => b"\" (Truncated)\n",
+        ReadError::BadNames => b"\" (BadNames)\n",
+        ReadError::BadFlag => b"\" (BadFlag)\n",
+        ReadError::BadNumber => b"\" (BadNumber)\n",
+        ReadError::BadOffset => b"\" (BadOffset)\n",
     }
 }
 
@@ -108,6 +108,30 @@ fn capability_head(name: &[u8]) -> &'static [u8]
     }
 }
 
+// Writes a line: the name of the tool, what is wrong, what it is about, and the end.
+fn write_line<'a, W: Write>(
+    writer: &mut Counted<W>,
+    tool: &'a [u8],
+    wrong: &'a [u8],
+    subject: &'a [u8],
+    end: &'a [u8],
+) -> Result<(), ToolError>
+    ensures { Wrote (observation W.contents writer.old) (observation W.contents writer.new)
+        (concat (line_parts tool.entry.now wrong.entry.now subject.entry.now end.entry.now)) result }
+{
+    write_parts(writer, &[tool, wrong, subject, end])
+}
+
+// Writes the line on a block that is too long.
+fn write_block<W: Write>(writer: &mut Counted<W>, tool: &[u8], line: usize) -> Result<(), ToolError>
+    ensures { Wrote (observation W.contents writer.old) (observation W.contents writer.new)
+        (concat (line_parts tool.now (codes ": block too long at line ") (decimal line) (codes "\n"))) result }
+{
+    let mut buffer = Buffer::new();
+    let digits = buffer.format(line).as_bytes();
+    write_line(writer, tool, b": block too long at line ", digits, b"\n")
+}
+
 // The line on a fault.
 fn write_fault<W: Write>(
     writer: &mut Counted<W>,
@@ -119,24 +143,17 @@ fn write_fault<W: Write>(
         (concat (message_parts tool.now name.now (Some error.now))) result }
 {
     match error {
-        ToolError::NoTerminal => {
-            write_parts(writer, &[tool, b": unknown terminal \"", name, b"\"\n"])
-        }
+        ToolError::NoTerminal => write_line(writer, tool, b": unknown terminal \"", name, b"\"\n"),
         ToolError::BadEntry(why) => {
-            let why = refusal_name(*why);
-            write_parts(writer, &[tool, b": bad entry \"", name, b"\" (", why, b")\n"])
+            write_line(writer, tool, b": bad entry \"", name, refusal_end(*why))
         }
-        ToolError::BlockTooLong(line) => {
-            let mut digits = Buffer::new();
-            let line = digits.format(*line).as_bytes();
-            write_parts(writer, &[tool, b": block too long at line ", line, b"\n"])
-        }
+        ToolError::BlockTooLong(line) => write_block(writer, tool, *line),
         ToolError::Usage
         | ToolError::ReadFault
         | ToolError::WriteFault
         | ToolError::LineTooLong
         | ToolError::TooManyBlocks
-        | ToolError::Memory => write_parts(writer, &[tool, b": ", plain_text(error), b"\n"]),
+        | ToolError::Memory => write_line(writer, tool, b": ", plain_text(error), b"\n"),
     }
 }
 
@@ -158,7 +175,7 @@ pub fn message<W: Write>(
     let tool = job.tool_name().as_bytes();
     let name = name.as_bytes();
     match error {
-        None => write_parts(writer, &[tool, capability_head(name), name, b"\"\n"]),
+        None => write_line(writer, tool, capability_head(name), name, b"\"\n"),
         Some(error) => write_fault(writer, tool, name, error),
     }
 }
