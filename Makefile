@@ -11,14 +11,17 @@
 ##   make hostile    malicious inputs of full size, and 20,000 made at random
 ##   make wrong-bodies   the further wrong bodies, which the prover must refuse too
 ##   make library    builds the C library: libti.a, libti.so.1 and ti.pc
+##   make tinfo      builds the C library and libtinfo.so.6 over it, for programs that
+##                   are built for ncurses's
 ##   make lsp        builds the language server, ti-lsp
 ##   make bench      times and counts the tools and ncurses's on the same work, and edits of lists
 ##   make install    puts the program, its pages, completions and examples below
 ##                   DESTDIR and PREFIX (which is /usr/local); with TOOLS=1 also
-##                   ti-tic, ti-infocmp and ti-tput; the C library and the language server
-##                   too, if they are made
+##                   ti-tic, ti-infocmp and ti-tput; the C library, libtinfo.so.6 and the
+##                   language server too, if they are made
 ##   make install-library   the C library alone, with its header and page, into
 ##                   LIBDIR and INCLUDEDIR
+##   make install-tinfo     libtinfo.so.6 alone, into LIBDIR/ti, with ti-run and its page
 ##   make uninstall  takes all of that away again
 ##   make dist       makes ti-VERSION.tar.gz of the last commit, which builds
 ##   make deb        makes Debian packages of the built programs, in packages/
@@ -45,10 +48,15 @@ TOOL_NAMES = ti-tic ti-infocmp ti-tput
 LIBRARY = crates/ti_c/out/lib
 LIBRARY_FILES = $(INCLUDEDIR)/ti.h $(LIBDIR)/libti.a $(LIBDIR)/libti.so.1 $(LIBDIR)/libti.so \
 	$(LIBDIR)/pkgconfig/ti.pc $(MANDIR)/man3/ti.3
+# not where the loader looks by itself: the system's libtinfo.so.6 stays the one that is found
+TINFODIR = $(LIBDIR)/ti
+TINFO = $(LIBRARY)/ti/libtinfo.so.6
+TINFO_FILES = $(TINFODIR)/libtinfo.so.6 $(BINDIR)/ti-run $(MANDIR)/man1/ti-run.1
 PC_VALUES = -e 's|@PREFIX@|$(PREFIX)|' -e 's|@LIBDIR@|$(LIBDIR)|' -e 's|@INCLUDEDIR@|$(INCLUDEDIR)|'
 
-.PHONY: all help check test cli integration package hostile wrong-bodies library lsp bench
-.PHONY: install install-library uninstall uninstall-library dist deb release reproduce
+.PHONY: all help check test cli integration package hostile wrong-bodies library tinfo lsp bench
+.PHONY: install install-library install-tinfo uninstall uninstall-library uninstall-tinfo
+.PHONY: dist deb release reproduce
 
 all:
 	./ti --help >/dev/null
@@ -82,6 +90,9 @@ library:
 	python3 build/library.py
 	sed $(PC_VALUES) include/ti.pc.in >$(LIBRARY)/ti.pc
 
+tinfo: library
+	python3 build/tinfo.py
+
 lsp:
 	python3 build/build.py ti_lsp
 
@@ -111,6 +122,7 @@ ifeq ($(TOOLS),1)
 	done
 endif
 	if test -f $(LIBRARY)/libti.a; then $(MAKE) -s install-library; fi
+	if test -f $(TINFO); then $(MAKE) -s install-tinfo; fi
 	if test -x $(LSP); then \
 		install -m 755 $(LSP) "$(DESTDIR)$(BINDIR)/ti-lsp" && \
 		install -m 644 man/ti-lsp.1 "$(DESTDIR)$(MANDIR)/man1/ti-lsp.1" || exit 1; \
@@ -130,7 +142,17 @@ install-library:
 	chmod 644 "$(DESTDIR)$(LIBDIR)/pkgconfig/ti.pc"
 	install -m 644 man/ti.3 "$(DESTDIR)$(MANDIR)/man3/ti.3"
 
-uninstall: uninstall-library
+# ti-run finds the library from where it is itself, so that both can be moved together
+install-tinfo:
+	test -f $(TINFO) || $(MAKE) tinfo
+	install -d "$(DESTDIR)$(BINDIR)" "$(DESTDIR)$(TINFODIR)" "$(DESTDIR)$(MANDIR)/man1"
+	install -m 644 $(TINFO) "$(DESTDIR)$(TINFODIR)/libtinfo.so.6"
+	sed "s|@LIBRARIES@|$$(realpath -m --relative-to='$(BINDIR)' '$(TINFODIR)')|" tinfo/ti-run.in \
+		>"$(DESTDIR)$(BINDIR)/ti-run"
+	chmod 755 "$(DESTDIR)$(BINDIR)/ti-run"
+	install -m 644 man/ti-run.1 "$(DESTDIR)$(MANDIR)/man1/ti-run.1"
+
+uninstall: uninstall-library uninstall-tinfo
 	rm -f "$(DESTDIR)$(BINDIR)/ti" "$(DESTDIR)$(BINDIR)/ti-lsp" "$(DESTDIR)$(MANDIR)/man1/ti-lsp.1"
 	for page in $(PAGES); do \
 		rm -f "$(DESTDIR)$(MANDIR)/man$${page##*.}/$${page##*/}"; \
@@ -147,14 +169,18 @@ uninstall: uninstall-library
 uninstall-library:
 	for file in $(LIBRARY_FILES); do rm -f "$(DESTDIR)$$file"; done
 
+uninstall-tinfo:
+	for file in $(TINFO_FILES); do rm -f "$(DESTDIR)$$file"; done
+	rmdir "$(DESTDIR)$(TINFODIR)" 2>/dev/null || true
+
 dist:
 	git archive --format=tar.gz --prefix=ti-$(VERSION)/ -o ti-$(VERSION).tar.gz HEAD
 	@echo ti-$(VERSION).tar.gz
 
-deb: all lsp library
+deb: all lsp library tinfo
 	python3 build/packages.py deb
 
-release: all lsp library
+release: all lsp library tinfo
 	python3 build/packages.py release
 
 reproduce:

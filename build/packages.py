@@ -2,7 +2,7 @@
 """Makes what a release consists of, from the built program, into a directory, or packages/.
 
     build/packages.py deb [DIRECTORY]        the packages of debian/control, by debhelper: ti,
-                                             libti1 and libti-dev
+                                             libti1, libti-dev and libti-tinfo
     build/packages.py release [DIRECTORY]    ti-VERSION-ARCH-linux.tar.gz with install.sh, the
                                              source as ti-VERSION.tar.gz, and SHA256SUMS of both
 

@@ -1,0 +1,784 @@
+/*
+ * The calls of libtinfo over libti: what a program asks of its terminal by setupterm(3x) and
+ * termcap(3x), under the names, types and symbol versions of ncurses's libtinfo.so.6, so that
+ * programs that are built for that run on libti unchanged (tinfo/tinfo.map has the symbols). It
+ * is C over ti.h, and is tested (tests/tinfo) and not proved. libti reads the entries, expands and
+ * pads; here is what these calls keep between them. Two parts do what ti.h does not give yet, and
+ * say so: "User-defined capabilities" and "Directories"; and so does `taken_by`.
+ *
+ * As in ncurses there is one current terminal, and no call may run in two threads at once.
+ */
+#define _GNU_SOURCE /* for secure_getenv */
+#include "ti.h"
+#include "names.h"
+
+#include <errno.h>
+#include <fcntl.h>
+#include <limits.h>
+#include <stdarg.h>
+#include <stdio.h>
+#include <stdlib.h>
+#include <sys/ioctl.h>
+#include <sys/stat.h>
+#include <termios.h>
+#include <time.h>
+#include <unistd.h>
+
+enum { OK = 0, ERR = -1 };
+/* What setupterm says of a terminal in *result, and tgetent as its answer. */
+enum { IS_FOUND = 1, IS_UNKNOWN = 0, IS_REFUSED = -1 };
+/* How long a name, an entry and ttytype may be. */
+enum { NAME_MAX_BYTES = 512, ENTRY_MAX = 65536, TTYTYPE_SIZE = 256 };
+enum { PARAMETERS = 9 };
+#define CANCELLED ((char *)-1)
+
+/* ---- what programs see of a terminal: term.h */
+
+typedef struct termtype {
+    char *term_names, *str_table;
+    char *Booleans;
+    short *Numbers;
+    char **Strings;
+    char *ext_str_table;
+    char **ext_Names;
+    unsigned short num_Booleans, num_Numbers, num_Strings;
+    unsigned short ext_Booleans, ext_Numbers, ext_Strings;
+} TERMTYPE;
+
+typedef struct term {
+    TERMTYPE type;
+    /* term.h shows no more */
+    struct ti_entry *entry;
+    struct ti_variables variables;
+    int *numbers; /* as type.Numbers, which are short */
+    char *without_acs; /* sgr0 for termcap, if it is another text there */
+    short speed;
+} TERMINAL;
+
+/* The terminal of the last tgetent, and its buffer: see tgetent. */
+static struct {
+    TERMINAL *terminal;
+    char *buffer;
+} of_termcap;
+
+EXPORTED TERMINAL *cur_term;
+EXPORTED char PC, *UP, *BC;
+EXPORTED short ospeed;
+EXPORTED char ttytype[TTYTYPE_SIZE];
+
+/* A string of the tables of the current terminal, or NULL. */
+static char *string_at(int index) { return cur_term->type.Strings[index]; }
+
+static bool is_string(const char *text) { return text && text != CANCELLED; }
+
+/* ---- User-defined capabilities: ti.h does not give them yet. term(5), "Extended Storage" */
+
+/* The part of an entry with them. */
+struct extension {
+    bool wide;
+    unsigned flags, numbers, strings, size; /* how many there are, and the bytes of the table */
+    const uint8_t *flag, *number, *offset, *table;
+};
+
+static unsigned word_at(const uint8_t *at) { return at[0] | (unsigned)at[1] << 8; }
+
+/* The extension of an entry; one that has nothing if there is none, or no whole one. */
+static struct extension extension_of(const struct ti_entry *entry) {
+    enum { HEADER = 10 };
+    struct extension none = { false, 0, 0, 0, 0, NULL, NULL, NULL, NULL };
+    const uint8_t *start = entry->bytes.bytes;
+    size_t left = entry->bytes.size;
+    size_t at = (size_t)(entry->strings.bytes - start) + entry->strings.size;
+    at += at % 2;
+    if (at > left || left - at < HEADER) return none;
+    const uint8_t *header = start + at, *flag = header + HEADER;
+    struct extension found = { entry->wide, word_at(header), word_at(header + 2),
+                               word_at(header + 4), word_at(header + 8), flag, NULL, NULL, NULL };
+    if (found.flags > SHRT_MAX || found.numbers > SHRT_MAX || found.strings > SHRT_MAX) return none;
+    size_t names = (size_t)found.flags + found.numbers + found.strings;
+    size_t flag_bytes = found.flags + found.flags % 2;
+    size_t number_bytes = found.numbers * (found.wide ? (size_t)4 : 2);
+    size_t before = HEADER + flag_bytes + number_bytes + 2 * (found.strings + names);
+    left -= at;
+    if (names > SHRT_MAX || before > left || found.size > left - before) return none;
+    found.number = flag + flag_bytes;
+    found.offset = found.number + number_bytes;
+    found.table = header + before;
+    /* each text then ends in the table */
+    return found.size && found.table[found.size - 1] ? none : found;
+}
+
+static char *text_at(const struct extension *of, size_t offset) {
+    return offset < of->size ? (char *)of->table + offset : NULL;
+}
+
+/* Fills in the texts; the names are after the last of them. Gives where the names begin. */
+static size_t fill_texts(const struct extension *of, char **strings) {
+    size_t names = 0;
+    for (unsigned i = 0; i < of->strings; i++) {
+        char *text = strings[i] = text_at(of, word_at(of->offset + 2 * i));
+        size_t end = text ? (size_t)(text - (char *)of->table) + strlen(text) + 1 : 0;
+        if (end > names) names = end;
+    }
+    return names;
+}
+
+static int number_at(const struct extension *of, unsigned index) {
+    const uint8_t *at = of->number + index * (of->wide ? 4 : 2);
+    int number = of->wide ? (int32_t)(word_at(at) | word_at(at + 2) << 16) : (int16_t)word_at(at);
+    return number < 0 ? -1 : number;
+}
+
+/* Fills in what an extension says; nothing if a name is not in its table. */
+static void fill_extension(TERMINAL *terminal, const struct extension *of) {
+    TERMTYPE *type = &terminal->type;
+    unsigned names = of->flags + of->numbers + of->strings;
+    size_t base = fill_texts(of, type->Strings + TI_STRINGS);
+    for (unsigned i = 0; i < names; i++) {
+        type->ext_Names[i] = text_at(of, base + word_at(of->offset + 2 * (of->strings + i)));
+        if (!type->ext_Names[i]) return;
+    }
+    for (unsigned i = 0; i < of->flags; i++) type->Booleans[TI_FLAGS + i] = of->flag[i] == 1;
+    for (unsigned i = 0; i < of->numbers; i++) terminal->numbers[TI_NUMBERS + i] = number_at(of, i);
+    type->ext_str_table = (char *)of->table;
+    type->ext_Booleans = (unsigned short)of->flags;
+    type->ext_Numbers = (unsigned short)of->numbers;
+    type->ext_Strings = (unsigned short)of->strings;
+}
+
+typedef bool same_name(const char *asked, const char *name);
+
+static bool is_same(const char *asked, const char *name) { return strcmp(asked, name) == 0; }
+
+/*
+ * The index of a user-defined capability among all of its kind, or -1. The names are in the order
+ * of the kinds, so `from` are before them, and `base` is what the tables have of the kind.
+ */
+static int user_index(const char *asked, same_name *same, int from, int count, int base) {
+    for (int i = 0; i < count; i++)
+        if (same(asked, cur_term->type.ext_Names[from + i])) return base + i;
+    return -1;
+}
+static int user_flag(const char *asked, same_name *same) {
+    return user_index(asked, same, 0, cur_term->type.ext_Booleans, TI_FLAGS);
+}
+static int user_number(const char *asked, same_name *same) {
+    const TERMTYPE *type = &cur_term->type;
+    return user_index(asked, same, type->ext_Booleans, type->ext_Numbers, TI_NUMBERS);
+}
+static int user_string(const char *asked, same_name *same) {
+    const TERMTYPE *type = &cur_term->type;
+    int from = type->ext_Booleans + type->ext_Numbers;
+    return user_index(asked, same, from, type->ext_Strings, TI_STRINGS);
+}
+
+/* ---- Directories: those of Debian's ncurses, which ti.h does not give yet */
+
+static const char *const SYSTEM[] = { "/etc/terminfo", "/lib/terminfo", "/usr/share/terminfo" };
+enum { SYSTEM_COUNT = sizeof SYSTEM / sizeof SYSTEM[0] };
+
+/* Reads a regular file. Gives its bytes, which are to be given to free, or NULL. */
+static uint8_t *read_file(const char *path, size_t *size) {
+    int file = open(path, O_RDONLY | O_CLOEXEC | O_NOCTTY | O_NONBLOCK);
+    if (file < 0) return NULL;
+    struct stat found;
+    bool is_good = fstat(file, &found) == 0 && S_ISREG(found.st_mode);
+    uint8_t *bytes = is_good ? (uint8_t *)malloc(ENTRY_MAX) : NULL;
+    for (*size = 0; bytes && *size < ENTRY_MAX;) {
+        ssize_t count = read(file, bytes + *size, ENTRY_MAX - *size);
+        if (count == 0 || (count < 0 && errno != EINTR)) break;
+        if (count > 0) *size += (size_t)count;
+    }
+    close(file);
+    return bytes;
+}
+
+/* The entry of a name below a directory; NULL if there is none, or a bad one. */
+static struct ti_entry *entry_below(struct ti_text dir, struct ti_text name) {
+    char path[PATH_MAX];
+    size_t size = 0;
+    struct ti_entry *entry = NULL;
+    struct ti_outcome outcome = ti_path(dir.bytes, dir.size, name.bytes, name.size,
+                                        (uint8_t *)path, sizeof path);
+    uint8_t *bytes = outcome.status == TI_OK ? read_file(path, &size) : NULL;
+    if (bytes && ti_entry_new(bytes, size, &entry)) entry = NULL;
+    free(bytes);
+    return entry;
+}
+
+static struct ti_entry *entry_of_system(struct ti_text name) {
+    struct ti_entry *entry = NULL;
+    for (int i = 0; i < SYSTEM_COUNT && !entry; i++) entry = entry_below(ti_text_of(SYSTEM[i]), name);
+    return entry;
+}
+
+/* The entry below the parts of TERMINFO_DIRS between colons; an empty part is the system's. */
+static struct ti_entry *entry_of_parts(const char *dirs, struct ti_text name) {
+    for (const char *part = dirs;; part++) {
+        struct ti_text dir = { (const uint8_t *)part, strcspn(part, ":") };
+        struct ti_entry *entry = dir.size ? entry_below(dir, name) : entry_of_system(name);
+        part += dir.size;
+        if (entry || !*part) return entry;
+    }
+}
+
+static struct ti_entry *entry_of_home(const char *home, struct ti_text name) {
+    char dir[PATH_MAX];
+    int size = snprintf(dir, sizeof dir, "%s/.terminfo", home);
+    bool fits = size > 0 && (size_t)size < sizeof dir;
+    return fits ? entry_below(ti_text_of(dir), name) : NULL;
+}
+
+/* Finds the entry of a name, as ncurses(3x) says of TERMINFO and TERMINFO_DIRS. */
+static struct ti_entry *entry_named(const char *given) {
+    /* of a program with more rights than its user the variables are not trusted */
+    const char *dir = secure_getenv("TERMINFO"), *home = secure_getenv("HOME");
+    const char *dirs = secure_getenv("TERMINFO_DIRS");
+    struct ti_text name = ti_text_of(given);
+    struct ti_entry *entry = dir && *dir ? entry_below(ti_text_of(dir), name) : NULL;
+    if (!entry && home && *home) entry = entry_of_home(home, name);
+    if (!entry && dirs && *dirs) entry = entry_of_parts(dirs, name);
+    return entry ? entry : entry_of_system(name);
+}
+
+/* ---- the line to the terminal */
+
+static const struct {
+    speed_t code;
+    uint32_t rate;
+} SPEEDS[] = {
+    { B50, 50 }, { B75, 75 }, { B110, 110 }, { B134, 134 }, { B150, 150 }, { B200, 200 },
+    { B300, 300 }, { B600, 600 }, { B1200, 1200 }, { B1800, 1800 }, { B2400, 2400 },
+    { B4800, 4800 }, { B9600, 9600 }, { B19200, 19200 }, { B38400, 38400 }, { B57600, 57600 },
+    { B115200, 115200 }, { B230400, 230400 }, { B460800, 460800 }, { B500000, 500000 },
+    { B576000, 576000 }, { B921600, 921600 }, { B1000000, 1000000 }, { B1152000, 1152000 },
+    { B1500000, 1500000 }, { B2000000, 2000000 }, { B2500000, 2500000 }, { B3000000, 3000000 },
+    { B3500000, 3500000 }, { B4000000, 4000000 },
+};
+
+/* The bits per second of a code of termios(3), as in ospeed; 0 if there is no such code. */
+static uint32_t rate_of(short code) {
+    for (size_t i = 0; i < sizeof SPEEDS / sizeof SPEEDS[0]; i++)
+        if (SPEEDS[i].code == (speed_t)code) return SPEEDS[i].rate;
+    return 0;
+}
+
+static short speed_of(int fd) {
+    struct termios mode;
+    return tcgetattr(fd, &mode) == 0 ? (short)cfgetospeed(&mode) : 0;
+}
+
+/* ---- setting a terminal up: setupterm(3x) */
+
+/* What a variable of the environment says of the size of the screen, or 0. */
+static int size_of_variable(const char *name) {
+    const char *value = getenv(name);
+    char *end = NULL;
+    if (!value || !*value) return 0;
+    long number = strtol(value, &end, 0);
+    return *end || number <= 0 || number > SHRT_MAX ? 0 : (int)number;
+}
+
+/* The size of the screen: of the environment, the window, the entry, or 24 by 80. */
+static void fill_size(TERMINAL *terminal, int fd) {
+    struct winsize window;
+    int lines = size_of_variable("LINES"), cols = size_of_variable("COLUMNS");
+    if ((!lines || !cols) && isatty(fd) && ioctl(fd, TIOCGWINSZ, &window) == 0) {
+        if (!lines) lines = window.ws_row;
+        if (!cols) cols = window.ws_col;
+    }
+    if (!lines) lines = terminal->numbers[NUM_lines];
+    if (!cols) cols = terminal->numbers[NUM_cols];
+    terminal->numbers[NUM_lines] = lines > 0 ? lines : 24;
+    terminal->numbers[NUM_cols] = cols > 0 ? cols : 80;
+}
+
+EXPORTED int del_curterm(TERMINAL *terminal) {
+    if (!terminal) return ERR;
+    if (terminal == cur_term) cur_term = NULL;
+    if (terminal == of_termcap.terminal) of_termcap.terminal = NULL;
+    ti_entry_free(terminal->entry);
+    free(terminal->type.Booleans);
+    free(terminal->type.Numbers);
+    free(terminal->type.Strings);
+    free(terminal->type.ext_Names);
+    free(terminal->numbers);
+    free(terminal->without_acs);
+    free(terminal);
+    return OK;
+}
+
+/* A terminal with room for these user-defined capabilities, or NULL. */
+static TERMINAL *terminal_for(const struct extension *of) {
+    TERMINAL *made = (TERMINAL *)calloc(1, sizeof *made);
+    if (!made) return NULL;
+    TERMTYPE *type = &made->type;
+    size_t names = (size_t)of->flags + of->numbers + of->strings;
+    type->Booleans = (char *)calloc(TI_FLAGS + of->flags, 1);
+    type->Numbers = (short *)calloc(TI_NUMBERS + of->numbers, sizeof *type->Numbers);
+    made->numbers = (int *)calloc(TI_NUMBERS + of->numbers, sizeof *made->numbers);
+    type->Strings = (char **)calloc(TI_STRINGS + of->strings, sizeof *type->Strings);
+    type->ext_Names = (char **)calloc(names + 1, sizeof *type->ext_Names);
+    if (type->Booleans && type->Numbers && made->numbers && type->Strings && type->ext_Names)
+        return made;
+    del_curterm(made);
+    return NULL;
+}
+
+/* Fills in what the tables have. A NUL follows each string, or the entry were refused. */
+static void fill_tables(TERMINAL *terminal) {
+    const struct ti_entry *entry = terminal->entry;
+    TERMTYPE *type = &terminal->type;
+    struct ti_text text = TI_NOTHING;
+    for (uint32_t i = 0; i < TI_FLAGS; i++) type->Booleans[i] = ti_flag(entry, i) == 1;
+    for (uint32_t i = 0; i < TI_NUMBERS; i++) terminal->numbers[i] = (int)ti_number(entry, i);
+    for (uint32_t i = 0; i < TI_STRINGS; i++)
+        type->Strings[i] = ti_string(entry, i, &text) == 1 ? (char *)text.bytes : NULL;
+    ti_names(entry, &text);
+    type->term_names = (char *)text.bytes;
+    type->str_table = (char *)entry->strings.bytes;
+}
+
+/* The terminal of an entry, to which it then belongs; NULL if memory is refused. */
+static TERMINAL *terminal_of(struct ti_entry *entry, int fd) {
+    struct extension extension = extension_of(entry);
+    TERMINAL *made = terminal_for(&extension);
+    if (!made) return NULL;
+    TERMTYPE *type = &made->type;
+    made->entry = entry;
+    fill_tables(made);
+    fill_extension(made, &extension);
+    type->num_Booleans = (unsigned short)(TI_FLAGS + type->ext_Booleans);
+    type->num_Numbers = (unsigned short)(TI_NUMBERS + type->ext_Numbers);
+    type->num_Strings = (unsigned short)(TI_STRINGS + type->ext_Strings);
+    fill_size(made, fd);
+    for (int i = 0; i < type->num_Numbers; i++)
+        type->Numbers[i] = (short)(made->numbers[i] > SHRT_MAX ? SHRT_MAX : made->numbers[i]);
+    return made;
+}
+
+EXPORTED TERMINAL *set_curterm(TERMINAL *terminal) {
+    TERMINAL *old = cur_term;
+    cur_term = terminal;
+    if (terminal) {
+        ospeed = terminal->speed;
+        PC = string_at(STR_pad) ? string_at(STR_pad)[0] : '\0';
+    }
+    return old;
+}
+
+/* The answer of a setupterm that failed: *result, or a line on standard error and the end. */
+static int refuse(int *result, int why, const char *name, const char *said) {
+    if (result) {
+        *result = why;
+        return ERR;
+    }
+    if (name) fprintf(stderr, "'%s': ", name);
+    fprintf(stderr, "%s\n", said);
+    exit(EXIT_FAILURE);
+}
+
+/* Whether what is called generic has what moves the cursor and clears the screen. */
+static bool is_usable(void) {
+    bool moves = string_at(STR_cup) || (string_at(STR_cud1) && string_at(STR_home));
+    return moves && string_at(STR_clear);
+}
+
+/* What is said of the current terminal, which was found. */
+static int judge(int *result, const char *name) {
+    if (cur_term->type.Booleans[BOOL_gn]) {
+        if (is_usable()) return refuse(result, IS_FOUND, name, "terminal is not really generic.");
+        del_curterm(cur_term);
+        return refuse(result, IS_UNKNOWN, name, "I need something more specific.");
+    }
+    if (cur_term->type.Booleans[BOOL_hc])
+        return refuse(result, IS_FOUND, name, "I can't handle hardcopy terminals.");
+    if (result) *result = IS_FOUND;
+    return OK;
+}
+
+EXPORTED int setupterm(const char *name, int fd, int *result) {
+    if (!name) name = getenv("TERM");
+    if (!name || !*name)
+        return refuse(result, IS_REFUSED, NULL, "TERM environment variable not set.");
+    if (strlen(name) > NAME_MAX_BYTES)
+        return refuse(result, IS_REFUSED, NULL, "TERM environment must be <= 512 characters.");
+    /* what is written is then most likely for the terminal of standard error */
+    if (fd == STDOUT_FILENO && !isatty(fd)) fd = STDERR_FILENO;
+    struct ti_entry *entry = entry_named(name);
+    if (!entry) return refuse(result, IS_UNKNOWN, name, "unknown terminal type.");
+    TERMINAL *terminal = terminal_of(entry, fd);
+    if (!terminal) {
+        ti_entry_free(entry);
+        return refuse(result, IS_REFUSED, NULL, "Not enough memory to create terminal structure.");
+    }
+    terminal->speed = speed_of(fd);
+    set_curterm(terminal);
+    snprintf(ttytype, sizeof ttytype, "%s", terminal->type.term_names);
+    return judge(result, name);
+}
+
+EXPORTED int restartterm(char *name, int fd, int *result) { return setupterm(name, fd, result); }
+
+EXPORTED char *longname(void) {
+    static char none[] = "";
+    struct ti_text text = TI_NOTHING;
+    if (!cur_term) return none;
+    ti_long_name(cur_term->entry, &text);
+    return (char *)text.bytes;
+}
+
+/* ---- what the terminal has: tigetflag(3x) */
+
+/* The index of a capability of the tables, if it is of the kind; else -1. */
+static int table_index(const char *name, uint32_t kind) {
+    struct ti_text text = ti_text_of(name);
+    struct ti_place place = { 0, 0 };
+    bool is_known = ti_capability(text.bytes, text.size, &place) && place.kind == kind;
+    return is_known ? (int)place.index : -1;
+}
+
+EXPORTED int tigetflag(const char *name) {
+    if (!cur_term) return -1;
+    int index = table_index(name, TI_FLAG);
+    if (index < 0) index = user_flag(name, is_same);
+    return index < 0 ? -1 : cur_term->type.Booleans[index];
+}
+
+EXPORTED int tigetnum(const char *name) {
+    if (!cur_term) return -2;
+    int index = table_index(name, TI_NUMBER);
+    if (index < 0) index = user_number(name, is_same);
+    return index < 0 ? -2 : cur_term->numbers[index];
+}
+
+EXPORTED char *tigetstr(const char *name) {
+    if (!cur_term) return CANCELLED;
+    int index = table_index(name, TI_STRING);
+    if (index < 0) index = user_string(name, is_same);
+    return index < 0 ? CANCELLED : string_at(index);
+}
+
+/* ---- strings with parameters: tparm(3x) */
+
+/* What a format takes. */
+struct taken {
+    int count;      /* how many parameters */
+    unsigned texts; /* which are texts, a bit for each */
+    bool by_number; /* by `%p`, and not from the stack, as those of termcap do */
+};
+
+/*
+ * How many values a code takes from the stack; `last` says which parameter `%p` put there just
+ * before, if it was one.
+ */
+static int pops_of(char code, int last) {
+    if (code && strchr("doxXcsl", code)) return last ? 0 : 1;
+    if (code && strchr("+-*/m&|^=<>AO", code)) return 2;
+    return code == '!' || code == '~' || code == 'P';
+}
+
+/* The text after a code of a format, of which `at` is the letter. */
+static const char *after_code(const char *at) {
+    if (*at == '{') return at + strcspn(at, "}");
+    size_t more = *at == '\'' ? 2 : *at && strchr("pPg", *at) ? 1 : 0;
+    return at + strnlen(at, 1 + more);
+}
+
+/*
+ * What a format takes: ti.h does not say, and here it has to be known, since the types of the
+ * arguments are not those that ti_expand is given.
+ */
+static struct taken taken_by(const char *format) {
+    struct taken taken = { 0, 0, false };
+    int pops = 0, last = 0;
+    for (const char *at = strchr(format, '%'); at; at = strchr(at, '%')) {
+        at++;
+        at += strspn(at, *at == ':' ? ":-+# 0123456789." : "# 0123456789.");
+        if (*at == 'p' && at[1] >= '1' && at[1] <= '9') {
+            last = at[1] - '0';
+            taken.by_number = true;
+            if (last > taken.count) taken.count = last;
+        } else {
+            pops += pops_of(*at, last);
+            if (last && (*at == 's' || *at == 'l')) taken.texts |= 1u << (last - 1);
+            if (*at && !strchr("i?te;", *at)) last = 0;
+        }
+        at = after_code(at);
+    }
+    if (!taken.by_number) taken.count = pops < PARAMETERS ? pops : PARAMETERS;
+    return taken;
+}
+
+/* A buffer of these calls, and how much it has room for. */
+struct buffer {
+    char *bytes;
+    size_t room;
+};
+
+/* Makes a buffer at least as large. False if memory is refused, and it is then as it was. */
+static bool grow(struct buffer *buffer, size_t room) {
+    if (buffer->room >= room) return true;
+    char *bytes = (char *)realloc(buffer->bytes, room);
+    if (!bytes) return false;
+    buffer->bytes = bytes;
+    buffer->room = room;
+    return true;
+}
+
+/*
+ * The format that takes by `%p` what a format of termcap takes from the stack: the parameters are
+ * pushed first, the last one below. NULL if memory is refused.
+ */
+static const char *by_number(const char *format, int count) {
+    static struct buffer buffer;
+    enum { PUSHES = sizeof "%i%p9%p8%p7%p6%p5%p4%p3%p2%p1" };
+    if (!grow(&buffer, strlen(format) + PUSHES)) return NULL;
+    char *at = stpcpy(buffer.bytes, strstr(format, "%i") ? "%i" : "");
+    for (int i = count; i > 0; i--) at += sprintf(at, "%%p%d", i);
+    strcpy(at, format);
+    return buffer.bytes;
+}
+
+/*
+ * Expands a format into a buffer that the next call uses again. A format that is refused gives an
+ * empty text, since programs know no other answer; NULL if memory is refused.
+ */
+static char *expand(const char *format, struct taken taken, const struct ti_parameter *params) {
+    static struct buffer buffer;
+    static struct ti_variables without_terminal;
+    struct ti_variables *variables = cur_term ? &cur_term->variables : &without_terminal;
+    if (!taken.by_number && taken.count) format = by_number(format, taken.count);
+    if (!format || !grow(&buffer, 256)) return NULL;
+    struct ti_text text = ti_text_of(format);
+    struct ti_outcome outcome;
+    for (;;) {
+        outcome = ti_expand(text.bytes, text.size, params, PARAMETERS, variables,
+                            (uint8_t *)buffer.bytes, buffer.room - 1);
+        if (outcome.status != TI_NO_ROOM) break;
+        if (!grow(&buffer, outcome.size + 1)) return NULL;
+    }
+    if (outcome.status == TI_NO_MEMORY) return NULL;
+    buffer.bytes[outcome.status == TI_OK ? outcome.size : 0] = '\0';
+    return buffer.bytes;
+}
+
+/* Expands a format for the arguments of a call, of which the numbers are long or int. */
+static char *expand_for(const char *format, bool is_long, va_list *given) {
+    if (!is_string(format)) return NULL;
+    struct ti_parameter params[PARAMETERS];
+    struct taken taken = taken_by(format);
+    for (int i = 0; i < PARAMETERS; i++) {
+        params[i] = ti_number_given(0);
+        if (i >= taken.count) continue;
+        if (taken.texts >> i & 1) {
+            const char *text = va_arg(*given, const char *);
+            if (text) params[i] = ti_text_given((const uint8_t *)text, strlen(text));
+        } else {
+            long number = is_long ? va_arg(*given, long) : va_arg(*given, int);
+            params[i] = ti_number_given((int32_t)number);
+        }
+    }
+    return expand(format, taken, params);
+}
+
+EXPORTED char *tparm(const char *format, ...) {
+    va_list given;
+    va_start(given, format);
+    char *text = expand_for(format, true, &given);
+    va_end(given);
+    return text;
+}
+
+EXPORTED char *tiparm(const char *format, ...) {
+    va_list given;
+    va_start(given, format);
+    char *text = expand_for(format, false, &given);
+    va_end(given);
+    return text;
+}
+
+/* Expands a format for two numbers. */
+static char *expand_two(const char *format, int first, int second) {
+    struct ti_parameter params[PARAMETERS];
+    for (int i = 0; i < PARAMETERS; i++) params[i] = ti_number_given(0);
+    params[0].number = first;
+    params[1].number = second;
+    return is_string(format) ? expand(format, taken_by(format), params) : NULL;
+}
+
+EXPORTED char *tgoto(const char *format, int column, int line) {
+    return expand_two(format, line, column);
+}
+
+/* ---- writing: tputs(3x) */
+
+/* The line to the current terminal, as the program may have changed it. */
+static struct ti_line current_line(void) {
+    struct ti_line line = TI_LINE_EMPTY;
+    if (!cur_term) return line;
+    ti_line(cur_term->entry, rate_of(ospeed), &line);
+    line.pad_byte = (uint8_t)PC;
+    return line;
+}
+
+/* What ti_pad makes of a text, in a buffer of its own, which is to be given to free; or NULL. */
+static uint8_t *padded(struct ti_text text, uint32_t lines, const struct ti_line *line,
+                       size_t *size) {
+    uint8_t none = 0;
+    struct ti_outcome outcome = ti_pad(text.bytes, text.size, lines, line, &none, 0);
+    if (outcome.status != TI_OK && outcome.status != TI_NO_ROOM) return NULL;
+    *size = outcome.size;
+    uint8_t *bytes = (uint8_t *)malloc(outcome.size + 1);
+    if (bytes) ti_pad(text.bytes, text.size, lines, line, bytes, *size);
+    return bytes;
+}
+
+/* A byte that a text does not have; 0, which no text of C has. */
+enum { MARK = 0 };
+/* At this rate a pad byte takes a tenth of a millisecond. */
+enum { TENTHS_RATE = 100000, TENTHS_A_SECOND = 10000 };
+
+static void wait_for(size_t tenths) {
+    struct timespec left = { (time_t)(tenths / TENTHS_A_SECOND),
+                             (long)(tenths % TENTHS_A_SECOND) * 100000 };
+    if (!tenths) return;
+    fflush(stdout);
+    nanosleep(&left, NULL);
+}
+
+/*
+ * Hands over a text for a terminal without a pad byte (`npc`), and waits at each delay. ti.h does
+ * not give delays, but the pad bytes of a line of TENTHS_RATE are them.
+ */
+static int put_waiting(struct ti_text text, uint32_t lines, struct ti_line line, int (*put)(int)) {
+    line.xon = line.xon || line.rate < line.pad_from;
+    line.pad_from = 0;
+    line.rate = TENTHS_RATE;
+    line.has_pad_byte = true;
+    line.pad_byte = MARK;
+    size_t size = 0, tenths = 0;
+    uint8_t *bytes = padded(text, lines, &line, &size);
+    if (!bytes) return ERR;
+    for (size_t i = 0; i < size; i++) {
+        if (bytes[i] == MARK) tenths++;
+        else {
+            wait_for(tenths);
+            tenths = 0;
+            put(bytes[i]);
+        }
+    }
+    free(bytes);
+    wait_for(tenths);
+    return OK;
+}
+
+/* The answer of `put` is not looked at: programs let it give anything. */
+EXPORTED int tputs(const char *given, int lines, int (*put)(int)) {
+    if (!is_string(given)) return ERR;
+    struct ti_text text = ti_text_of(given);
+    struct ti_line line = current_line();
+    uint32_t affected = lines < 0 ? 0 : (uint32_t)lines;
+    if (cur_term && !line.has_pad_byte) return put_waiting(text, affected, line, put);
+    size_t size = 0;
+    uint8_t *bytes = padded(text, affected, &line, &size);
+    if (!bytes) return ERR;
+    for (size_t i = 0; i < size; i++) put(bytes[i]);
+    free(bytes);
+    return OK;
+}
+
+EXPORTED int putp(const char *text) { return tputs(text, 1, putchar); }
+
+/* ---- termcap(3x) */
+
+/* Codes have two bytes, and what follows in a text that is asked for is not looked at. */
+static bool is_same_code(const char *asked, const char *code) {
+    return asked[0] == code[0] && asked[1] == code[1];
+}
+
+static bool is_same_user_code(const char *asked, const char *name) {
+    return is_same_code(asked, name) && !name[2];
+}
+
+static bool is_code(const char *asked) { return asked[0] && asked[1]; }
+
+/* The index of a code in a table, or -1. */
+static int code_index(const char *const *codes, const char *asked) {
+    for (int i = 0; codes[i]; i++)
+        if (is_same_code(asked, codes[i])) return i;
+    return -1;
+}
+
+/*
+ * "me" of termcap leaves the character set as it is: what sgr sends for no attribute, without
+ * rmacs. NULL if that is no other text than sgr0.
+ */
+static char *sgr0_without_acs(void) {
+    char *sgr0 = string_at(STR_sgr0), *sgr = string_at(STR_sgr), *rmacs = string_at(STR_rmacs);
+    if (!sgr0 || !rmacs || !*rmacs) return NULL;
+    char *off = sgr ? expand_two(sgr, 0, 0) : sgr0;
+    char *found = off ? strstr(off, rmacs) : NULL;
+    if (!found || strlen(off) == strlen(rmacs)) return NULL;
+    char *made = (char *)malloc(strlen(off) + 1);
+    if (!made) return NULL;
+    char *end = (char *)memcpy(made, off, (size_t)(found - off)) + (found - off);
+    strcpy(end, found + strlen(rmacs));
+    return made;
+}
+
+/* What termcap has as variables, and what it changes of a terminal. */
+static void set_termcap(void) {
+    char *left = string_at(STR_cub1);
+    if (left) {
+        bool is_backspace = strcmp(left, "\b") == 0;
+        cur_term->type.Booleans[BOOL_OTbs] = is_backspace;
+        if (!is_backspace) cur_term->type.Strings[STR_OTbc] = left;
+    }
+    UP = string_at(STR_cuu1);
+    BC = string_at(STR_OTbc);
+    cur_term->without_acs = sgr0_without_acs();
+}
+
+/*
+ * The buffer is not written to. A program that gives the same one again uses the terminal of the
+ * call before no longer, so that it is given back.
+ */
+EXPORTED int tgetent(char *buffer, const char *name) {
+    int answer = IS_REFUSED;
+    PC = '\0';
+    UP = BC = NULL;
+    setupterm(name, STDOUT_FILENO, &answer);
+    if (answer != IS_FOUND) return answer;
+    set_termcap();
+    if (of_termcap.buffer == buffer) del_curterm(of_termcap.terminal);
+    of_termcap.terminal = cur_term;
+    of_termcap.buffer = buffer;
+    return answer;
+}
+
+EXPORTED int tgetflag(const char *code) {
+    if (!cur_term || !is_code(code)) return 0;
+    int index = code_index(boolcodes, code);
+    if (index < 0) index = user_flag(code, is_same_user_code);
+    return index >= 0 && cur_term->type.Booleans[index];
+}
+
+EXPORTED int tgetnum(const char *code) {
+    if (!cur_term || !is_code(code)) return -1;
+    int index = code_index(numcodes, code);
+    if (index < 0) index = user_number(code, is_same_user_code);
+    return index < 0 ? -1 : cur_term->numbers[index];
+}
+
+EXPORTED char *tgetstr(const char *code, char **area) {
+    if (!cur_term || !is_code(code)) return NULL;
+    int index = code_index(strcodes, code);
+    if (index < 0) index = user_string(code, is_same_user_code);
+    char *text = index < 0 ? NULL : string_at(index);
+    if (index == STR_sgr0 && text && cur_term->without_acs) text = cur_term->without_acs;
+    if (!text || !area || !*area) return text;
+    char *copy = *area;
+    *area = stpcpy(copy, text) + 1;
+    return copy;
+}
