@@ -32,8 +32,10 @@ int main(void) {
 """
 OF_LIBRARY = ("/include/ti.h", "/libti.a", "/libti.so", "/pkgconfig/ti.pc", "/man3/ti.3.gz")
 # the packages of debian/control, sorted
-PACKAGES = ["libti-dev", "libti1", "ti"]
-HAS_LIBRARY = os.path.exists(os.path.join(TOP, "crates", "ti_c", "out", "lib", "libti.a"))
+PACKAGES = ["libti-dev", "libti-tinfo", "libti1", "ti"]
+LIBRARY = os.path.join(TOP, "crates", "ti_c", "out", "lib")
+HAS_LIBRARY = os.path.exists(os.path.join(LIBRARY, "libti.a"))
+HAS_TINFO = os.path.exists(os.path.join(LIBRARY, "ti", "libtinfo.so.6"))
 
 
 def version():
@@ -158,12 +160,24 @@ def library_faults(shared, unpacked):
             yield f"a program that takes {package} prints {got!r}"
 
 
+def tinfo_faults(made, names, unpacked):
+    """What is wrong with ti-run of the unpacked packages: which libraries it has a program take."""
+    for name in names:
+        if name.startswith(("libti-tinfo_", "libti1_")):
+            output(["dpkg-deb", "-x", os.path.join(made, name), unpacked])
+    path = shutil.which("bash")
+    got = output([os.path.join(unpacked, "usr", "bin", "ti-run"), "ldd", path])
+    for library in ("ti/libtinfo.so.6", "libti.so.1"):
+        if not re.search(rf"=> {re.escape(unpacked)}/\S*/{library} ", got):
+            yield f"ti-run ldd {path}: {got!r}"
+
+
 def check_deb():
     """Whether the Debian packages are the same each time, run unpacked, and please lintian."""
     need("dh")
     need("git")
-    if not HAS_LIBRARY or not HAS_LSP:
-        raise Skipped("not all is made: make lsp library")
+    if not HAS_LIBRARY or not HAS_LSP or not HAS_TINFO:
+        raise Skipped("not all is made: make lsp tinfo")
     with tempfile.TemporaryDirectory(prefix="ti-package-") as room:
         made, names, faults = made_twice("deb", room)
         yield from faults
@@ -185,14 +199,15 @@ def check_deb():
             yield f"the packages are {names}"
             return
         yield from library_faults(os.path.join(room, "libti1"), os.path.join(room, "libti-dev"))
+        yield from tinfo_faults(made, names, os.path.join(room, "with-tinfo"))
 
 
 def check_deb_in_chroot():
     """Whether the package installs, runs and goes away again in a system of its own."""
     need("debootstrap")
     need("dh")
-    if not HAS_LIBRARY or not HAS_LSP:
-        raise Skipped("not all is made: make lsp library")
+    if not HAS_LIBRARY or not HAS_LSP or not HAS_TINFO:
+        raise Skipped("not all is made: make lsp tinfo")
     if os.geteuid() != 0:
         raise Skipped("a chroot takes root's rights")
     with tempfile.TemporaryDirectory(prefix="ti-package-") as room:

@@ -5,7 +5,7 @@ import re
 import sys
 import tempfile
 
-from shared import PAGES, TOP, commands_of, files_below, need, output, text_of
+from shared import PAGES_OF_ALL, TOP, commands_of, files_below, need, output, text_of
 
 SECTIONS = [
     "NAME", "SYNOPSIS", "DESCRIPTION", "ENVIRONMENT", "FILES", "EXIT STATUS", "EXAMPLES", "COMPATIBILITY",
@@ -32,7 +32,7 @@ def check_pages():
     codes = re.findall(r"^\.Ss ([EW]\d) (\w+)$", text_of("man", "ti-report.7"), re.M)
     if [code for code, _ in codes] != CODES:
         yield f"ti-report.7 has the codes {codes}"
-    for name in PAGES:
+    for name in PAGES_OF_ALL:
         lacking = [section for section in SECTIONS if f".Sh {section}\n" not in text_of("man", name)]
         if name == "ti-report.7":
             lacking = [section for section in lacking if section not in OF_COMMANDS]

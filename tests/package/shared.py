@@ -10,6 +10,8 @@ from common import LSP, PROGRAM, TOP, Skipped, commands_of, files_below, need, t
 
 TOOLS = ["tic", "infocmp", "tput", "session"]
 PAGES = ["ti.1", *(f"ti-{tool}.1" for tool in TOOLS), "ti-lsp.1", "ti-report.7"]
+# the page of ti-run is of another package
+PAGES_OF_ALL = [*PAGES, "ti-run.1"]
 # the language server and its page are installed if it is built
 HAS_LSP = os.access(LSP, os.X_OK)
 INSTALLED_PAGES = [page for page in PAGES if HAS_LSP or page != "ti-lsp.1"]

@@ -1,0 +1,419 @@
+#!/usr/bin/env python3
+"""Tests libtinfo.so.6 over libti: its answers next to those of ncurses, and programs that take it.
+
+    tests/tinfo/run.py [CASE..]        the cases named, or all of them
+
+The archive of crates/ti_c is built already, by the gate or by `make library`. The cases:
+
+symbols      what the library exports has the versions, kinds and sizes of ncurses's
+answers      every call on every entry of the system (answers.c), run with each of the two
+             libraries; what differs is counted by class, and anything else fails
+sanitizers   the same calls under sanitizers, on a part of the entries
+errors       what setupterm and tgetent say of a terminal that they do not take (errors.c)
+directories  which of several entries of a name is taken
+damaged      damaged entries (damaged.c), under sanitizers
+bash, less, vim, tmux, zsh, fish, more
+             the program in a terminal, with each of the two libraries (screens.py)
+curses       a program of curses itself does not begin
+install      `make install-tinfo` puts everything into its place, and ti-run runs programs
+
+What is not installed is skipped, and said to be. The last line is
+`tinfo: N passed, M failed[, K skipped]`.
+"""
+
+import collections
+import os
+import re
+import shutil
+import subprocess
+import sys
+import tempfile
+import threading
+from concurrent.futures import ThreadPoolExecutor
+
+HERE = os.path.dirname(os.path.abspath(__file__))
+sys.path.insert(0, os.path.dirname(HERE))
+from common import ENTRY_DIRECTORIES, TOP, Skipped, Tally, entry_file, files_below, need  # noqa: E402
+import library  # noqa: E402
+import screens  # noqa: E402
+import tinfo  # noqa: E402
+
+ARCHIVE = os.path.join(TOP, "crates", "ti_c", "out", "libti_c.a")
+WARN = ["-Wall", "-Wextra", "-Wpedantic", "-Werror"]
+SANITIZE = ["-g", "-fsanitize=address,undefined", "-fno-sanitize-recover=all"]
+# how many processes compare entries, and how many programs are in terminals at once
+AT_ONCE = 4
+# sanitizers are run on each entry whose place in the list this divides
+PART = 6
+
+
+def run(words, **more):
+    """Runs a command. Gives its status and all that it wrote."""
+    more = {"stdin": subprocess.DEVNULL, "timeout": 300, **more}
+    if "input" in more:
+        del more["stdin"]
+    done = subprocess.run(words, stdout=subprocess.PIPE, stderr=subprocess.STDOUT, check=False, **more)
+    return done.returncode, done.stdout.decode(errors="replace")
+
+
+class Room:
+    """A directory with libti.so.1 and, below it, libtinfo.so.6, in which programs are compiled."""
+
+    def __init__(self, directory):
+        self.directory = directory
+        self.libraries = os.path.join(directory, "ti")
+        self.sanitized = os.path.join(directory, "sanitized")
+        self.lock = threading.Lock()
+
+    def path(self, name):
+        return os.path.join(self.directory, name)
+
+    def sanitized_library(self):
+        """The directory of a libtinfo.so.6 that is compiled for sanitizers."""
+        with self.lock:
+            if not os.path.isdir(self.sanitized):
+                tinfo.make(self.directory, self.sanitized, [*SANITIZE, "-U_FORTIFY_SOURCE"])
+        return self.sanitized
+
+    def compile(self, name, *words):
+        """Compiles a program for ncurses's library. Gives its path."""
+        status, _ = run([library.compiler(), "-E", "-x", "c", "-"], input=b"#include <term.h>\n")
+        if status:
+            raise Skipped("term.h is not installed")
+        program = self.path(f"{name}{len(words)}")
+        flags = ["-std=gnu99", "-O1", *WARN, *words]
+        status, said = run([library.compiler(), *flags, f"{HERE}/{name}.c", "-ltinfo", "-o", program])
+        if status:
+            raise AssertionError(f"{name}.c is not compiled: {said}")
+        return program
+
+
+def environment(libraries=None, **more):
+    """The environment, without what is said of the terminal, in which a library is found."""
+    dropped = re.compile("TERM|LINES$|COLUMNS$|LD_")
+    kept = {name: value for name, value in os.environ.items() if not dropped.match(name)}
+    return {**kept, **({"LD_LIBRARY_PATH": libraries} if libraries else {}), **more}
+
+
+def entries_of_system():
+    """The name of each entry of the system, that of the first file with the same bytes."""
+    found, seen = {}, set()
+    for directory in ENTRY_DIRECTORIES:
+        for path in files_below(directory):
+            name = os.path.basename(path)
+            with open(os.path.join(directory, path), "rb") as file:
+                content = file.read()
+            if name not in found and content not in seen:
+                found[name] = path
+                seen.add(content)
+    if not found:
+        raise Skipped("the system has no entries")
+    return sorted(found)
+
+
+# What is exported
+
+
+def symbols(path):
+    """The symbols that a library defines, by name: the kind, the size of data, the version."""
+    _, said = run(["objdump", "-T", path])
+    row = re.compile(r"^\S+ (?:g|l|w)\s+(D[OF])\s+(\S+)\t(\S+)\s+(?:\(?(\S+?)\)?\s+)?(\S+)$", re.M)
+    found = {}
+    for kind, section, size, version, name in row.findall(said):
+        if section not in ("*UND*", "*ABS*"):
+            found[name] = (kind, int(size, 16) if kind == "DO" else 0, version)
+    return found
+
+
+def system_library():
+    """The path of ncurses's library."""
+    _, said = run(["ldconfig", "-p"], env={"PATH": "/sbin:/usr/sbin:/bin:/usr/bin"})
+    found = re.search(r"libtinfo\.so\.6 .*=> (\S+)", said)
+    if not found:
+        raise Skipped("libtinfo.so.6 of ncurses is not installed")
+    return found[1]
+
+
+def check_symbols(room):
+    need("objdump")
+    ours, theirs = symbols(f"{room.libraries}/libtinfo.so.6"), symbols(system_library())
+    wanted = set(re.findall(r"(\w+);", open(f"{TOP}/tinfo/tinfo.map", encoding="utf-8").read()))
+    faults = [f"{name} is not exported, or is not to be" for name in wanted ^ set(ours)]
+    for name, what in ours.items():
+        # ncurses has restartterm in another library
+        if theirs.get(name, what) != what or (name not in theirs and name != "restartterm"):
+            faults.append(f"{name} is {what}, and ncurses's {theirs.get(name)}")
+    _, said = run(["readelf", "-d", "-W", f"{room.libraries}/libtinfo.so.6"])
+    needed = re.findall(r"NEEDED.*\[(.*)\]", said)
+    if sorted(needed) != ["libc.so.6", "libti.so.1"] or "[libtinfo.so.6]" not in said or "BIND_NOW" not in said:
+        faults.append(f"libtinfo.so.6: {said}")
+    print(f"    {len(ours)} symbols")
+    return faults
+
+
+# The answers
+
+
+def answers(program, names, libraries):
+    """What a program answers of each entry: its lines, by name."""
+    done = subprocess.run(
+        [program], input="".join(f"{name}\n" for name in names).encode(), stdout=subprocess.PIPE,
+        stderr=subprocess.PIPE, env=environment(libraries), check=False, timeout=300,
+    )
+    if done.returncode:
+        said = done.stderr.decode(errors="replace").splitlines()
+        raise AssertionError(f"{os.path.basename(program)}: status {done.returncode}, {said[-20:]}")
+    parts = done.stdout.decode(errors="replace").split("\nentry ")
+    found = {}
+    for part in parts:
+        name, _, lines = part.removeprefix("entry ").partition("\n")
+        found[name] = lines.split("\n")
+    return found
+
+
+def compare_entry(name, ours, theirs, counts):
+    """Compares the lines of an entry, and counts those that are alike or of a class. Gives what is
+    wrong."""
+    if ours == theirs:
+        counts["alike"] += len(ours)
+        return []
+    faults = [] if len(ours) == len(theirs) else [f"{name}: {len(ours)} lines, and ncurses's {len(theirs)}"]
+    strings = dict(line.split(" ", 2)[1:] for line in theirs if line.startswith("tigetstr ") and line.count(" ") == 2)
+    flags = {"has": theirs}
+    for one, other in zip(ours, theirs):
+        if one == other:
+            counts["alike"] += 1
+            continue
+        found = class_of(one, other, strings, flags)
+        counts[found or "unexplained"] += 1
+        if not found:
+            faults.append(f"{name}: {one[:300]}, and ncurses's {other[:300]}")
+    return faults
+
+
+def class_of(ours, theirs, strings, flags):
+    """The class of a difference, or None."""
+    return None
+
+
+def check_answers(room):
+    program = room.compile("answers")
+    names = entries_of_system()
+    parts = [names[at::AT_ONCE] for at in range(AT_ONCE)]
+    with ThreadPoolExecutor(2 * AT_ONCE) as pool:
+        theirs = [pool.submit(answers, program, part, None) for part in parts]
+        ours = [pool.submit(answers, program, part, room.libraries) for part in parts]
+    counts, faults = collections.Counter(), []
+    for one, other in zip(ours, theirs):
+        one, other = one.result(), other.result()
+        if list(one) != list(other):
+            faults.append("not the same entries")
+        for name in one:
+            faults += compare_entry(name, one[name], other[name], counts)
+    print(f"    {len(names)} entries: " + ", ".join(f"{counts[what]:,} {what}" for what in sorted(counts)))
+    return faults[:40]
+
+
+# Sanitizers
+
+
+def check_sanitizers(room):
+    names = entries_of_system()[::PART]
+    program = room.compile("answers", *SANITIZE)
+    parts = [names[at::AT_ONCE] for at in range(AT_ONCE)]
+    with ThreadPoolExecutor(AT_ONCE) as pool:
+        found = list(pool.map(lambda part: answers(program, part, room.sanitized_library()), parts))
+    print(f"    {sum(len(part) - 1 for part in found)} entries")
+    return []
+
+
+def check_damaged(room):
+    """Entries with and without user-defined capabilities; of the long one every so many bytes."""
+    program = room.compile("damaged", *SANITIZE)
+    cases = [(name, step) for name, step in (("dumb", 1), ("xterm-256color", 97), ("linux", 41)) if entry_file(name)]
+    if not cases:
+        raise Skipped("the system has no entries")
+
+    def damage(case):
+        name, step = case
+        place = os.path.join(room.path(f"damaged-{name}"), "d")
+        os.makedirs(place)
+        used = environment(room.sanitized_library(), TERMINFO=os.path.dirname(place))
+        words = [program, entry_file(name), "damaged", os.path.join(place, "damaged"), str(step)]
+        status, said = run(words, env=used)
+        print(f"    {name}: {said.strip().splitlines()[-1:]}")
+        return [f"{name}: status {status}"] + said.splitlines()[-20:] if status else []
+
+    with ThreadPoolExecutor(len(cases)) as pool:
+        return [fault for faults in pool.map(damage, cases) for fault in faults]
+
+
+# Terminals that are not taken, and where entries are looked for
+
+
+def both(room, words, **more):
+    """What a program writes with each of the two libraries, with its status."""
+    return [run(words, env=environment(where, **more)) for where in (room.libraries, None)]
+
+
+def check_errors(room):
+    program = room.compile("errors")
+    names = ["", "no-such", "a/b", "/etc/passwd", ".", "..", "du mb", "\u00e9", "x" * 512, "x" * 513, "x" * 10000]
+    names += [name for name in ("dumb", "lpr", "unknown", "dialup", "5620", "xterm-256color") if entry_file(name)]
+    faults, tried = [], 0
+    for how in ("ask", "end", "termcap"):
+        for name in [None, *names]:
+            more = {} if name is None else {"TERM": name}
+            for words in ([], [name]) if name else ([],):
+                tried += 1
+                ours, theirs = both(room, [program, how, *words], **more)
+                if ours != theirs:
+                    faults.append(f"{how}, TERM {str(name)[:40]}, words {len(words)}: {ours}, and ncurses's {theirs}")
+    print(f"    {tried} tried")
+    return faults
+
+
+def entry_of(name, cols):
+    """An entry with am, and a number of columns."""
+    names = f"{name}|for a test".encode() + b"\0"
+    head = b"".join(number.to_bytes(2, "little") for number in (0o432, len(names), 2, 1, 0, 0))
+    body = names + b"\0\1"
+    return head + body + b"\0" * (len(body) % 2) + cols.to_bytes(2, "little")
+
+
+def check_directories(room):
+    """Entries of one name with their directory's number of columns; `bad` has one that is none."""
+    program = room.compile("errors")
+    top = room.path("entries")
+    for cols, name in enumerate(("first", "second", "home/.terminfo", "third", "bad"), 101):
+        os.makedirs(f"{top}/{name}/t")
+        with open(f"{top}/{name}/t/test", "wb") as file:
+            file.write(b"no entry" if name == "bad" else entry_of("test", cols))
+    os.makedirs(f"{top}/odd/t/test")
+    places = lambda text: re.sub(r"(\w+)", rf"{top}/\1", text)
+    settings = [
+        {name: places(value) if name != "TERM" else value for name, value in row.items()}
+        for row in (
+            {"TERMINFO": "first"}, {"TERMINFO": "", "TERMINFO_DIRS": "second"}, {"TERMINFO": "none", "HOME": "home"},
+            {"TERMINFO": "first", "HOME": "home", "TERMINFO_DIRS": "second"}, {"HOME": "home", "TERMINFO_DIRS": "second"},
+            {"HOME": "none", "TERMINFO_DIRS": "none:second:third"}, {"HOME": "none", "TERMINFO_DIRS": ":second:"},
+            {"HOME": "none", "TERMINFO_DIRS": ":"}, {"HOME": "none", "TERMINFO_DIRS": ""}, {"HOME": "none"}, {"HOME": ""},
+            {"TERMINFO": "bad", "HOME": "home"}, {"HOME": "none", "TERMINFO_DIRS": "bad:third"}, {"TERMINFO": "bad"},
+            {"TERMINFO": "odd", "HOME": "home"}, {"HOME": "none", "TERMINFO_DIRS": "odd:none:bad"},
+        )
+    ]
+    faults, tried = [], 0
+    for row in settings:
+        for name in ("test", "dumb", "xterm"):
+            tried += 1
+            ours, theirs = both(room, [program, "ask", name], **{"HOME": "/", **row})
+            if ours != theirs:
+                faults.append(f"{name}, {row}: {ours}, and ncurses's {theirs}")
+    sizes = [{"LINES": "30"}, {"COLUMNS": "70"}, {"LINES": "0", "COLUMNS": "-1"}, {"LINES": "x", "COLUMNS": "7x"}]
+    for row in [*sizes, {"LINES": "40000", "COLUMNS": "99999999999999"}]:
+        tried += 1
+        ours, theirs = both(room, [program, "ask", "xterm"], **row)
+        if ours != theirs:
+            faults.append(f"{row}: {ours}, and ncurses's {theirs}")
+    print(f"    {tried} tried")
+    return faults
+
+
+# Programs
+
+
+def check_curses(room):
+    """Programs that need more than the library has: the loader says so, and nothing is run."""
+    programs = [name for name in ("tput", "infocmp", "nano", "dialog") if shutil.which(name)]
+    if not programs:
+        raise Skipped("no program of curses is installed")
+    faults = []
+    for name in programs:
+        status, said = run([name, "-V"], env=environment(room.libraries, LD_BIND_NOW="1"))
+        if status != 1 and status != 127 or "libtinfo.so.6" not in said or "ncurses 6" in said:
+            faults.append(f"{name} -V: status {status}, {said!r}")
+    return faults
+
+
+def check_install(room):
+    target = room.path("target")
+    built = f"LIBRARY={room.directory}"
+    words = ["make", "-s", "-C", TOP, f"DESTDIR={target}", "PREFIX=/opt/ti", "LIBDIR=/opt/ti/lib/x", built]
+    status, said = run([*words, "install-tinfo", "install-library"])
+    wanted = {"opt/ti/bin/ti-run", "opt/ti/lib/x/ti/libtinfo.so.6", "opt/ti/share/man/man1/ti-run.1"}
+    if status or said or not wanted <= set(files_below(target)):
+        return [f"installed: {files_below(target)}, {said}"]
+    faults = []
+    moved = room.path("moved")
+    os.rename(os.path.join(target, "opt", "ti"), moved)
+    ti_run = os.path.join(moved, "bin", "ti-run")
+    status, said = run([ti_run, "sh", "-c", "ldd $(command -v bash); exit 7"])
+    if status != 7 or f"{moved}/lib/x/ti/libtinfo.so.6" not in said or f"{moved}/lib/x/ti/../libti.so.1" not in said:
+        faults.append(f"ti-run: status {status}, {said}")
+    for given, wanted in (([], 2), (["--help"], 0), (["--no-such"], 2), (["no-such-program"], 127)):
+        status, said = run([ti_run, *given])
+        if status != wanted or not said:
+            faults.append(f"ti-run {given}: status {status}, {said!r}")
+    os.rename(moved, os.path.join(target, "opt", "ti"))
+    run([*words, "uninstall-tinfo", "uninstall-library"])
+    return faults + [f"left over: {name}" for name in files_below(target)]
+
+
+CASES = {
+    "symbols": check_symbols, "answers": check_answers, "sanitizers": check_sanitizers, "errors": check_errors,
+    "directories": check_directories, "damaged": check_damaged, "curses": check_curses, "install": check_install,
+}
+
+
+def check_programs(room, tally, names):
+    """The programs, several at once."""
+    def faults(name):
+        try:
+            return screens.faults(name, room.libraries)
+        except Skipped as why:
+            return why
+        except (OSError, subprocess.SubprocessError) as error:
+            return [str(error)]
+
+    with ThreadPoolExecutor(AT_ONCE) as pool:
+        for name, found in zip(names, pool.map(faults, names)):
+            if isinstance(found, Skipped):
+                tally.skip(name, found)
+            else:
+                tally.add(name, found)
+
+
+def main():
+    tally = Tally("tinfo")
+    for program in (library.compiler(), "objdump"):
+        if not shutil.which(program):
+            tally.skip("tinfo", f"{program} is not installed")
+            return tally.close()
+    if not os.path.exists(ARCHIVE):
+        print("crates/ti_c/out/libti_c.a is not built")
+        print("tinfo: 0 passed, 1 failed")
+        return 1
+    with tempfile.TemporaryDirectory(prefix="ti-tinfo-") as directory:
+        room = Room(directory)
+        library.make(ARCHIVE, directory)
+        tinfo.make(directory, room.libraries)
+        wanted = sys.argv[1:] or [*CASES, *screens.PROGRAMS]
+        for name in wanted:
+            if name in CASES:
+                check_case(room, tally, name)
+        check_programs(room, tally, [name for name in wanted if name in screens.PROGRAMS])
+    return tally.close()
+
+
+def check_case(room, tally, name):
+    try:
+        print(f"{name}:", flush=True)
+        tally.add(name, CASES[name](room))
+    except Skipped as why:
+        tally.skip(name, why)
+    except (AssertionError, OSError, subprocess.SubprocessError) as error:
+        tally.add(name, [str(error)])
+
+
+if __name__ == "__main__":
+    sys.exit(main())
