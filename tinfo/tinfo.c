@@ -540,27 +540,34 @@ static const char *by_number(const char *format, int count) {
     return buffer.bytes;
 }
 
+/* The answer for what is no format: a text without parameters is meant as it is; else nothing. */
+static char *answer_refused(struct buffer *buffer, const char *given, struct taken taken) {
+    const char *meant = taken.by_number ? "" : given;
+    return grow(buffer, strlen(meant) + 1) ? strcpy(buffer->bytes, meant) : NULL;
+}
+
 /*
- * Expands a format into a buffer that the next call uses again. A format that is refused gives an
- * empty text, since programs know no other answer; NULL if memory is refused.
+ * Expands a format into a buffer that the next call uses again. NULL if memory is refused, and not
+ * for what is no format, since programs do not look for it.
  */
-static char *expand(const char *format, struct taken taken, const struct ti_parameter *params) {
+static char *expand(const char *given, struct taken taken, const struct ti_parameter *params) {
     static struct buffer buffer;
     static struct ti_variables without_terminal;
     struct ti_variables *variables = cur_term ? &cur_term->variables : &without_terminal;
-    if (!taken.by_number && taken.count) format = by_number(format, taken.count);
+    const char *format = !taken.by_number && taken.count ? by_number(given, taken.count) : given;
     if (!format || !grow(&buffer, 256)) return NULL;
     struct ti_text text = ti_text_of(format);
-    struct ti_outcome outcome;
     for (;;) {
-        outcome = ti_expand(text.bytes, text.size, params, PARAMETERS, variables,
-                            (uint8_t *)buffer.bytes, buffer.room - 1);
-        if (outcome.status != TI_NO_ROOM) break;
-        if (!grow(&buffer, outcome.size + 1)) return NULL;
+        struct ti_outcome outcome = ti_expand(text.bytes, text.size, params, PARAMETERS, variables,
+                                              (uint8_t *)buffer.bytes, buffer.room - 1);
+        if (outcome.status == TI_BAD_FORMAT || outcome.status == TI_STACK_FULL)
+            return answer_refused(&buffer, given, taken);
+        if (outcome.status == TI_OK) {
+            buffer.bytes[outcome.size] = '\0';
+            return buffer.bytes;
+        }
+        if (outcome.status != TI_NO_ROOM || !grow(&buffer, outcome.size + 1)) return NULL;
     }
-    if (outcome.status == TI_NO_MEMORY) return NULL;
-    buffer.bytes[outcome.status == TI_OK ? outcome.size : 0] = '\0';
-    return buffer.bytes;
 }
 
 /* Expands a format for the arguments of a call, of which the numbers are long or int. */
@@ -607,7 +614,9 @@ static char *expand_two(const char *format, int first, int second) {
     return is_string(format) ? expand(format, taken_by(format), params) : NULL;
 }
 
+/* A format of more than two parameters is not for this call. */
 EXPORTED char *tgoto(const char *format, int column, int line) {
+    if (!is_string(format) || taken_by(format).count > 2) return NULL;
     return expand_two(format, line, column);
 }
 
@@ -679,6 +688,9 @@ EXPORTED int tputs(const char *given, int lines, int (*put)(int)) {
     struct ti_text text = ti_text_of(given);
     struct ti_line line = current_line();
     uint32_t affected = lines < 0 ? 0 : (uint32_t)lines;
+    /* what is to be seen or heard takes its time on any line */
+    if (cur_term && (given == string_at(STR_bel) || given == string_at(STR_flash)))
+        line.xon = false, line.pad_from = 0;
     if (cur_term && !line.has_pad_byte) return put_waiting(text, affected, line, put);
     size_t size = 0;
     uint8_t *bytes = padded(text, affected, &line, &size);
@@ -703,38 +715,104 @@ static bool is_same_user_code(const char *asked, const char *name) {
 
 static bool is_code(const char *asked) { return asked[0] && asked[1]; }
 
-/* The index of a code in a table, or -1. */
+/* The index of a code in a table, or -1: the last one, since "ML" is that of smglr. */
 static int code_index(const char *const *codes, const char *asked) {
+    int found = -1;
     for (int i = 0; codes[i]; i++)
-        if (is_same_code(asked, codes[i])) return i;
-    return -1;
+        if (is_same_code(asked, codes[i])) found = i;
+    return found;
+}
+
+/* The text after a delay `$<..>` and after what means 0 in a control sequence, if they are here. */
+static const char *after_delay(const char *at) {
+    const char *end = strncmp(at, "$<", 2) == 0 ? strchr(at, '>') : NULL;
+    return end ? end + 1 : at;
+}
+static const char *after_zero(const char *at) {
+    if (at[0] != '0' || (at[1] != ';' && at[1] != 'm')) return at;
+    return at + (at[1] == ';' ? 2 : 1);
+}
+
+/* Whether two texts do the same, though their delays and their zeros differ. */
+static bool do_same(const char *one, const char *other) {
+    char before = '\0';
+    for (;;) {
+        one = after_delay(one);
+        other = after_delay(other);
+        if (*one != *other) return false;
+        if (!*one) return true;
+        bool is_introducer = *one == '\233' || (before == '\033' && *one == '[');
+        before = *one++;
+        other++;
+        if (is_introducer) one = after_zero(one), other = after_zero(other);
+    }
+}
+
+static void drop(char *at, size_t count) { memmove(at, at + count, strlen(at + count) + 1); }
+
+/*
+ * Takes out of a text what turns the alternate character set off: rmacs without its delay, or a
+ * last parameter 10 that chooses the first font. False if neither is there, or nothing else.
+ */
+static bool drop_rmacs(char *text, const char *rmacs) {
+    static const char font[] = ";10m";
+    enum { FONT_SIZE = sizeof font - 1 };
+    const char *delay = strstr(rmacs, "$<");
+    size_t size = strlen(text), bare = delay ? (size_t)(delay - rmacs) : strlen(rmacs);
+    char *found = (char *)memmem(text, size, rmacs, bare);
+    if (bare && found && bare < size) {
+        drop(found, bare);
+        return true;
+    }
+    bool is_sequence = *text == '\233' || strncmp(text, "\033[", 2) == 0;
+    if (!is_sequence || size <= FONT_SIZE || strcmp(text + size - FONT_SIZE, font) != 0) return false;
+    drop(text + size - FONT_SIZE, FONT_SIZE - 1);
+    return true;
 }
 
 /*
- * "me" of termcap leaves the character set as it is: what sgr sends for no attribute, without
- * rmacs. NULL if that is no other text than sgr0.
+ * "me" of termcap leaves the character set as it is, and sgr0 does not: it is what sgr sends for no
+ * attribute, without rmacs, if sgr0 does the same. NULL if sgr0 itself is to be taken.
  */
 static char *sgr0_without_acs(void) {
     char *sgr0 = string_at(STR_sgr0), *sgr = string_at(STR_sgr), *rmacs = string_at(STR_rmacs);
-    if (!sgr0 || !rmacs || !*rmacs) return NULL;
-    char *off = sgr ? expand_two(sgr, 0, 0) : sgr0;
-    char *found = off ? strstr(off, rmacs) : NULL;
-    if (!found || strlen(off) == strlen(rmacs)) return NULL;
-    char *made = (char *)malloc(strlen(off) + 1);
-    if (!made) return NULL;
-    char *end = (char *)memcpy(made, off, (size_t)(found - off)) + (found - off);
-    strcpy(end, found + strlen(rmacs));
+    if (!sgr0 || !sgr || !rmacs || !string_at(STR_smacs)) return NULL;
+    char *off = expand_two(sgr, 0, 0), *made = off ? strdup(off) : NULL, *end = strdup(sgr0);
+    bool is_found = made && end && drop_rmacs(made, rmacs);
+    if (is_found) drop_rmacs(end, rmacs);
+    if (!is_found || !do_same(made, end)) {
+        free(made);
+        made = NULL;
+    }
+    free(end);
     return made;
+}
+
+/* Moves a string to the obsolete capability that termcap has for it, unless that is there. */
+static void move_string(int from, int to) {
+    char **strings = cur_term->type.Strings;
+    if (!strings[from] || strings[to]) return;
+    strings[to] = strings[from];
+    strings[from] = NULL;
+}
+
+/* Gives the current terminal what only termcap has, of what terminfo says in other words. */
+static void set_obsolete(void) {
+    TERMTYPE *type = &cur_term->type;
+    char *left = string_at(STR_cub1), *newline = string_at(STR_nel);
+    bool is_backspace = left && strcmp(left, "\b") == 0;
+    if (left) type->Booleans[BOOL_OTbs] = is_backspace;
+    if (left && !is_backspace) type->Strings[STR_OTbc] = left;
+    type->Booleans[BOOL_OTNL] = newline && strcmp(newline, "\n") == 0;
+    move_string(STR_is3, STR_OTi2);
+    if (!string_at(STR_rs1) && !string_at(STR_rs3)) move_string(STR_rs2, STR_OTrs);
+    int *underline = &cur_term->numbers[NUM_OTug];
+    if (*underline < 0 && string_at(STR_smul)) *underline = cur_term->numbers[NUM_xmc];
 }
 
 /* What termcap has as variables, and what it changes of a terminal. */
 static void set_termcap(void) {
-    char *left = string_at(STR_cub1);
-    if (left) {
-        bool is_backspace = strcmp(left, "\b") == 0;
-        cur_term->type.Booleans[BOOL_OTbs] = is_backspace;
-        if (!is_backspace) cur_term->type.Strings[STR_OTbc] = left;
-    }
+    set_obsolete();
     UP = string_at(STR_cuu1);
     BC = string_at(STR_OTbc);
     cur_term->without_acs = sgr0_without_acs();

@@ -33,7 +33,7 @@ from concurrent.futures import ThreadPoolExecutor
 
 HERE = os.path.dirname(os.path.abspath(__file__))
 sys.path.insert(0, os.path.dirname(HERE))
-from common import ENTRY_DIRECTORIES, TOP, Skipped, Tally, entry_file, files_below, need  # noqa: E402
+from common import ENTRY_DIRECTORIES, TOP, Skipped, Tally, entry_file, files_below, need, text_of  # noqa: E402
 import library  # noqa: E402
 import screens  # noqa: E402
 import tinfo  # noqa: E402
@@ -137,7 +137,7 @@ def system_library():
 def check_symbols(room):
     need("objdump")
     ours, theirs = symbols(f"{room.libraries}/libtinfo.so.6"), symbols(system_library())
-    wanted = set(re.findall(r"(\w+);", open(f"{TOP}/tinfo/tinfo.map", encoding="utf-8").read()))
+    wanted = set(re.findall(r"([A-Za-z]\w*);", text_of("tinfo", "tinfo.map")))
     faults = [f"{name} is not exported, or is not to be" for name in wanted ^ set(ours)]
     for name, what in ours.items():
         # ncurses has restartterm in another library
@@ -171,29 +171,80 @@ def answers(program, names, libraries):
     return found
 
 
+class Entry:
+    """What is known of an entry from ncurses's lines."""
+
+    def __init__(self, lines):
+        rows = [line.split(" ", 2) for line in lines]
+        told = {(row[0], row[1]): row[2] for row in rows if len(row) == 3 and row[0] in ("tigetstr", "tigetflag", "tigetnum")}
+        self.strings = {name: text for (call, name), text in told.items() if call == "tigetstr"}
+        flags, numbers = told.get(("tigetflag", "all"), ""), told.get(("tigetnum", "all"), "").split()
+        # whether delays depend on the line: by its booleans (xon) and its numbers (pb)
+        self.is_xon = flags[20:21] == "1" or numbers[5:6] > ["0"]
+
+
+TPUTS = re.compile(r"tputs (\S+)@\d+@(\d+) (\S+) waited (\d+) pads (\d+) (.*)$")
+# the bytes that a line takes in a millisecond, by the code of its speed
+BYTES = {"0": 0, "9": 0.24, "15": 3.84}
+EXPANSION = re.compile(r"(?:tparm|tiparm|tgoto) (\S+)@\d+ (.*)$")
+# what ncurses takes for a delay and libti for text, and the other way round
+ODD_DELAY = re.compile(r"\$<\.|\$\$<|\$<[0-9]*\.[0-9]{2}|\*\*")
+
+
+def padding_class(ours, theirs, entry):
+    """The class of a difference of tputs, or None."""
+    one, other = TPUTS.match(ours), TPUTS.match(theirs)
+    text = entry.strings[one[1]]
+    if ODD_DELAY.search(text):
+        return "delays that one reads as text"
+    if one.group(1, 2, 3, 4, 6) != other.group(1, 2, 3, 4, 6):
+        return None
+    pads, wanted = int(one[5]), int(other[5])
+    # a byte has ten bits and not nine; of each delay both round, and ncurses drops its tenths
+    if abs(pads - 0.9 * wanted) < text.count("$<") * (2 + BYTES[one[2]]):
+        return "pads that are rounded"
+    return "pads that xon or pb spares" if entry.is_xon and pads < wanted else None
+
+
+def expansion_class(ours, theirs, entry):
+    """The class of a difference of tparm, tiparm or tgoto, or None."""
+    one, other = EXPANSION.match(ours), EXPANSION.match(theirs)
+    if not one or not other or one[1] != other[1]:
+        return None
+    text = entry.strings[one[1]]
+    if one[2] == (text if "%p" not in text else '""'):
+        return "malformed formats"
+    if "%p" not in text and "%i" in text:
+        return "formats of termcap with %i"
+    return "formats with two %i" if text.count("%i") > 1 else None
+
+
+def class_of(ours, theirs, entry):
+    """The class of a difference, or None."""
+    call = ours.partition(" ")[0]
+    if ours.startswith("tgetstr me "):
+        return "me of entries in which sgr and sgr0 differ" if {"sgr", "sgr0"} <= set(entry.strings) else None
+    if ours.startswith("type Numbers"):
+        return "cancelled numbers" if theirs.replace(" -2", " -1") == ours else None
+    if call == "tputs":
+        return padding_class(ours, theirs, entry)
+    return expansion_class(ours, theirs, entry) if call in ("tparm", "tiparm", "tgoto") else None
+
+
 def compare_entry(name, ours, theirs, counts):
     """Compares the lines of an entry, and counts those that are alike or of a class. Gives what is
     wrong."""
     if ours == theirs:
         counts["alike"] += len(ours)
         return []
+    entry = Entry(theirs)
     faults = [] if len(ours) == len(theirs) else [f"{name}: {len(ours)} lines, and ncurses's {len(theirs)}"]
-    strings = dict(line.split(" ", 2)[1:] for line in theirs if line.startswith("tigetstr ") and line.count(" ") == 2)
-    flags = {"has": theirs}
     for one, other in zip(ours, theirs):
-        if one == other:
-            counts["alike"] += 1
-            continue
-        found = class_of(one, other, strings, flags)
+        found = "alike" if one == other else class_of(one, other, entry)
         counts[found or "unexplained"] += 1
         if not found:
             faults.append(f"{name}: {one[:300]}, and ncurses's {other[:300]}")
     return faults
-
-
-def class_of(ours, theirs, strings, flags):
-    """The class of a difference, or None."""
-    return None
 
 
 def check_answers(room):
