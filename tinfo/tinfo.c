@@ -71,6 +71,42 @@ static char *string_at(int index) { return cur_term->type.Strings[index]; }
 
 static bool is_string(const char *text) { return text && text != CANCELLED; }
 
+/* ---- ti-run(1) */
+
+extern char **environ;
+
+/* What a line of the environment gives a variable, or NULL if it is of another one. */
+static char *value_in(char *line, const char *name) {
+    size_t size = strlen(name);
+    return strncmp(line, name, size) == 0 && line[size] == '=' ? line + size + 1 : NULL;
+}
+
+/* Takes what ti-run has said out of a line of the environment. Gives whether nothing is left. */
+static bool is_ours_alone(char *line, const char *directory) {
+    if (value_in(line, "TI_RUN") || value_in(line, "LD_BIND_NOW")) return true;
+    char *path = value_in(line, "LD_LIBRARY_PATH");
+    size_t size = strlen(directory);
+    if (!path || strncmp(path, directory, size) != 0) return false;
+    if (!path[size]) return true;
+    if (path[size] == ':') memmove(path, path + size + 1, strlen(path + size + 1) + 1);
+    return false;
+}
+
+/*
+ * ti-run is for one program: once the library is taken, those that the program starts find the
+ * system's again, since a program of curses would not begin with this one. The environment is
+ * looked at by itself: bash has a getenv of its own, which is not ready yet.
+ */
+__attribute__((constructor)) static void leave_to_others(void) {
+    const char *directory = NULL;
+    for (char **at = environ; at && *at && !directory; at++) directory = value_in(*at, "TI_RUN");
+    if (!directory) return;
+    char **kept = environ;
+    for (char **at = environ; *at; at++)
+        if (!is_ours_alone(*at, directory)) *kept++ = *at;
+    *kept = NULL;
+}
+
 /* ---- User-defined capabilities: ti.h does not give them yet. term(5), "Extended Storage" */
 
 /* The part of an entry with them. */
@@ -276,7 +312,7 @@ static int size_of_variable(const char *name) {
     char *end = NULL;
     if (!value || !*value) return 0;
     long number = strtol(value, &end, 0);
-    return *end || number <= 0 || number > SHRT_MAX ? 0 : (int)number;
+    return *end || number <= 0 || number > INT_MAX ? 0 : (int)number;
 }
 
 /* The size of the screen: of the environment, the window, the entry, or 24 by 80. */

@@ -57,13 +57,26 @@ def run(words, **more):
 
 
 class Room:
-    """A directory with libti.so.1 and, below it, libtinfo.so.6, in which programs are compiled."""
+    """A directory with the libraries, also as they are installed, in which programs are compiled."""
 
     def __init__(self, directory):
         self.directory = directory
-        self.libraries = os.path.join(directory, "ti")
         self.sanitized = os.path.join(directory, "sanitized")
+        self.libraries = os.path.join(directory, "installed", "lib", "ti")
+        self.ti_run = os.path.join(directory, "installed", "bin", "ti-run")
         self.lock = threading.Lock()
+
+    def make(self):
+        """Makes the libraries, and installs them."""
+        library.make(ARCHIVE, self.directory)
+        tinfo.make(self.directory, self.path("ti"))
+        self.install("install-library", "install-tinfo", f"PREFIX={self.path('installed')}")
+
+    def install(self, *words):
+        """Runs make for what is made here."""
+        status, said = run(["make", "-s", "-C", TOP, f"LIBRARY={self.directory}", *words])
+        if status or said:
+            raise AssertionError(f"make {words}: status {status}, {said}")
 
     def path(self, name):
         return os.path.join(self.directory, name)
@@ -380,34 +393,46 @@ def check_curses(room):
         raise Skipped("no program of curses is installed")
     faults = []
     for name in programs:
-        status, said = run([name, "-V"], env=environment(room.libraries, LD_BIND_NOW="1"))
+        status, said = run([room.ti_run, name, "-V"], env=environment())
         if status != 1 and status != 127 or "libtinfo.so.6" not in said or "ncurses 6" in said:
             faults.append(f"{name} -V: status {status}, {said!r}")
     return faults
 
 
 def check_install(room):
+    """What is installed can be moved, and is all taken away again."""
     target = room.path("target")
-    built = f"LIBRARY={room.directory}"
-    words = ["make", "-s", "-C", TOP, f"DESTDIR={target}", "PREFIX=/opt/ti", "LIBDIR=/opt/ti/lib/x", built]
-    status, said = run([*words, "install-tinfo", "install-library"])
+    words = [f"DESTDIR={target}", "PREFIX=/opt/ti", "LIBDIR=/opt/ti/lib/x"]
+    room.install("install-library", "install-tinfo", *words)
     wanted = {"opt/ti/bin/ti-run", "opt/ti/lib/x/ti/libtinfo.so.6", "opt/ti/share/man/man1/ti-run.1"}
-    if status or said or not wanted <= set(files_below(target)):
-        return [f"installed: {files_below(target)}, {said}"]
-    faults = []
+    if not wanted <= set(files_below(target)):
+        return [f"installed: {files_below(target)}"]
     moved = room.path("moved")
     os.rename(os.path.join(target, "opt", "ti"), moved)
-    ti_run = os.path.join(moved, "bin", "ti-run")
-    status, said = run([ti_run, "sh", "-c", "ldd $(command -v bash); exit 7"])
-    if status != 7 or f"{moved}/lib/x/ti/libtinfo.so.6" not in said or f"{moved}/lib/x/ti/../libti.so.1" not in said:
+    faults = run_faults(moved)
+    os.rename(moved, os.path.join(target, "opt", "ti"))
+    room.install("uninstall-tinfo", "uninstall-library", *words)
+    return faults + [f"left over: {name}" for name in files_below(target)]
+
+
+def run_faults(installed):
+    """What is wrong with the ti-run of a directory."""
+    ti_run, faults = os.path.join(installed, "bin", "ti-run"), []
+    status, said = run([ti_run, "bash", "-c", "cat /proc/$$/maps; exit 7"], env=environment())
+    libraries = ["lib/x/ti/libtinfo.so.6", "lib/x/libti.so.1"]
+    if status != 7 or not all(f" {installed}/{name}\n" in said for name in libraries):
         faults.append(f"ti-run: status {status}, {said}")
+    # what a program on the library starts has the environment as it was
+    for more in ({}, {"LD_LIBRARY_PATH": "/no-such:/none"}):
+        words = ["bash", "-c", "grep -c /ti/libtinfo /proc/$$/maps >/dev/null && env | grep -E '^(LD|TI)_'"]
+        status, said = run([ti_run, *words], env=environment(None, **more))
+        if said != "".join(f"{name}={value}\n" for name, value in more.items()) or status != (0 if more else 1):
+            faults.append(f"ti-run bash with {more}: status {status}, {said!r}")
     for given, wanted in (([], 2), (["--help"], 0), (["--no-such"], 2), (["no-such-program"], 127)):
         status, said = run([ti_run, *given])
         if status != wanted or not said:
             faults.append(f"ti-run {given}: status {status}, {said!r}")
-    os.rename(moved, os.path.join(target, "opt", "ti"))
-    run([*words, "uninstall-tinfo", "uninstall-library"])
-    return faults + [f"left over: {name}" for name in files_below(target)]
+    return faults
 
 
 CASES = {
@@ -420,7 +445,7 @@ def check_programs(room, tally, names):
     """The programs, several at once."""
     def faults(name):
         try:
-            return screens.faults(name, room.libraries)
+            return screens.faults(name, room)
         except Skipped as why:
             return why
         except (OSError, subprocess.SubprocessError) as error:
@@ -446,8 +471,7 @@ def main():
         return 1
     with tempfile.TemporaryDirectory(prefix="ti-tinfo-") as directory:
         room = Room(directory)
-        library.make(ARCHIVE, directory)
-        tinfo.make(directory, room.libraries)
+        room.make()
         wanted = sys.argv[1:] or [*CASES, *screens.PROGRAMS]
         for name in wanted:
             if name in CASES:

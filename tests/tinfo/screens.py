@@ -47,7 +47,7 @@ TMUX_CONF = "set -g status-right ''\nset -g status-interval 0\nset -g default-te
 class Screen:
     """A program in a terminal, in a directory of its own."""
 
-    def __init__(self, command, term, libraries):
+    def __init__(self, command, term, ti_run):
         self.directory = tempfile.mkdtemp(prefix="ti-tinfo-")
         # directories of the same name, since programs show them
         here = os.path.join(self.directory, "here")
@@ -59,13 +59,11 @@ class Screen:
             "LC_ALL": "C.UTF-8", "HOME": ".", "PATH": "/usr/bin:/bin", "TERM": term, "LESSHISTFILE": "-", "PS1": "$ ",
             "HISTFILE": "", "SHELL": "/bin/sh",
         }
-        if libraries:
-            variables.update(LD_LIBRARY_PATH=libraries, LD_BIND_NOW="1")
         words = " ".join(f"{name}='{value}'" for name, value in variables.items())
         self.tmux = ["tmux", "-S", os.path.join(self.directory, "outer"), "-f", "/dev/null"]
         self.written = os.path.join(self.directory, "written")
         # it waits until what it writes is recorded
-        script = f"read go; clear=; stty sane; exec env -i {words} {command}"
+        script = f"read go; clear=; stty sane; exec env -i {words} {ti_run} {command}"
         self.run("new-session", "-d", "-x", "80", "-y", "24", "-c", here, f"exec sh -c \"{script}\"")
         self.run("set-option", "-g", "remain-on-exit", "on")
         self.run("pipe-pane", "-o", f"exec cat >>{self.written}")
@@ -113,11 +111,12 @@ class Screen:
 
 
 class Run:
-    """What a run of a program showed and wrote, and the libraries that it took."""
+    """What a run of a program showed and wrote, and the libraries that it took; by ti-run, or with
+    ncurses's library if that is empty."""
 
-    def __init__(self, name, term, libraries, quiet):
+    def __init__(self, name, term, ti_run, quiet):
         command, keys = PROGRAMS[name]
-        screen = Screen(command, term, libraries)
+        screen = Screen(command, term, ti_run)
         try:
             self.screens = [screen.settled(3 * quiet)]
             self.libraries = screen.libraries()
@@ -137,12 +136,12 @@ def difference(name, term, ours, theirs):
     return None
 
 
-def compare(name, term, libraries):
+def compare(name, term, room):
     """What is wrong with a program on a terminal, and whether its bytes were compared."""
     for quiet in (0.15, 0.6, 2):
         with ThreadPoolExecutor(3) as pool:
-            run = lambda where: Run(name, term, where, quiet)
-            ours, theirs, again = pool.map(run, [libraries, None, None])
+            run = lambda ti_run: Run(name, term, ti_run, quiet)
+            ours, theirs, again = pool.map(run, [room.ti_run, "", ""])
         wrong = difference(name, term, ours, theirs)
         repeats = theirs.written == again.written
         if not wrong and (not repeats or ours.written == theirs.written):
@@ -150,19 +149,19 @@ def compare(name, term, libraries):
     # the screens have to show that the keys were taken
     if len({*ours.screens}) < 4:
         wrong = f"{name} on {term} shows too little: {ours.screens}"
-    if not all(path.startswith(libraries) for path in ours.libraries) or not ours.libraries:
+    if ours.libraries != {f"{room.libraries}/libtinfo.so.6"}:
         wrong = f"{name} has loaded {ours.libraries}"
     if not wrong and repeats and ours.written != theirs.written:
         wrong = f"{name} on {term} writes {ours.written!r}, and with ncurses's {theirs.written!r}"
     return wrong, repeats
 
 
-def faults(name, libraries):
+def faults(name, room):
     """What is wrong with a program, on each terminal; says how much was compared."""
     need(name)
     need("tmux")
     with ThreadPoolExecutor(len(TERMS)) as pool:
-        found = list(pool.map(lambda term: compare(name, term, libraries), TERMS))
+        found = list(pool.map(lambda term: compare(name, term, room), TERMS))
     screens = len(TERMS) * (len(PROGRAMS[name][1]) + 1)
     repeating = [term for term, (_, repeats) in zip(TERMS, found) if repeats]
     print(f"    {name}: {screens} screens, and the bytes on {', '.join(repeating) or 'no terminal'}")
