@@ -446,7 +446,7 @@ EXPORTED int setupterm(const char *name, int fd, int *result) {
     TERMINAL *terminal = terminal_of(entry, fd);
     if (!terminal) {
         ti_entry_free(entry);
-        return refuse(result, IS_REFUSED, NULL, "Not enough memory to create terminal structure.");
+        return refuse(result, IS_REFUSED, NULL, "out of memory.");
     }
     terminal->speed = speed_of(fd);
     set_curterm(terminal);
