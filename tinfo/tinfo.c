@@ -1,14 +1,17 @@
 /*
- * The calls of libtinfo over libti: what a program asks of its terminal by setupterm(3x) and
+ * The calls of libtinfo over libti: what a program asks of its terminal by terminfo(3x) and
  * termcap(3x), under the names, types and symbol versions of ncurses's libtinfo.so.6, so that
- * programs that are built for that run on libti unchanged (tinfo/tinfo.map has the symbols). It
- * is C over ti.h, and is tested (tests/tinfo) and not proved. libti reads the entries, expands and
- * pads; here is what these calls keep between them. Two parts do what ti.h does not give yet, and
- * say so: "User-defined capabilities" and "Directories"; and so does `taken_by`.
+ * programs that are built for that run on libti unchanged. tinfo.map has the symbols.
  *
- * As in ncurses there is one current terminal, and no call may run in two threads at once.
+ * This file is C over ti.h. It is tested (tests/tinfo) and not proved. libti reads entries, finds
+ * capabilities, expands and pads; what is here is the current terminal, the types of C, and what
+ * ti.h does not give yet. Each place that does the latter says so: "User-defined capabilities",
+ * "Directories", `taken_by` and `put_waiting`. names.h, which build/tinfo.py writes, has the tables
+ * of names.
+ *
+ * As in ncurses there is one current terminal, and no two threads may call at once.
  */
-#define _GNU_SOURCE /* for secure_getenv */
+#define _GNU_SOURCE /* for secure_getenv and memmem */
 #include "ti.h"
 #include "names.h"
 
@@ -210,18 +213,23 @@ static int user_string(const char *asked, same_name *same) {
 
 /* ---- Directories: those of Debian's ncurses, which ti.h does not give yet */
 
-static const char *const SYSTEM[] = { "/etc/terminfo", "/lib/terminfo", "/usr/share/terminfo" };
-enum { SYSTEM_COUNT = sizeof SYSTEM / sizeof SYSTEM[0] };
+static const char *const system_directories[] = {
+    "/etc/terminfo", "/lib/terminfo", "/usr/share/terminfo", NULL,
+};
 
-/* Reads a regular file. Gives its bytes, which are to be given to free, or NULL. */
+/*
+ * Reads a regular file, but no more than one byte over ENTRY_MAX. Gives its bytes, which are to be
+ * given to free, or NULL.
+ */
 static uint8_t *read_file(const char *path, size_t *size) {
+    enum { ROOM = ENTRY_MAX + 1 };
     int file = open(path, O_RDONLY | O_CLOEXEC | O_NOCTTY | O_NONBLOCK);
     if (file < 0) return NULL;
     struct stat found;
     bool is_good = fstat(file, &found) == 0 && S_ISREG(found.st_mode);
-    uint8_t *bytes = is_good ? (uint8_t *)malloc(ENTRY_MAX) : NULL;
-    for (*size = 0; bytes && *size < ENTRY_MAX;) {
-        ssize_t count = read(file, bytes + *size, ENTRY_MAX - *size);
+    uint8_t *bytes = is_good ? (uint8_t *)malloc(ROOM) : NULL;
+    for (*size = 0; bytes && *size < ROOM;) {
+        ssize_t count = read(file, bytes + *size, ROOM - *size);
         if (count == 0 || (count < 0 && errno != EINTR)) break;
         if (count > 0) *size += (size_t)count;
     }
@@ -237,14 +245,15 @@ static struct ti_entry *entry_below(struct ti_text dir, struct ti_text name) {
     struct ti_outcome outcome = ti_path(dir.bytes, dir.size, name.bytes, name.size,
                                         (uint8_t *)path, sizeof path);
     uint8_t *bytes = outcome.status == TI_OK ? read_file(path, &size) : NULL;
-    if (bytes && ti_entry_new(bytes, size, &entry)) entry = NULL;
+    if (bytes && (size > ENTRY_MAX || ti_entry_new(bytes, size, &entry))) entry = NULL;
     free(bytes);
     return entry;
 }
 
 static struct ti_entry *entry_of_system(struct ti_text name) {
     struct ti_entry *entry = NULL;
-    for (int i = 0; i < SYSTEM_COUNT && !entry; i++) entry = entry_below(ti_text_of(SYSTEM[i]), name);
+    for (const char *const *dir = system_directories; *dir && !entry; dir++)
+        entry = entry_below(ti_text_of(*dir), name);
     return entry;
 }
 
@@ -282,7 +291,7 @@ static struct ti_entry *entry_named(const char *given) {
 static const struct {
     speed_t code;
     uint32_t rate;
-} SPEEDS[] = {
+} speeds[] = {
     { B50, 50 }, { B75, 75 }, { B110, 110 }, { B134, 134 }, { B150, 150 }, { B200, 200 },
     { B300, 300 }, { B600, 600 }, { B1200, 1200 }, { B1800, 1800 }, { B2400, 2400 },
     { B4800, 4800 }, { B9600, 9600 }, { B19200, 19200 }, { B38400, 38400 }, { B57600, 57600 },
@@ -294,8 +303,8 @@ static const struct {
 
 /* The bits per second of a code of termios(3), as in ospeed; 0 if there is no such code. */
 static uint32_t rate_of(short code) {
-    for (size_t i = 0; i < sizeof SPEEDS / sizeof SPEEDS[0]; i++)
-        if (SPEEDS[i].code == (speed_t)code) return SPEEDS[i].rate;
+    for (size_t i = 0; i < sizeof speeds / sizeof speeds[0]; i++)
+        if (speeds[i].code == (speed_t)code) return speeds[i].rate;
     return 0;
 }
 
@@ -667,16 +676,30 @@ static struct ti_line current_line(void) {
     return line;
 }
 
-/* What ti_pad makes of a text, in a buffer of its own, which is to be given to free; or NULL. */
-static uint8_t *padded(struct ti_text text, uint32_t lines, const struct ti_line *line,
-                       size_t *size) {
-    uint8_t none = 0;
-    struct ti_outcome outcome = ti_pad(text.bytes, text.size, lines, line, &none, 0);
-    if (outcome.status != TI_OK && outcome.status != TI_NO_ROOM) return NULL;
-    *size = outcome.size;
-    uint8_t *bytes = (uint8_t *)malloc(outcome.size + 1);
-    if (bytes) ti_pad(text.bytes, text.size, lines, line, bytes, *size);
-    return bytes;
+/* What ti_pad makes of a text. */
+struct padded {
+    uint8_t *bytes, small[1024];
+    size_t size;
+};
+
+/* Pads a text. If that fails it is false; else what was made is to be given to drop_padded. */
+static bool pad(struct padded *made, struct ti_text text, uint32_t lines,
+                const struct ti_line *line) {
+    made->bytes = made->small;
+    struct ti_outcome outcome =
+        ti_pad(text.bytes, text.size, lines, line, made->small, sizeof made->small);
+    made->size = outcome.size;
+    if (outcome.status != TI_NO_ROOM) return outcome.status == TI_OK;
+    made->bytes = (uint8_t *)malloc(made->size);
+    if (!made->bytes) return false;
+    outcome = ti_pad(text.bytes, text.size, lines, line, made->bytes, made->size);
+    if (outcome.status == TI_OK) return true;
+    free(made->bytes);
+    return false;
+}
+
+static void drop_padded(struct padded *made) {
+    if (made->bytes != made->small) free(made->bytes);
 }
 
 /* A byte that a text does not have; 0, which no text of C has. */
@@ -684,6 +707,7 @@ enum { MARK = 0 };
 /* At this rate a pad byte takes a tenth of a millisecond. */
 enum { TENTHS_RATE = 100000, TENTHS_A_SECOND = 10000 };
 
+/* Waits, once what was written is on its way. */
 static void wait_for(size_t tenths) {
     struct timespec left = { (time_t)(tenths / TENTHS_A_SECOND),
                              (long)(tenths % TENTHS_A_SECOND) * 100000 };
@@ -694,28 +718,29 @@ static void wait_for(size_t tenths) {
 
 /*
  * Hands over a text for a terminal without a pad byte (`npc`), and waits at each delay. ti.h does
- * not give delays, but the pad bytes of a line of TENTHS_RATE are them.
+ * not give delays, but the pad bytes of a line of TENTHS_RATE are them. False if they are too many.
  */
-static int put_waiting(struct ti_text text, uint32_t lines, struct ti_line line, int (*put)(int)) {
+static bool put_waiting(struct ti_text text, uint32_t lines, struct ti_line line, int (*put)(int)) {
     line.xon = line.xon || line.rate < line.pad_from;
     line.pad_from = 0;
     line.rate = TENTHS_RATE;
     line.has_pad_byte = true;
     line.pad_byte = MARK;
-    size_t size = 0, tenths = 0;
-    uint8_t *bytes = padded(text, lines, &line, &size);
-    if (!bytes) return ERR;
-    for (size_t i = 0; i < size; i++) {
-        if (bytes[i] == MARK) tenths++;
-        else {
-            wait_for(tenths);
-            tenths = 0;
-            put(bytes[i]);
+    struct padded made;
+    size_t tenths = 0;
+    if (!pad(&made, text, lines, &line)) return false;
+    for (size_t i = 0; i < made.size; i++) {
+        if (made.bytes[i] == MARK) {
+            tenths++;
+            continue;
         }
+        wait_for(tenths);
+        tenths = 0;
+        put(made.bytes[i]);
     }
-    free(bytes);
+    drop_padded(&made);
     wait_for(tenths);
-    return OK;
+    return true;
 }
 
 /* The answer of `put` is not looked at: programs let it give anything. */
@@ -723,16 +748,15 @@ EXPORTED int tputs(const char *given, int lines, int (*put)(int)) {
     if (!is_string(given)) return ERR;
     struct ti_text text = ti_text_of(given);
     struct ti_line line = current_line();
+    struct padded made;
     uint32_t affected = lines < 0 ? 0 : (uint32_t)lines;
     /* what is to be seen or heard takes its time on any line */
     if (cur_term && (given == string_at(STR_bel) || given == string_at(STR_flash)))
         line.xon = false, line.pad_from = 0;
-    if (cur_term && !line.has_pad_byte) return put_waiting(text, affected, line, put);
-    size_t size = 0;
-    uint8_t *bytes = padded(text, affected, &line, &size);
-    if (!bytes) return ERR;
-    for (size_t i = 0; i < size; i++) put(bytes[i]);
-    free(bytes);
+    if (cur_term && !line.has_pad_byte && put_waiting(text, affected, line, put)) return OK;
+    if (!pad(&made, text, affected, &line)) return ERR;
+    for (size_t i = 0; i < made.size; i++) put(made.bytes[i]);
+    drop_padded(&made);
     return OK;
 }
 
@@ -801,8 +825,10 @@ static bool drop_rmacs(char *text, const char *rmacs) {
         return true;
     }
     bool is_sequence = *text == '\233' || strncmp(text, "\033[", 2) == 0;
-    if (!is_sequence || size <= FONT_SIZE || strcmp(text + size - FONT_SIZE, font) != 0) return false;
-    drop(text + size - FONT_SIZE, FONT_SIZE - 1);
+    if (!is_sequence || size <= FONT_SIZE) return false;
+    char *last = text + size - FONT_SIZE;
+    if (strcmp(last, font) != 0) return false;
+    drop(last, FONT_SIZE - 1);
     return true;
 }
 

@@ -100,7 +100,7 @@ def check_markdown():
 def check_scripts():
     """Whether comments of scripts, of the header and of examples keep to the width, in plain words."""
     found = ["Makefile"]
-    for directory in ("build", "bench", "completions", "docs", "editors", "examples", "include", "tests"):
+    for directory in ("build", "bench", "completions", "docs", "editors", "examples", "include", "tests", "tinfo"):
         found += [os.path.join(directory, name) for name in files_below(os.path.join(TOP, directory))]
     for path in found:
         # this file has the words that are avoided; cases have data
