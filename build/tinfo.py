@@ -24,7 +24,8 @@ from repository import TOP, text_of
 SONAME = "libtinfo.so.6"
 FLAGS = [
     "-std=gnu99", "-O2", "-fPIC", "-fvisibility=hidden", "-Wall", "-Wextra", "-Wpedantic", "-Wshadow",
-    "-Wformat=2", "-Werror=format-security", "-fstack-protector-strong", "-D_FORTIFY_SOURCE=2",
+    "-Wformat=2", "-Werror=format-security", "-fstack-protector-strong", "-fstack-clash-protection",
+    "-D_FORTIFY_SOURCE=2",
 ]
 # libti.so.1 is found in the directory above, wherever both are installed
 LINKED = [

@@ -12,7 +12,7 @@ sanitizers   the same calls under sanitizers, on a part of the entries
 errors       what setupterm and tgetent say of a terminal that they do not take (errors.c)
 directories  which of several entries of a name is taken
 damaged      damaged entries (damaged.c), under sanitizers
-bash, less, vim, tmux, zsh, fish, more
+bash, less, vim, tmux, zsh, fish, more, emacs
              the program in a terminal, with each of the two libraries (screens.py)
 curses       a program of curses itself does not begin
 install      `make install-tinfo` puts everything into its place, and ti-run runs programs
@@ -158,8 +158,12 @@ def check_symbols(room):
             faults.append(f"{name} is {what}, and ncurses's {theirs.get(name)}")
     _, said = run(["readelf", "-d", "-W", f"{room.libraries}/libtinfo.so.6"])
     needed = re.findall(r"NEEDED.*\[(.*)\]", said)
-    if sorted(needed) != ["libc.so.6", "libti.so.1"] or "[libtinfo.so.6]" not in said or "BIND_NOW" not in said:
+    if sorted(needed) != ["libc.so.6", "libti.so.1"] or "[libtinfo.so.6]" not in said:
         faults.append(f"libtinfo.so.6: {said}")
+    _, more = run(["readelf", "-l", "--dyn-syms", "-W", f"{room.libraries}/libtinfo.so.6"])
+    for part in ("BIND_NOW", "GNU_RELRO", "__stack_chk_fail", "_chk@"):
+        if part not in said + more:
+            faults.append(f"libtinfo.so.6 is not hardened by {part}")
     print(f"    {len(ours)} symbols")
     return faults
 

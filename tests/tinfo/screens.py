@@ -40,6 +40,10 @@ PROGRAMS = {
         ["echo hello", "Enter", "Up", "C-a", "Right", "x", "C-k", "C-u", "ec", "C-e", "Enter", "C-l", "exit", "Enter"],
     ),
     "more": ("more lines.txt", ["Space", "Enter", "Space", "=", "q"]),
+    "emacs": (
+        "emacs -Q -nw lines.txt",
+        ["C-n", "C-e", "M-b", "C-v", "M-<", "C-s", "line 9", "C-g", "C-x", "C-c"],
+    ),
 }
 TMUX_CONF = "set -g status-right ''\nset -g status-interval 0\nset -g default-terminal screen-256color\n"
 
