@@ -325,7 +325,8 @@ def both(room, words, **more):
 
 
 def check_errors(room):
-    program = room.compile("errors")
+    """The same is also asked of the library under sanitizers."""
+    program, sanitized = room.compile("errors"), room.compile("errors", *SANITIZE)
     names = ["", "no-such", "a/b", "/etc/passwd", ".", "..", "du mb", "\u00e9", "x" * 512, "x" * 513, "x" * 10000]
     names += [name for name in ("dumb", "lpr", "unknown", "dialup", "5620", "xterm-256color") if entry_file(name)]
     faults, tried = [], 0
@@ -337,6 +338,9 @@ def check_errors(room):
                 ours, theirs = both(room, [program, how, *words], **more)
                 if ours != theirs:
                     faults.append(f"{how}, TERM {str(name)[:40]}, words {len(words)}: {ours}, and ncurses's {theirs}")
+                if how == "ask":
+                    checked = run([sanitized, how, *words], env=environment(room.sanitized_library(), **more))
+                    faults += [] if checked == ours else [f"TERM {str(name)[:40]}, under sanitizers: {checked}"]
     print(f"    {tried} tried")
     return faults
 
@@ -377,6 +381,13 @@ def check_directories(room):
             ours, theirs = both(room, [program, "ask", name], **{"HOME": "/", **row})
             if ours != theirs:
                 faults.append(f"{name}, {row}: {ours}, and ncurses's {theirs}")
+    # ncurses waits for a pipe that takes the place of an entry
+    os.makedirs(f"{top}/pipe/t")
+    os.mkfifo(f"{top}/pipe/t/test")
+    more = {"TERMINFO": f"{top}/pipe", "HOME": f"{top}/home"}
+    status, said = run([program, "ask", "test"], env=environment(room.libraries, **more), timeout=20)
+    if status or "cols 103" not in said:
+        faults.append(f"a pipe: status {status}, {said!r}")
     sizes = [{"LINES": "30"}, {"COLUMNS": "70"}, {"LINES": "0", "COLUMNS": "-1"}, {"LINES": "x", "COLUMNS": "7x"}]
     for row in [*sizes, {"LINES": "40000", "COLUMNS": "99999999999999"}]:
         tried += 1
