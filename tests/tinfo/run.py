@@ -12,6 +12,7 @@ sanitizers   the same calls under sanitizers, on a part of the entries
 errors       what setupterm and tgetent say of a terminal that they do not take (errors.c)
 directories  which of several entries of a name is taken
 damaged      damaged entries (damaged.c), under sanitizers
+memory       each allocation refused in turn (memory.c)
 bash, less, vim, tmux, zsh, fish, more, emacs
              the program in a terminal, with each of the two libraries (screens.py)
 curses       a program of curses itself does not begin
@@ -316,6 +317,15 @@ def check_damaged(room):
         return [fault for faults in pool.map(damage, cases) for fault in faults]
 
 
+def check_memory(room):
+    if not entry_file("xterm-256color"):
+        raise Skipped("the system has no entry of xterm-256color")
+    program = room.compile("memory", "-fno-builtin")
+    status, said = run([program, "xterm-256color", "\033[5;9H"], env=environment(room.libraries))
+    print(f"    {said.strip()}")
+    return [f"status {status}, {said!r}"] if status else []
+
+
 # Terminals that are not taken, and where entries are looked for
 
 
@@ -452,7 +462,8 @@ def run_faults(installed):
 
 CASES = {
     "symbols": check_symbols, "answers": check_answers, "sanitizers": check_sanitizers, "errors": check_errors,
-    "directories": check_directories, "damaged": check_damaged, "curses": check_curses, "install": check_install,
+    "directories": check_directories, "damaged": check_damaged, "memory": check_memory, "curses": check_curses,
+    "install": check_install,
 }
 
 
