@@ -141,21 +141,27 @@ def difference(name, term, ours, theirs):
 
 
 def compare(name, term, room):
-    """What is wrong with a program on a terminal, and whether its bytes were compared."""
+    """What is wrong with a program on a terminal, and whether its bytes were compared. They are if
+    those of each library are the same in all runs; more time is given if something differs."""
+    written = {room.ti_run: set(), "": set()}
     for quiet in (0.15, 0.6, 2):
         with ThreadPoolExecutor(3) as pool:
-            run = lambda ti_run: Run(name, term, ti_run, quiet)
-            ours, theirs, again = pool.map(run, [room.ti_run, "", ""])
+            which = [room.ti_run, "", ""]
+            runs = list(pool.map(lambda ti_run: Run(name, term, ti_run, quiet), which))
+        for ti_run, ran in zip(which, runs):
+            written[ti_run].add(ran.written)
+        ours, theirs = runs[:2]
+        repeats = all(len(found) == 1 for found in written.values())
+        is_same_bytes = not repeats or ours.written == theirs.written
         wrong = difference(name, term, ours, theirs)
-        repeats = theirs.written == again.written
-        if not wrong and (not repeats or ours.written == theirs.written):
+        if not wrong and is_same_bytes:
             break
     # the screens have to show that the keys were taken
     if len({*ours.screens}) < 4:
         wrong = f"{name} on {term} shows too little: {ours.screens}"
     if ours.libraries != {f"{room.libraries}/libtinfo.so.6"}:
         wrong = f"{name} has loaded {ours.libraries}"
-    if not wrong and repeats and ours.written != theirs.written:
+    if not wrong and not is_same_bytes:
         wrong = f"{name} on {term} writes {ours.written!r}, and with ncurses's {theirs.written!r}"
     return wrong, repeats
 
