@@ -17,12 +17,12 @@ use Rattle.lsp_types.specs.declared.places.Position.{Position}
 use Rattle.lsp_document.specs.Diagnostics.{text_at}
 use Rattle.lsp_document.specs.Documents.{held}
 use Rattle.lsp_document.specs.Position.{column_offset, ends_line, line_start, lines_left, offset_of, place_after, position_of, step_over, units}
+use Rattle.lsp_blocks.specs.Spots.{head_line, offset_in, place_in, settled, spot_at, spot_from}
+use Rattle.lsp_blocks.specs.Symbols.{IsUpTo}
+use Rattle.lsp_blocks.specs.declared.spots.Spot.{Spot}
+use Rattle.lsp_blocks.proofs.Selections.{rises_in}
 use Rattle.lsp_features.specs.Completions.{CompletionSeen, CompletionsStayInTheLine, completion_for, completion_in, is_break, last_word}
-use Rattle.lsp_features.specs.Spots.{head_line, offset_in, place_in, settled, spot_at, spot_from}
-use Rattle.lsp_features.specs.Symbols.{IsUpTo}
-use Rattle.lsp_features.specs.declared.spots.Spot.{Spot}
 use Rattle.lsp_features.proofs.Following.{PartsRise, Rise, drop_rises, front_rises, fronts_rise, halves, items_rise, lines_more, rise_folded, rise_higher, rise_lower, rise_up}
-use Rattle.lsp_features.proofs.Selections.{rises_in}
 
 or_no : (a b : Bool) → (a || b) ≡ false → (a ≡ false) × (b ≡ false)
 or_no true b e = absurd cc

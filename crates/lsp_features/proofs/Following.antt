@@ -22,11 +22,11 @@ use Rattle.lsp_types.specs.declared.places.Position.{Position}
 use Rattle.lsp_types.specs.declared.places.Range.{Range}
 use Rattle.lsp_document.specs.Documents.{HeldBlocksFit, IsShortBlock, held}
 use Rattle.lsp_document.specs.Position.{ends_line, place_after, step_over, units}
+use Rattle.lsp_blocks.specs.Spots.{head_line, place_in, range_in}
+use Rattle.lsp_blocks.specs.Symbols.{IsUpTo}
+use Rattle.lsp_blocks.proofs.Selections.{rises_in, up_up}
 use Rattle.lsp_features.specs.Names.{is_sought, name_of, one_name, owner_of, parts_in, ranges_from, ranges_in, ranges_of, touched_at, used_parts}
 use Rattle.lsp_features.specs.Renaming.{FollowFrom, RenamedPartsFollow, failure_of, refuses, renamed, renamed_touched, renames, renames_nothing}
-use Rattle.lsp_features.specs.Spots.{head_line, place_in, range_in}
-use Rattle.lsp_features.specs.Symbols.{IsUpTo}
-use Rattle.lsp_features.proofs.Selections.{rises_in, up_up}
 
 -- ---- bytes whose offsets rise, from the first offset to before the last
 

@@ -6,10 +6,10 @@ use Rattle.base_meaning.specs.Report.{shown_detail}
 use Rattle.ti_source.specs.Parsing.{reading_of_text}
 use Rattle.base_meaning.specs.OwnNames.{own_names}
 use Rattle.base_meaning.specs.Owner.{readings}
+use Rattle.lsp_blocks.specs.Giving.{can_be_given}
+use Rattle.lsp_blocks.proofs.Outlines.{blocks_more}
 use Rattle.lsp_features.specs.Completions.{names_from}
-use Rattle.lsp_features.specs.Renaming.{can_be_given}
 use Rattle.lsp_document.specs.Diagnostics.{text_at}
-use Rattle.lsp_features.proofs.Outlines.{blocks_more}
 
 -- those that are offered of one more block
 pub names_next : (blocks before now : List (List ℕ)) (at : ℕ) (whole : List (List ℕ)) → at < length blocks

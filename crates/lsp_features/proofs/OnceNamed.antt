@@ -15,8 +15,8 @@ use Rattle.base_meaning.specs.Faults.{distinct_after}
 use Rattle.base_meaning.specs.ItemLaws.{DistinctHasEachOnce, IsDistinctOf}
 use Rattle.base_meaning.specs.Owner.{is_among, is_owner, owner, readings}
 use Rattle.base_meaning.proofs.Exchanging.{list_any-append}
+use Rattle.lsp_blocks.specs.Giving.{can_be_given}
 use Rattle.lsp_features.specs.Completions.{NamesAreOfferedOnce, lookup_names, names_from, offered_names}
-use Rattle.lsp_features.specs.Renaming.{can_be_given}
 
 -- ---- each of some names once
 

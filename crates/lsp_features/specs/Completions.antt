@@ -18,12 +18,12 @@ use Rattle.lsp_types.specs.declared.places.Position.{Position}
 use Rattle.lsp_types.specs.declared.places.Range.{Range}
 use Rattle.lsp_document.specs.Diagnostics.{text_at}
 use Rattle.lsp_document.specs.Documents.{held}
-use Rattle.lsp_features.specs.Renaming.{can_be_given}
-use Rattle.lsp_features.specs.Spots.{range_in, settled, spot_at}
+use Rattle.lsp_blocks.specs.Giving.{can_be_given}
+use Rattle.lsp_blocks.specs.Spots.{range_in, settled, spot_at}
+use Rattle.lsp_blocks.specs.declared.spots.Spot.{Spot}
 use Rattle.lsp_features.specs.declared.completions.Completion.{Completion}
 use Rattle.lsp_features.specs.declared.completions.Offers.{Offers}
 use Rattle.lsp_features.specs.declared.completions.Offers.TheVariants as offers
-use Rattle.lsp_features.specs.declared.spots.Spot.{Spot}
 
 -- what is offered, as plain data: the names of capabilities, or these
 pub data OffersSeen : Type 0 where

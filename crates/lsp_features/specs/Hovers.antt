@@ -10,15 +10,15 @@ use Rattle.lsp_types.specs.declared.places.Position.{Position}
 use Rattle.lsp_types.specs.declared.places.Range.{Range}
 use Rattle.lsp_document.specs.Diagnostics.{text_at}
 use Rattle.lsp_document.specs.Documents.{held}
-use Rattle.lsp_features.specs.Deciding.{SourceSeen, source_seen, sources_named}
-use Rattle.lsp_features.specs.Holdings.{EntrySeen, entry_named, entry_seen}
+use Rattle.lsp_blocks.specs.Deciding.{SourceSeen, source_seen, sources_named}
+use Rattle.lsp_blocks.specs.Holdings.{EntrySeen, entry_named, entry_seen}
+use Rattle.lsp_blocks.specs.Spots.{range_in, spot_at}
+use Rattle.lsp_blocks.specs.declared.spots.Spot.{Spot}
 use Rattle.lsp_features.specs.Meanings.{MeaningSeen, meaning_at, meaning_seen}
 use Rattle.lsp_features.specs.Names.{name_of}
-use Rattle.lsp_features.specs.Spots.{range_in, spot_at}
 use Rattle.lsp_features.specs.declared.hovers.About.{About}
 use Rattle.lsp_features.specs.declared.hovers.About.TheVariants as about
 use Rattle.lsp_features.specs.declared.hovers.Hover.{Hover}
-use Rattle.lsp_features.specs.declared.spots.Spot.{Spot}
 
 -- what a place is on, as plain data: an item of a capability, with its text and what it means; or a
 -- name, with what its owner's entry holds or why there is none, and the blocks that decide what it

@@ -11,8 +11,8 @@ use Rattle.lsp_types.specs.declared.places.Position.{Position}
 use Rattle.lsp_types.specs.declared.places.Range.{Range}
 use Rattle.lsp_document.specs.Diagnostics.{text_at}
 use Rattle.lsp_document.specs.Documents.{held}
-use Rattle.lsp_features.specs.Spots.{block_line, head_line, range_in, spot_at}
-use Rattle.lsp_features.specs.declared.spots.Spot.{Spot}
+use Rattle.lsp_blocks.specs.Spots.{block_line, head_line, range_in, spot_at}
+use Rattle.lsp_blocks.specs.declared.spots.Spot.{Spot}
 
 -- the name that a subject is or uses
 abbrev pub name_of : SubjectSeen → List ℕ

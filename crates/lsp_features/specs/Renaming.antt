@@ -1,38 +1,28 @@
 -- What an editor renames (own; Language Server Protocol 3.17, "Rename Request" and "Prepare Rename
 -- Request").
-use Rattle.std.specs.Prelude.{ℕ, ◌≡◌, ◌==◌, ◌&&◌, ◌++◌, not, List, [], ◌∷◌, Bool, codes, Option, None, Some, option_and_then, option_map, if◌then◌else◌}
+use Rattle.std.specs.Prelude.{ℕ, ◌≡◌, ◌==◌, not, List, [], ◌∷◌, Bool, Option, None, Some, option_and_then, option_map, if◌then◌else◌}
 use Rattle.std.specs.List.{list_any}
 use Rattle.std.specs.Option.{option_map_or}
 use Rattle.std.specs.Str.{bytes_eq}
-use Rattle.ti_source.specs.Header.{is_lookup_name}
 use Rattle.ti_source.specs.Reading.{Reading}
 use Rattle.base_meaning.specs.Owner.{owner, readings}
 use Rattle.base_meaning.specs.Reaching.{any_use}
-use Rattle.lsp_spans.specs.Subjects.{TouchedSeen, UseSeen, uses_of}
+use Rattle.lsp_spans.specs.Subjects.{TouchedSeen}
 use Rattle.lsp_types.specs.declared.failures.Failure.{Failure}
 use Rattle.lsp_types.specs.declared.failures.Failure.TheVariants.{NameTaken, NoName}
 use Rattle.lsp_types.specs.declared.places.Position.{Position}
 use Rattle.lsp_types.specs.declared.places.Range.{Range}
 use Rattle.lsp_document.specs.Diagnostics.{text_at}
 use Rattle.lsp_document.specs.Documents.{held}
+use Rattle.lsp_blocks.specs.Giving.{can_be_given}
+use Rattle.lsp_blocks.specs.Spots.{range_in, spot_at}
+use Rattle.lsp_blocks.specs.Symbols.{IsUpTo}
+use Rattle.lsp_blocks.specs.declared.spots.Spot.{Spot}
 use Rattle.lsp_features.specs.Names.{name_of, one_name, owner_of, ranges_of, touched_at, touched_in}
-use Rattle.lsp_features.specs.Spots.{range_in, spot_at}
-use Rattle.lsp_features.specs.Symbols.{IsUpTo}
 use Rattle.lsp_features.specs.declared.renaming.Renaming.{Renaming}
 use Rattle.lsp_features.specs.declared.renaming.Renaming.TheVariants.{Nothing, Refused, Parts}
-use Rattle.lsp_features.specs.declared.spots.Spot.{Spot}
 
 -- ---- new names
-
--- a block that has a name and uses it
-abbrev pub block_with : List ℕ → List ℕ
-block_with name = name ++ codes ",use=" ++ name ++ codes ","
-
--- whether a source can give a block this name and use it: it is a lookup name, and the block that
--- has it and uses it is read so. A line that begins with `#` would be a comment, and after a
--- backslash a comma would end no item.
-abbrev pub can_be_given : List ℕ → Bool
-can_be_given name = is_lookup_name name && list_any (λ (found : UseSeen). bytes_eq found.name name) (uses_of (block_with name))
 
 -- whether an item of the blocks uses a name
 abbrev pub is_used : List Reading → List ℕ → Bool

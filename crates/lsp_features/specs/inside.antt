@@ -1,4 +1,2 @@
 -- Words that only private functions and proofs use.
-pub mod Counting
-pub mod Entries
 pub mod Seeking

@@ -1,18 +1,16 @@
 //! What an editor offers to complete a word with.
-ghost use Rattle.std.specs.Prelude.{◌≡◌, ◌<◌, ◌≤◌, ◌+◌, ◌++◌, ◌^◌, IfOk, OnOk, filter, length, map, option_map};
+ghost use Rattle.std.specs.Prelude.{◌≡◌, ◌<◌, ◌+◌, ◌++◌, ◌^◌, IfOk, OnOk, filter, length, map, option_map};
 ghost use Rattle.std.specs.String.{string_bytes};
 ghost use Rattle.ti_source.specs.Parsing.{reading_of_text};
 ghost use Rattle.base_meaning.specs.OwnNames.{own_names};
 ghost use Rattle.base_meaning.specs.Owner.{readings};
 ghost use Rattle.base_meaning.specs.Report.{shown_detail};
+ghost use Rattle.lsp_blocks.specs.Giving.{can_be_given};
 ghost use Rattle.lsp_features.specs.Completions as spec;
 ghost use Rattle.lsp_features.specs.Completions.{completion_at, completion_seen, is_break, last_word, offered_names, offers_for, offers_seen, replaced};
-ghost use Rattle.lsp_features.specs.Renaming.{can_be_given};
 ghost use Rattle.lsp_document.specs.Diagnostics.{text_at};
 
-use crate::names::is_owner;
-use crate::renaming::can_be_given;
-use crate::spots::{range_in, spot_at};
+use lsp_blocks::{can_be_given, is_owner, range_in, spot_at};
 use lsp_document::{Document, shown_detail};
 use lsp_spans::{Part, Word, word_before};
 use lsp_types::{Position, Range};

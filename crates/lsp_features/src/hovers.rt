@@ -1,17 +1,14 @@
 //! What an editor tells of what a place is on.
 ghost use Rattle.std.specs.Prelude.{◌≡◌, ◌<◌, ◌+◌, ◌^◌, IfOk, length, option_map};
-ghost use Rattle.std.specs.Option.{option_or};
 ghost use Rattle.ti_source.specs.Cutting.{OneBlock};
 ghost use Rattle.lsp_spans.specs.Subjects.{touched_seen};
 ghost use Rattle.lsp_spans.specs.Touching.{item_seen};
 ghost use Rattle.lsp_features.specs.Hovers as spec;
 ghost use Rattle.lsp_features.specs.Hovers.{hover_seen, item_told, name_told, told_at};
 
-use crate::deciding::{DecidingBlock, sources_named};
-use crate::holdings::{Entry, entry_named};
 use crate::meanings::{Meaning, meaning_at};
 use crate::names::name_of;
-use crate::spots::{range_in, spot_at};
+use lsp_blocks::{DecidingBlock, Entry, entry_named, range_in, sources_named, spot_at};
 use lsp_document::{Document, shown_detail};
 use lsp_spans::{Item, Touched, item_at, subject_at};
 use lsp_types::{Position, Range};

@@ -1,17 +1,16 @@
 //! Where the names of a document lead.
-ghost use Rattle.std.specs.Prelude.{◌≡◌, ◌<◌, ◌≤◌, ◌+◌, ◌++◌, ◌^◌, Bool, IfOk, IfSome, OnOk, length, map, option_map};
-ghost use Rattle.base_meaning.specs.Owner as meaning;
+ghost use Rattle.std.specs.Prelude.{◌≡◌, ◌<◌, ◌+◌, ◌++◌, ◌^◌, IfOk, IfSome, OnOk, length, map, option_map};
 ghost use Rattle.base_meaning.specs.Owner.{owner, readings};
 ghost use Rattle.lsp_spans.specs.Subjects.{subject_seen, touched_seen};
 ghost use Rattle.lsp_document.specs.Diagnostics.{text_at};
 ghost use Rattle.lsp_document.specs.Documents.{held};
+ghost use Rattle.lsp_blocks.specs.Spots as place;
+ghost use Rattle.lsp_blocks.specs.Counting.{CanCount};
 ghost use Rattle.lsp_features.specs.Names as spec;
-ghost use Rattle.lsp_features.specs.Spots as place;
 ghost use Rattle.lsp_features.specs.Names.{head_parts, is_sought, name_of, ranges_from, ranges_in, used_parts};
-ghost use Rattle.lsp_features.specs.inside.Counting.{CanCount};
 ghost use Rattle.lsp_features.specs.inside.Seeking.{sought_seen};
 
-use crate::spots::{block_line, head_line, range_in, spot_at};
+use lsp_blocks::{block_line, head_line, is_owner, range_in, spot_at};
 use lsp_document::Document;
 use lsp_spans::{Part, Subject, Touched, head_of, own_spans, subject_at, uses_of};
 use lsp_types::{Position, Range};
@@ -106,16 +105,6 @@ pub fn definition_of(
     match owner_at(alloc, document, place)? {
         Some(at) => Ok(Some(head_range(alloc, document, at)?)),
         None => Ok(None),
-    }
-}
-
-/// Whether a name belongs to the block at that position.
-pub(crate) fn is_owner(database: &Database, name: &[u8], at: usize) -> bool
-    ensures { result ≡ meaning.is_owner (readings database.now) name.now at }
-{
-    match database.owner(name) {
-        Some(place) => place == at,
-        None => false,
     }
 }
 

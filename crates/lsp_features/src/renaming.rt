@@ -1,22 +1,21 @@
 //! What an editor renames: a name of an entry, with its uses.
-ghost use Rattle.std.specs.Prelude.{◌≡◌, ◌^◌, ◌+◌, ◌<◌, IfOk, length, map, option_map};
+ghost use Rattle.std.specs.Prelude.{◌≡◌, ◌<◌, IfOk, map};
 ghost use Rattle.std.specs.Str.{bytes_eq};
 ghost use Rattle.ti_source.specs.Reading.{item_of, said_of};
 ghost use Rattle.base_meaning.specs.Owner.{owner, readings};
 ghost use Rattle.base_meaning.specs.Reaching.{any_use, use_passes, used_name};
-ghost use Rattle.lsp_document.specs.Documents.{held};
 ghost use Rattle.lsp_features.specs.Renamed.{BlocksSayWhatTheyDid, EntriesHoldWhatTheyDid, UsesLeadWhereTheyDid};
 ghost use Rattle.lsp_features.specs.Renaming as spec;
-ghost use Rattle.lsp_features.specs.Renaming.{block_with, can_be_given, failure_of, is_taken, is_used, renamed, renaming_seen};
+ghost use Rattle.lsp_features.specs.Renaming.{failure_of, is_taken, is_used, renamed, renaming_seen};
 
 use crate::names::{Sought, name_of, owner_of, push_all, touched_at};
-use crate::spots::{head_line, range_in, spot_at};
+use lsp_blocks::{can_be_given, head_line, range_in, spot_at};
 use lsp_document::Document;
-use lsp_spans::{subject_at, uses_of};
+use lsp_spans::subject_at;
 use lsp_types::{Failure, Position, Range};
 use std::alloc::{AllocError, Global};
 use ti_base::Database;
-use ti_source::{Item, What, is_lookup_name};
+use ti_source::{Item, What};
 
 /// What comes of a rename.
 #[derive(Drop)]
@@ -27,34 +26,6 @@ pub enum Renaming {
     Refused(Failure),
     /// These parts of the document get the new name, in the order of the text.
     Parts(Vec<Range>),
-}
-
-// A block that has a name and uses it.
-fn block_with(alloc: Global, name: &[u8]) -> Result<Vec<u8>, AllocError>
-    ensures { IfOk result (λ block. block.items ≡ block_with name.now) }
-{
-    let mut block = Vec::from_slice(alloc, name)?;
-    block.extend_from_slice(b",use=")?;
-    block.extend_from_slice(name)?;
-    block.extend_from_slice(b",")?;
-    Ok(block)
-}
-
-/// Whether a block can have a name and another can use it, as the source is written.
-pub(crate) fn can_be_given(alloc: Global, name: &[u8]) -> Result<bool, AllocError>
-    ensures { IfOk result (λ can. can ≡ can_be_given name.now) }
-{
-    if !is_lookup_name(name) {
-        return Ok(false);
-    }
-    let block = block_with(alloc, name)?;
-    let uses = uses_of(alloc, &block)?;
-    for found in &uses {
-        if found.name.as_slice() == name {
-            return Ok(true);
-        }
-    }
-    Ok(false)
 }
 
 // Whether what an item says is that it uses a name.

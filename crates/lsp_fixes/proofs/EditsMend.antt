@@ -23,7 +23,7 @@ use Rattle.lsp_spans.specs.Replacing.{fault_at, said_at}
 use Rattle.lsp_spans.specs.Subjects.{items_of, used_name}
 use Rattle.lsp_spans.specs.declared.parts.Part.{Part}
 use Rattle.lsp_document.specs.Diagnostics.{text_at}
-use Rattle.lsp_features.specs.Renaming.{can_be_given}
+use Rattle.lsp_blocks.specs.Giving.{can_be_given}
 use Rattle.lsp_fixes.specs.Edits.{EditSeen, edits_for, renames, spellings}
 use Rattle.lsp_fixes.specs.Fixes.{given_names, other_names, text_said, used_edits, value_at}
 use Rattle.lsp_fixes.specs.Healing.{EditsHeal, GetsOwner, Heals, LosesFault, Stays, block_after}
@@ -40,7 +40,7 @@ use Rattle.lsp_fixes.proofs.OthersOwn.{others_own}
 use Rattle.lsp_fixes.proofs.SignsHeal.{signs_heal}
 use Rattle.lsp_fixes.proofs.SpellingsHeal.{spellings_heal}
 use Rattle.lsp_fixes.proofs.UsesMend.{uses_mend}
-use Rattle.lsp_features.proofs.Outlines.{text_got}
+use Rattle.lsp_blocks.proofs.Outlines.{text_got}
 
 -- ---- an item with an odd escape
 

@@ -23,15 +23,15 @@ use Rattle.lsp_spans.specs.Subjects.{items_of}
 use Rattle.lsp_document.specs.Diagnostics.{text_at}
 use Rattle.lsp_document.specs.Documents.{HeldBlocksFit, held, unless_refused}
 use Rattle.lsp_document.specs.Position.{is_start}
-use Rattle.lsp_features.specs.Spots.{head_line, settled, spot_at, spot_from}
-use Rattle.lsp_features.specs.declared.spots.Spot.{Spot}
+use Rattle.lsp_blocks.specs.Spots.{head_line, settled, spot_at, spot_from}
+use Rattle.lsp_blocks.specs.declared.spots.Spot.{Spot}
 use Rattle.lsp_fixes.specs.Applied.{AsciiPlacesAreStarts, EndsAreStarts, FixesHeal, IsHealing, client_edited}
 use Rattle.lsp_fixes.specs.Edits.{EditSeen}
 use Rattle.lsp_fixes.specs.Fixes.{FixSeen, edits_in, fix_of, fixes_from, item_edits, stretch_to, touched_edits, touches}
 use Rattle.lsp_fixes.specs.Healing.{EditsHeal, IsPartOf, block_after}
 use Rattle.lsp_fixes.specs.declared.fixes.Stretch.{Stretch}
 use Rattle.lsp_fixes.proofs.Applying.{applied_in}
-use Rattle.lsp_features.proofs.Outlines.{text_got}
+use Rattle.lsp_blocks.proofs.Outlines.{text_got}
 
 -- ---- an element of a list that is made of another
 

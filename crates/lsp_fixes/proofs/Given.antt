@@ -23,7 +23,7 @@ use Rattle.lsp_spans.proofs.Exchanging.{block_from, computed}
 use Rattle.lsp_spans.proofs.Plain.{goes_both, last_of}
 use Rattle.lsp_spans.proofs.Recutting.{Goes, by_after, by_after_at, one_if_goes}
 use Rattle.lsp_spans.proofs.Refolding.{bytes_apart, bytes_of_at, kept_after, line_kept}
-use Rattle.lsp_features.specs.Renaming.{block_with, can_be_given}
+use Rattle.lsp_blocks.specs.Giving.{block_with, can_be_given}
 use Rattle.lsp_fixes.specs.Shown.{shown, shown_byte}
 use Rattle.lsp_fixes.proofs.Marks.{end_bytes}
 use Rattle.lsp_fixes.proofs.Placing.{after_with}

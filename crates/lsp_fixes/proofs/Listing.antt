@@ -3,7 +3,7 @@ use Rattle.std.proofs.Common.{◌≡◌, ℕ, ◌+◌, ◌<◌, Bor, List, [], �
 use Rattle.std.specs.List.{enumerate_from}
 use Rattle.std.proofs.lemmas.List.{append_assoc, map-append, take_more}
 use Rattle.lsp_document.specs.Diagnostics.{text_at}
-use Rattle.lsp_features.proofs.Outlines.{blocks_more}
+use Rattle.lsp_blocks.proofs.Outlines.{blocks_more}
 use Rattle.lsp_fixes.specs.Fixes.{others_in}
 
 -- those that are borrowed, as plain data

@@ -14,8 +14,8 @@ use Rattle.base_meaning.specs.OwnNames.{own_names}
 use Rattle.base_meaning.specs.Owner.{is_among, is_owner, owner, readings}
 use Rattle.lsp_spans.specs.Parts.{spanned}
 use Rattle.lsp_spans.specs.declared.parts.Part.{Part}
+use Rattle.lsp_blocks.specs.Giving.{can_be_given}
 use Rattle.lsp_fixes.specs.Edits.{EditSeen, renames_in}
-use Rattle.lsp_features.specs.Renaming.{can_be_given}
 use Rattle.lsp_fixes.specs.Fixes.{given_names, other_names, others_in}
 use Rattle.lsp_fixes.specs.Laws.{NamesAreOfOtherBlocks}
 use Rattle.lsp_fixes.specs.Shown.{shown}

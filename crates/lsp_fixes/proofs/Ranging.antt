@@ -3,7 +3,7 @@ use Rattle.std.proofs.Common.{◌≡◌, ℕ, List, map, sym, ap, ◌∙◌}
 use Rattle.std.proofs.lemmas.Simd.{map-map}
 use Rattle.lsp_types.specs.declared.places.Position.{Position}
 use Rattle.lsp_document.specs.Diagnostics.{text_at}
-use Rattle.lsp_features.specs.declared.spots.Spot.{Spot}
+use Rattle.lsp_blocks.specs.declared.spots.Spot.{Spot}
 use Rattle.lsp_fixes.specs.Edits.{edit_seen}
 use Rattle.lsp_fixes.specs.Fixes.{FixSeen, edits_in, fix_of, fixes_from, stretch_to}
 use Rattle.lsp_fixes.specs.declared.edits.Edit.{Edit}

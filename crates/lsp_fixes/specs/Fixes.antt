@@ -20,9 +20,9 @@ use Rattle.lsp_types.specs.declared.places.Position.{Position}
 use Rattle.lsp_types.specs.declared.places.Range.{Range}
 use Rattle.lsp_document.specs.Diagnostics.{text_at}
 use Rattle.lsp_document.specs.Documents.{held}
-use Rattle.lsp_features.specs.Renaming.{can_be_given}
-use Rattle.lsp_features.specs.Spots.{offset_in, range_in, spot_at}
-use Rattle.lsp_features.specs.declared.spots.Spot.{Spot}
+use Rattle.lsp_blocks.specs.Giving.{can_be_given}
+use Rattle.lsp_blocks.specs.Spots.{offset_in, range_in, spot_at}
+use Rattle.lsp_blocks.specs.declared.spots.Spot.{Spot}
 use Rattle.lsp_fixes.specs.Edits.{AdviceSeen, EditSeen, advice_seen, edits_for, renames}
 use Rattle.lsp_fixes.specs.declared.fixes.Fix.{Fix}
 use Rattle.lsp_fixes.specs.declared.fixes.Stretch.{Stretch}

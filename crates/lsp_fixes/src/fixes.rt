@@ -12,8 +12,8 @@ ghost use Rattle.lsp_fixes.specs.Fixes.{fix_of, fix_seen, stretch_to, text_said,
 use crate::edits::{Advice, Edit, push_edits};
 use crate::pieces::span;
 use crate::uses::push_used;
+use lsp_blocks::{Spot, offset_in, range_in, spot_at};
 use lsp_document::Document;
-use lsp_features::{Spot, offset_in, range_in, spot_at};
 use lsp_spans::{Part, folded, visible_items};
 use lsp_types::{Position, Range};
 use std::alloc::{AllocError, Global};

@@ -1,6 +1,7 @@
 //! The blocks that decide what an entry inherits.
+use lsp_blocks::DecidingBlock;
 use lsp_document::Document;
-use lsp_features::{About, DecidingBlock, Hover, hover_of};
+use lsp_features::{About, Hover, hover_of};
 use lsp_types::Position;
 use std::alloc::{AllocError, Global};
 use std::process::Abort;

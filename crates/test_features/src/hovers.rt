@@ -1,6 +1,7 @@
 //! What is told of what places of documents are on.
+use lsp_blocks::{Entry, Holding};
 use lsp_document::Document;
-use lsp_features::{About, Entry, Holding, Hover, Meaning, hover_of};
+use lsp_features::{About, Hover, Meaning, hover_of};
 use lsp_types::{Position, Range};
 use std::alloc::{AllocError, Global};
 use std::process::Abort;

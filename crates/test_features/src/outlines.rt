@@ -1,6 +1,6 @@
 //! The blocks of documents as their outlines show them.
+use lsp_blocks::{Symbol, symbols_of};
 use lsp_document::Document;
-use lsp_features::{Symbol, symbols_of};
 use lsp_types::{Position, Range};
 use std::alloc::{AllocError, Global};
 use std::process::Abort;

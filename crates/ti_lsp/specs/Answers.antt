@@ -6,13 +6,13 @@ use Rattle.lsp_messages.specs.Messages.{Query, completion, hover, definition, re
 use Rattle.lsp_messages.specs.Shapes.{Said, said_answer, said_refusal, item_data, list_data, location_data, range_data, symbol_data, text_edit_data, workspace_edit_data}
 use Rattle.lsp_types.specs.declared.items.ItemKind.TheVariants as items
 use Rattle.lsp_types.specs.declared.places.Range.{Range}
+use Rattle.lsp_blocks.specs.Symbols.{SymbolSeen, symbols_of}
 use Rattle.lsp_features.specs.Completions.{CompletionSeen, OffersSeen, completion_of, offers_capabilities, offers_names}
 use Rattle.lsp_features.specs.Hovers.{hover_of}
 use Rattle.lsp_fixes.specs.Fixes.{fixes_of}
 use Rattle.ti_lsp.specs.Fixes.{fixes_data}
 use Rattle.lsp_features.specs.Names.{definition_of, references_of}
 use Rattle.lsp_features.specs.Renaming.{RenamingSeen, refuses, renamable_at, renames, renames_nothing, renaming_of}
-use Rattle.lsp_features.specs.Symbols.{SymbolSeen, symbols_of}
 use Rattle.lsp_server.specs.Sayings.{Sayings}
 use Rattle.ti_lsp.specs.Hovers.{hover_shown}
 use Rattle.ti_lsp.specs.Offers.{all_capabilities, capability_item}

@@ -4,11 +4,11 @@ use Rattle.serde_json.specs.View.{items_of}
 use Rattle.serde_json.specs.Written.{has_float, items_have_float}
 use Rattle.ti_caps.specs.Tables.{Capability}
 use Rattle.lsp_document.specs.Diagnostics.{Shown, diagnostics_of}
+use Rattle.lsp_blocks.specs.Symbols.{SymbolSeen, symbols_of}
 use Rattle.lsp_features.specs.Completions.{CompletionSeen, OffersSeen, completion_of, offers_capabilities, offers_names}
 use Rattle.lsp_features.specs.Hovers.{HoverSeen, hover_of}
 use Rattle.lsp_features.specs.Names.{definition_of, references_of}
 use Rattle.lsp_features.specs.Renaming.{RenamingSeen, refuses, renamable_at, renames, renames_nothing, renaming_of}
-use Rattle.lsp_features.specs.Symbols.{SymbolSeen, symbols_of}
 use Rattle.lsp_fixes.specs.Fixes.{FixSeen, fixes_of}
 use Rattle.ti_lsp.specs.Fixes.{fix_shown, fixes_data}
 use Rattle.lsp_messages.specs.Messages.{Query, completion, hover, definition, references, symbols, rename, prepare_rename, fixes}

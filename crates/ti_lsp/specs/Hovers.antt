@@ -6,11 +6,11 @@ use Rattle.serde_json.specs.Data.{Data, null}
 use Rattle.ti_caps.specs.Tables.{Capability, name_of}
 use Rattle.lsp_messages.specs.Shapes.{hover_data}
 use Rattle.lsp_document.specs.Diagnostics.{Shown, label_of_problem}
-use Rattle.lsp_features.specs.Deciding.{SourceSeen}
-use Rattle.lsp_features.specs.Holdings.{EntrySeen, entry_missing, entry_faulty, entry_held}
+use Rattle.lsp_blocks.specs.Deciding.{SourceSeen}
+use Rattle.lsp_blocks.specs.Holdings.{EntrySeen, entry_missing, entry_faulty, entry_held}
+use Rattle.lsp_blocks.specs.declared.holdings.Holding.{Holding}
 use Rattle.lsp_features.specs.Hovers.{AboutSeen, HoverSeen, about_item, about_name}
 use Rattle.lsp_features.specs.Meanings.{MeaningSeen, means_cancelled, means_nothing, means_number, means_set, means_text}
-use Rattle.lsp_features.specs.declared.holdings.Holding.{Holding}
 use Rattle.lsp_descriptions.specs.Words.{detail_of, documentation_of}
 
 -- what an entry holds: how many bytes it takes, and how many capabilities of each kind it has values of

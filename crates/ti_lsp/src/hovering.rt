@@ -2,17 +2,18 @@
 ghost use Rattle.std.specs.Prelude.{◌≡◌, ◌++◌, IfOk, OnOk, Some, codes, map};
 ghost use Rattle.std.specs.String.{string_bytes};
 ghost use Rattle.serde_json.specs.View.{view};
-ghost use Rattle.lsp_features.specs.Deciding.{source_seen};
-ghost use Rattle.lsp_features.specs.Holdings.{entry_faulty, entry_held, entry_seen};
+ghost use Rattle.lsp_blocks.specs.Deciding.{source_seen};
+ghost use Rattle.lsp_blocks.specs.Holdings.{entry_faulty, entry_held, entry_seen};
 ghost use Rattle.lsp_features.specs.Hovers.{about_seen, hover_of};
 ghost use Rattle.lsp_features.specs.Meanings.{meaning_seen};
 ghost use Rattle.lsp_document.specs.Diagnostics.{diagnostic_seen};
 ghost use Rattle.ti_lsp.specs.Hovers.{about_told, capabilities_told, capability_told, entry_told, holding_told, hover_shown};
 ghost use Rattle.ti_lsp.specs.Hovers.{meaning_told, more_told, source_told, sources_told};
 
+use lsp_blocks::{DecidingBlock, Entry, Holding};
 use lsp_descriptions::{detail_of, documentation_of};
 use lsp_document::{Diagnostic, Document};
-use lsp_features::{About, DecidingBlock, Entry, Holding, Meaning, hover_of};
+use lsp_features::{About, Meaning, hover_of};
 use lsp_messages::answers::hover_value;
 use lsp_types::Position;
 use serde_json::Value;

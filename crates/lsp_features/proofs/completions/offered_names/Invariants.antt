@@ -1,8 +1,8 @@
 use Rattle.std.proofs.Common.{◌≡◌, ◌++◌, drop, filter, map}
 use Rattle.std.specs.String.{string_bytes}
 use Rattle.base_meaning.specs.Report.{shown_detail}
+use Rattle.lsp_blocks.specs.Giving.{can_be_given}
 use Rattle.lsp_features.specs.Completions.{names_from, offered_names}
-use Rattle.lsp_features.specs.Renaming.{can_be_given}
 use Rattle.lsp_features.proofs.completions.offered_names.Given as goal
 
 -- the names so far, and those of the blocks that are left, are all

@@ -3,7 +3,7 @@ use Rattle.std.specs.Rc.{rc_slice_items}
 use Rattle.std.specs.String.{string_bytes}
 use Rattle.base_meaning.specs.Owner.{is_owner, readings}
 use Rattle.base_meaning.specs.Report.{shown_detail}
-use Rattle.lsp_features.specs.Renaming.{can_be_given}
+use Rattle.lsp_blocks.specs.Giving.{can_be_given}
 use Rattle.lsp_features.proofs.completions.push_names.Given as goal
 
 abbrev pub invariant-loop-name : goal.invariant-loop-name

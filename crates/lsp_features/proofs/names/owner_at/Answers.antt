@@ -2,8 +2,8 @@ use Rattle.std.proofs.Common.{List, ℕ, ap, ◌∙◌}
 use Rattle.base_meaning.specs.Owner.{owner, readings}
 use Rattle.lsp_spans.specs.Subjects.{subject_seen}
 use Rattle.lsp_document.specs.Documents.{held}
+use Rattle.lsp_blocks.proofs.Spotting.{owner_found}
 use Rattle.lsp_features.specs.Names.{name_of}
-use Rattle.lsp_features.proofs.Spotting.{owner_found}
 use Rattle.lsp_features.proofs.names.owner_at.Goals as goal
 
 pub returns-in-Some-clause-within : goal.returns-in-Some-clause-within

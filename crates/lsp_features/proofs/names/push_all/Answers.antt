@@ -1,9 +1,9 @@
 use Rattle.std.proofs.Common.{ℕ, ◌++◌, ◌+◌, ap, drop, length, sym, ◌∙◌, arith}
 use Rattle.ti_text.specs.Lines.{line_count}
+use Rattle.lsp_blocks.proofs.Outlines.{text_is, text_short}
 use Rattle.lsp_features.specs.Names.{ranges_from}
 use Rattle.lsp_features.specs.inside.Seeking.{sought_seen}
-use Rattle.lsp_features.proofs.Outlines.{text_is, text_short}
-use Rattle.lsp_features.proofs.Spotting.{ranges_next}
+use Rattle.lsp_features.proofs.Seeking.{ranges_next}
 use Rattle.lsp_features.proofs.names.push_all.Goals as goal
 
 pub loop-at-preserved : goal.loop-at-preserved

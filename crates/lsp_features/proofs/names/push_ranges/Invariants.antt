@@ -1,5 +1,5 @@
 use Rattle.std.proofs.Common.{◌≡◌, ◌++◌, map, take}
-use Rattle.lsp_features.specs.Spots.{range_in}
+use Rattle.lsp_blocks.specs.Spots.{range_in}
 use Rattle.lsp_features.proofs.names.push_ranges.Given as goal
 
 abbrev pub invariant-loop-part : goal.invariant-loop-part

@@ -2,7 +2,7 @@ use Rattle.std.proofs.Common.{◌+◌, ◌||◌, Bool, drop, map, ap, sym, ◌�
 use Rattle.ti_source.specs.Reading.{item_of}
 use Rattle.base_meaning.specs.Owner.{readings}
 use Rattle.lsp_features.specs.Renaming.{is_used}
-use Rattle.lsp_features.proofs.Outlines.{used_next}
+use Rattle.lsp_features.proofs.Seeking.{used_next}
 use Rattle.lsp_features.proofs.renaming.is_used.Goals as goal
 
 pub returns-then-any_use_of : goal.returns-then-any_use_of

@@ -1,6 +1,6 @@
 use Rattle.std.proofs.Common.{◌≡◌, ap, map, ◌∙◌}
 use Rattle.std.proofs.lemmas.Result.{IfOk-weaker}
-use Rattle.lsp_features.proofs.Outlines.{text_is}
+use Rattle.lsp_blocks.proofs.Outlines.{text_is}
 use Rattle.lsp_fixes.specs.Edits.{edit_seen}
 use Rattle.lsp_fixes.specs.Fixes as spec
 use Rattle.lsp_fixes.specs.Fixes.{edits_in, fix_of, fix_seen}

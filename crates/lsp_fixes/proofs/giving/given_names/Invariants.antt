@@ -1,5 +1,5 @@
 use Rattle.std.proofs.Common.{◌≡◌, filter, map, take}
-use Rattle.lsp_features.specs.Renaming.{can_be_given}
+use Rattle.lsp_blocks.specs.Giving.{can_be_given}
 use Rattle.lsp_fixes.proofs.giving.given_names.Given as goal
 
 abbrev pub invariant-loop-name : goal.invariant-loop-name

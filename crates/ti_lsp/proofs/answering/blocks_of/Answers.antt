@@ -1,8 +1,8 @@
 use Rattle.std.proofs.Common.{List, ap, map, sym, ◌∙◌}
 use Rattle.std.proofs.lemmas.Result.{IfOk-weaker}
 use Rattle.std.proofs.lemmas.Simd.{map-map}
-use Rattle.lsp_features.specs.Symbols.{symbol_seen}
-use Rattle.lsp_features.specs.declared.symbols.Symbol.{Symbol}
+use Rattle.lsp_blocks.specs.Symbols.{symbol_seen}
+use Rattle.lsp_blocks.specs.declared.symbols.Symbol.{Symbol}
 use Rattle.ti_lsp.specs.Answers.{symbol_shown}
 use Rattle.ti_lsp.proofs.answering.blocks_of.Goals as goal
 

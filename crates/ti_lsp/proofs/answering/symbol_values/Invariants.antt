@@ -1,6 +1,6 @@
 use Rattle.std.proofs.Common.{◌≡◌, map, take}
 use Rattle.serde_json.specs.View.{view}
-use Rattle.lsp_features.specs.Symbols.{symbol_seen}
+use Rattle.lsp_blocks.specs.Symbols.{symbol_seen}
 use Rattle.ti_lsp.specs.Answers.{symbol_shown}
 use Rattle.ti_lsp.proofs.answering.symbol_values.Given as goal
 

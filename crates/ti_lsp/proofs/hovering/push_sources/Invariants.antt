@@ -1,6 +1,6 @@
 use Rattle.std.proofs.Common.{◌≡◌, ◌++◌, drop, map}
 use Rattle.std.specs.String.{string_bytes}
-use Rattle.lsp_features.specs.Deciding.{source_seen}
+use Rattle.lsp_blocks.specs.Deciding.{source_seen}
 use Rattle.ti_lsp.specs.Hovers.{sources_told}
 use Rattle.ti_lsp.proofs.hovering.push_sources.Given as goal
 

@@ -1,0 +1,14 @@
+pub mod CausesFound
+pub mod CausesTold
+pub mod Deciders
+pub mod Decisions
+pub mod EntriesHeld
+pub mod EntriesRead
+pub mod EntryParts
+pub mod Firsts
+pub mod Handing
+pub mod Outlines
+pub mod SaidAlong
+pub mod Selections
+pub mod Sources
+pub mod Spotting

@@ -1,0 +1,30 @@
+use Rattle.std.proofs.Common.{List, ap, sym, ◌∙◌}
+use Rattle.std.specs.List.{position}
+use Rattle.base_meaning.specs.Faults.{fault_seen, faults}
+use Rattle.base_meaning.specs.Owner.{readings}
+use Rattle.base_meaning.specs.declared.faults.Fault.{Fault}
+use Rattle.tools_sources.specs.Sources.{first_line}
+use Rattle.lsp_document.specs.Diagnostics.{diagnostic_seen, fault_diagnostic}
+use Rattle.lsp_document.specs.Documents.{held}
+use Rattle.lsp_blocks.specs.Causes.{is_error_of}
+use Rattle.lsp_blocks.proofs.CausesTold.{has_cause, published}
+use Rattle.lsp_blocks.proofs.Firsts.{never, told-first}
+use Rattle.lsp_blocks.proofs.causes.cause_told.Goals as goal
+
+pub unreachable-requires : goal.unreachable-requires
+unreachable-requires c =
+    let blocks = held c.args.document.now in
+    never (is_error_of c.args.at) fault_seen c.in_ok-faults.faults.items (faults (readings blocks))
+    (c.in_ok-faults.ensures.all ∙ ap (λ bs. faults (readings bs)) c.database.ensures)
+    (ap (λ (fs : List Fault). position (λ fault. is_error_of c.args.at (fault_seen fault)) fs) (sym c.deref.ensures.value) ∙ sym c.in-None.ensures)
+    (has_cause c.missing_entries_have_a_cause.ensures blocks c.args.at c.requires.within c.requires.none)
+
+pub returns : goal.returns
+returns c =
+    let text = c.args.document.now in
+    told-first (is_error_of c.args.at) fault_seen (fault_diagnostic (held text) (first_line text)) diagnostic_seen
+    c.in_ok-faults.faults.items (faults (readings (held text))) c.in_ok-diagnostics.diagnostics.items c.in-Some.place c.remove.result
+    (c.in_ok-faults.ensures.all ∙ ap (λ bs. faults (readings bs)) c.database.ensures)
+    (c.in_ok-diagnostics.ensures ∙ published text c.args.at c.requires.within)
+    (ap (λ (fs : List Fault). position (λ fault. is_error_of c.args.at (fault_seen fault)) fs) (sym c.deref.ensures.value) ∙ sym c.in-Some.ensures)
+    c.remove.ensures.value
