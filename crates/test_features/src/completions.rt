@@ -1,16 +1,10 @@
 //! What completes the words of documents.
+use crate::documents::{document_of, range_of};
 use lsp_document::Document;
 use lsp_features::{Completion, Offers, completion_of};
 use lsp_types::{Position, Range};
 use std::alloc::{AllocError, Global};
 use std::process::Abort;
-
-/// A document of these bytes.
-fn document_of(alloc: Global, bytes: &[u8]) -> Result<Document, AllocError> {
-    let mut text = Vec::new(alloc);
-    text.extend_from_slice(bytes)?;
-    Document::open(alloc, text)
-}
 
 /// A source of three blocks after a preface, one of them with a bad head, and one that has a name of
 /// the first and a name twice.
@@ -89,18 +83,12 @@ fn expect_rows(
 ) -> Result<(), AllocError> {
     let document = document_of(alloc, source)?;
     for ((line, column), start, named) in rows {
-        let end = Position {
+        let place = Position {
             line: *line,
             column: *column,
         };
-        let range = Range {
-            start: Position {
-                line: *line,
-                column: *start,
-            },
-            end,
-        };
-        let found = completion_of(alloc, &document, end)?;
+        let range = range_of((*line, *start, *column));
+        let found = completion_of(alloc, &document, place)?;
         assert!(rt;
             found.is_some_and(|found| is_wanted(&found, range, *named, names)),
             "{line} {column}"

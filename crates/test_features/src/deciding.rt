@@ -1,4 +1,5 @@
 //! The blocks that decide what an entry inherits.
+use crate::documents::document_of;
 use lsp_blocks::DecidingBlock;
 use lsp_document::Document;
 use lsp_features::{About, Hover, hover_of};
@@ -37,13 +38,6 @@ const ROWS: [((usize, usize), &[Decided]); 10] = [
     ((7, 5), &[]),
     ((8, 0), &[("base", &["am", "cols", "it", "bel"])]),
 ];
-
-/// A document of these bytes.
-fn document_of(alloc: Global, bytes: &[u8]) -> Result<Document, AllocError> {
-    let mut text = Vec::new(alloc);
-    text.extend_from_slice(bytes)?;
-    Document::open(alloc, text)
-}
 
 /// Whether capabilities have these names.
 fn are_named(capabilities: &[Cap], names: &[&str]) -> bool {

@@ -1,17 +1,11 @@
 //! What is offered for parts of documents.
+use crate::documents::document_of;
 use lsp_document::Document;
 use lsp_fixes::{Advice, Fix, fixes_of};
 use lsp_types::{Position, Range};
 use std::alloc::{AllocError, Global};
 use std::process::Abort;
 use ti_caps::Kind;
-
-/// A document of these bytes.
-fn document_of(alloc: Global, bytes: &[u8]) -> Result<Document, AllocError> {
-    let mut text = Vec::new(alloc);
-    text.extend_from_slice(bytes)?;
-    Document::open(alloc, text)
-}
 
 /// A source after a preface, with items that are faulty and items that are not.
 const SOURCE: &[u8] = b"# c

@@ -1,4 +1,5 @@
 //! What is told of what places of documents are on.
+use crate::documents::{document_of, range_of};
 use lsp_blocks::{Entry, Holding};
 use lsp_document::Document;
 use lsp_features::{About, Hover, Meaning, hover_of};
@@ -6,13 +7,6 @@ use lsp_types::{Position, Range};
 use std::alloc::{AllocError, Global};
 use std::process::Abort;
 use ti_caps::{Kind, name};
-
-/// A document of these bytes.
-fn document_of(alloc: Global, bytes: &[u8]) -> Result<Document, AllocError> {
-    let mut text = Vec::new(alloc);
-    text.extend_from_slice(bytes)?;
-    Document::open(alloc, text)
-}
 
 /// A source after a preface: an entry with a letter of two units, faulty items, a cancel before a
 /// use, uses that lead nowhere and to an error.
@@ -140,13 +134,7 @@ fn is_wanted(told: &Hover, range: Range, wanted: Wanted) -> bool {
 fn hovers(rt: HostRuntime) -> Result<(), AllocError> {
     let document = document_of(rt.alloc(), SOURCE)?;
     for ((line, column), (start, end), wanted) in ROWS {
-        let range = Range {
-            start: Position {
-                line,
-                column: start,
-            },
-            end: Position { line, column: end },
-        };
+        let range = range_of((line, start, end));
         let told = hover_of(rt.alloc(), &document, Position { line, column })?;
         assert!(rt; told.is_some_and(|told| is_wanted(&told, range, wanted)));
     }

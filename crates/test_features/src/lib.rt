@@ -1,7 +1,9 @@
 //! The worked rows of what an editor asks of documents, as tests; no code of the product.
 //!
+//! - `blocks`: where the blocks of documents are, and what became of them
 //! - `completions`: what completes the words of documents
 //! - `deciding`: the blocks that decide what an entry inherits
+//! - `documents`: documents, and parts of them by lines and columns
 //! - `fixes`: what is offered against the faults of documents
 //! - `hovers`: what is told of what places of documents are on
 //! - `names`: where the names of documents lead
@@ -10,9 +12,13 @@
 #![tactic(auto)]
 
 #[cfg(test)]
+mod blocks;
+#[cfg(test)]
 mod completions;
 #[cfg(test)]
 mod deciding;
+#[cfg(test)]
+mod documents;
 #[cfg(test)]
 mod fixes;
 #[cfg(test)]

@@ -1,16 +1,10 @@
 //! The blocks of documents as their outlines show them.
+use crate::documents::document_of;
 use lsp_blocks::{Symbol, symbols_of};
 use lsp_document::Document;
 use lsp_types::{Position, Range};
 use std::alloc::{AllocError, Global};
 use std::process::Abort;
-
-/// A document of these bytes.
-fn document_of(alloc: Global, bytes: &[u8]) -> Result<Document, AllocError> {
-    let mut text = Vec::new(alloc);
-    text.extend_from_slice(bytes)?;
-    Document::open(alloc, text)
-}
 
 /// A range by the lines and columns of its ends.
 type Ends = (usize, usize, usize, usize);

@@ -1,42 +1,10 @@
 //! What is renamed in documents.
-use lsp_document::Document;
+use crate::documents::{
+    NAMED, NAMELESS, Part, WRAPPED, WRAPPED_NAME, are_parts, document_of, range_of,
+};
 use lsp_features::{Renaming, renamable_at, renaming_of};
-use lsp_types::{Failure, Position, Range};
-use std::alloc::{AllocError, Global};
-use std::process::Abort;
-
-/// A document of these bytes.
-fn document_of(alloc: Global, bytes: &[u8]) -> Result<Document, AllocError> {
-    let mut text = Vec::new(alloc);
-    text.extend_from_slice(bytes)?;
-    Document::open(alloc, text)
-}
-
-/// A part of a line: its number, and the columns of its ends.
-type Part = (usize, usize, usize);
-
-/// The range of a part of a line.
-fn range_of((line, start, end): Part) -> Range {
-    Range {
-        start: Position {
-            line,
-            column: start,
-        },
-        end: Position { line, column: end },
-    }
-}
-
-/// A source after a preface: lines that end with CR LF, a name that is twice in a head, a name that
-/// two blocks have, a comment, letters of two units, an item that is no use, an open last line.
-const SOURCE: &[u8] = b"# preface\r\n\r\n\
-a|aa|a|first one,\r\n\
-\tam, use=b,\r\n\
-b|a|\xF0\x9F\x98\x80,\r\n\
-# use=a,\r\n\
-\tbel=\xF0\x9F\x98\x80, use= aa , use=zz,\r\n\
-c|c,\n\
-\tuse=a,\n\
-\x20 a, use=b";
+use lsp_types::{Failure, Position};
+use std::alloc::AllocError;
 
 /// Places, by line and column, new names, and the parts that get them.
 #[rattlefmt::skip]
@@ -59,18 +27,10 @@ const RENAMED: [((usize, usize), &[u8], &[Part]); 9] = [
 
 #[test]
 fn renamed(rt: HostRuntime) -> Result<(), AllocError> {
-    let document = document_of(rt.alloc(), SOURCE)?;
+    let document = document_of(rt.alloc(), NAMED)?;
     for ((line, column), new, parts) in RENAMED {
         match renaming_of(rt.alloc(), &document, Position { line, column }, new)? {
-            Renaming::Parts(found) => {
-                assert!(rt; found.len() == parts.len());
-                assert!(rt;
-                    found
-                        .iter()
-                        .zip(parts)
-                        .all(|(range, part)| *range == range_of(*part))
-                );
-            }
+            Renaming::Parts(found) => assert!(rt; are_parts(&found, parts), "{line} {column}"),
             _ => assert!(rt; false, "{line} {column}"),
         }
     }
@@ -102,7 +62,7 @@ const REFUSED: [(&[u8], Failure); 15] = [
 
 #[test]
 fn refused(rt: HostRuntime) -> Result<(), AllocError> {
-    let document = document_of(rt.alloc(), SOURCE)?;
+    let document = document_of(rt.alloc(), NAMED)?;
     let place = Position { line: 2, column: 0 };
     for (new, why) in REFUSED {
         match renaming_of(rt.alloc(), &document, place, new)? {
@@ -130,7 +90,7 @@ const RENAMABLE: [((usize, usize), Part); 9] = [
 
 #[test]
 fn renamable(rt: HostRuntime) -> Result<(), AllocError> {
-    let document = document_of(rt.alloc(), SOURCE)?;
+    let document = document_of(rt.alloc(), NAMED)?;
     for ((line, column), part) in RENAMABLE {
         let found = renamable_at(rt.alloc(), &document, Position { line, column })?;
         assert!(rt; found == Some(range_of(part)), "{line} {column}");
@@ -138,15 +98,10 @@ fn renamable(rt: HostRuntime) -> Result<(), AllocError> {
     Ok(())
 }
 
-/// Places where nothing is renamed: in the preface, in a description, on an item that is no use,
-/// between items, in a comment, on a name that no block has.
-#[rattlefmt::skip]
-const NOWHERE: [(usize, usize); 8] = [(0, 3), (1, 0), (2, 9), (3, 2), (3, 4), (5, 4), (6, 4), (6, 20)];
-
 #[test]
 fn nowhere(rt: HostRuntime) -> Result<(), AllocError> {
-    let document = document_of(rt.alloc(), SOURCE)?;
-    for (line, column) in NOWHERE {
+    let document = document_of(rt.alloc(), NAMED)?;
+    for (line, column) in NAMELESS {
         let place = Position { line, column };
         assert!(rt; renamable_at(rt.alloc(), &document, place)? == None);
         match renaming_of(rt.alloc(), &document, place, b"")? {
@@ -159,16 +114,12 @@ fn nowhere(rt: HostRuntime) -> Result<(), AllocError> {
 
 #[test]
 fn a_broken_use(rt: HostRuntime) -> Result<(), AllocError> {
-    let document = document_of(rt.alloc(), b"ab,\nc,\n\tuse=a\n\tb,\n")?;
-    let used = Range {
-        start: Position { line: 2, column: 5 },
-        end: Position { line: 3, column: 2 },
-    };
+    let document = document_of(rt.alloc(), WRAPPED)?;
     let place = Position { line: 3, column: 1 };
-    assert!(rt; renamable_at(rt.alloc(), &document, place)? == Some(used));
+    assert!(rt; renamable_at(rt.alloc(), &document, place)? == Some(WRAPPED_NAME));
     match renaming_of(rt.alloc(), &document, place, b"x")? {
         Renaming::Parts(found) => {
-            assert!(rt; found.as_slice() == [range_of((0, 0, 2)), used].as_slice());
+            assert!(rt; found.as_slice() == [range_of((0, 0, 2)), WRAPPED_NAME].as_slice());
         }
         _ => assert!(rt; false),
     }
