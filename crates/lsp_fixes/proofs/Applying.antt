@@ -1,16 +1,16 @@
 -- The place of an offset of a block in a text that holds the block, and the text once a part of the
 -- block is exchanged there.
-use Rattle.std.proofs.Common.{◌≡◌, ℕ, zero, suc, ◌+◌, ◌≤◌, ◌==◌, ◌&&◌, Bool, true, false, List, [], ◌∷◌, ◌++◌, append_assoc, drop, length, max, take, inl, inr, refl, sym, ap, ap₂, subst, ◌∙◌, arith, zero-add}
+use Rattle.std.proofs.Common.{◌≡◌, ℕ, zero, suc, ◌+◌, ◌≤◌, ◌==◌, ◌&&◌, true, List, [], ◌∷◌, ◌++◌, append_assoc, drop, length, max, take, inl, inr, refl, sym, ap, ap₂, subst, ◌∙◌, arith, zero-add}
 use Rattle.std.proofs.Math.Nat.{max-eq_right}
 use Rattle.std.proofs.Math.Seq.{drop-append-add, take-append-add}
-use Rattle.std.proofs.lemmas.Bool.{cases_Bool, eqb-true, eq-eqb}
+use Rattle.std.proofs.lemmas.Bool.{cases_Bool, eq-eqb}
 use Rattle.std.proofs.lemmas.List.{drop-append-le, length-append, take-append-le}
 use Rattle.ti_text.specs.Lines.{line_count}
 use Rattle.ti_text.specs.Texts.{last_byte}
 use Rattle.lsp_types.specs.declared.places.Position.{Position}
 use Rattle.lsp_spans.specs.Replacing.{exchanged}
 use Rattle.lsp_spans.specs.declared.parts.Part.{Part}
-use Rattle.lsp_document.specs.Position.{begins_with_newline, is_start, offset_of, place_after, position_of, step_over, units}
+use Rattle.lsp_document.specs.Position.{begins_with_newline, is_start, offset_of, place_after, position_of, step_over}
 use Rattle.lsp_document.specs.Splicing.{spliced}
 use Rattle.lsp_document.proofs.Measuring.{count_newline, count_plain}
 use Rattle.lsp_document.proofs.Places.{inverse, step_newline, step_plain, step_return}

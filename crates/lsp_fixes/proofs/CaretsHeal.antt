@@ -1,5 +1,5 @@
 -- A string with a `^` at its end that takes nothing, with a backslash before that.
-use Rattle.std.proofs.Common.{◌≡◌, ℕ, suc, ◌+◌, ◌-◌, ◌==◌, Bool, true, false, is_ok, Contains, List, [], ◌∷◌, ◌++◌, append_assoc, length, take, Option, None, Some, Result, Ok, Err, refl, sym, ap, subst, inl, inr, arith, ◌∙◌}
+use Rattle.std.proofs.Common.{◌≡◌, ℕ, suc, ◌-◌, ◌==◌, Bool, true, false, is_ok, Contains, List, [], ◌∷◌, ◌++◌, append_assoc, length, take, Option, None, Some, Result, Ok, Err, refl, sym, ap, subst, inl, inr, arith, ◌∙◌}
 use Rattle.std.specs.List.{last_or}
 use Rattle.std.specs.Option.{option_and_then}
 use Rattle.std.proofs.Math.Seq.{take-append_seam}

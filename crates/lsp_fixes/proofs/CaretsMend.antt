@@ -1,5 +1,5 @@
 -- A string with a `^` at its end that takes nothing is healed by the backslash that is offered.
-use Rattle.std.proofs.Common.{◌≡◌, ℕ, suc, ◌+◌, ◌==◌, true, Contains, List, [], ◌∷◌, ◌++◌, append_assoc, drop, length, Option, None, Some, take, slice_get, inl, inr, refl, sym, ap, subst, ◌∙◌}
+use Rattle.std.proofs.Common.{◌≡◌, ℕ, suc, ◌+◌, ◌==◌, true, Contains, List, [], ◌∷◌, ◌++◌, append_assoc, length, Option, None, Some, take, slice_get, inl, inr, refl, sym, ap, subst, ◌∙◌}
 use Rattle.std.specs.List.{last_or}
 use Rattle.std.specs.Option.{option_and_then}
 use Rattle.std.proofs.lemmas.Bool.{cases_Bool}

@@ -1,8 +1,7 @@
 -- A block with a part of an item exchanged, and what is read of that item before and after.
-use Rattle.std.proofs.Common.{◌≡◌, ◌≢◌, ℕ, List, [], ◌∷◌, ◌++◌, map, Option, None, Some, slice_get, slice_set, refl, sym, ap, subst, ◌∙◌}
+use Rattle.std.proofs.Common.{◌≡◌, ◌≢◌, ℕ, List, [], ◌∷◌, Option, None, Some, slice_get, slice_set, refl, sym, ap, subst, ◌∙◌}
 use Rattle.std.specs.Option.{option_and_then, option_map}
 use Rattle.std.proofs.lemmas.Option.{slice_get-map}
-use Rattle.ti_text.specs.WhiteSpace.{is_white_space}
 use Rattle.ti_source.specs.Cutting.{OneBlock}
 use Rattle.ti_source.specs.Folding.{PlacedByte}
 use Rattle.ti_source.specs.Items.{Statement, States, bytes, without_front}
@@ -16,12 +15,12 @@ use Rattle.ti_source.proofs.ItemLaws.{BeginsVisible, has_statement, one_statemen
 use Rattle.ti_source.proofs.JudgingLaws.{has_verdict, one_verdict}
 use Rattle.lsp_spans.specs.Folding.{folded_of}
 use Rattle.lsp_spans.specs.Parts.{items_after, rest_of}
-use Rattle.lsp_spans.specs.Replacing.{IsReadBy, Replaces, exchanged, fault_at, item_texts, said_at}
+use Rattle.lsp_spans.specs.Replacing.{Replaces, exchanged, fault_at, item_texts, said_at}
 use Rattle.lsp_spans.specs.Subjects.{head_text, items_of}
 use Rattle.lsp_spans.specs.declared.parts.Part.{Part}
 use Rattle.lsp_spans.proofs.Exchanging.{begins_visible, found_raw, one_replaced}
 use Rattle.lsp_spans.proofs.Rereading.{fault_by, fault_is, new_read, only_code, other_got, others_read, said_is, same_got, verdict_in}
-use Rattle.lsp_fixes.specs.Healing.{IsMended, LosesFault, OneItemChanges}
+use Rattle.lsp_fixes.specs.Healing.{LosesFault, OneItemChanges}
 use Rattle.lsp_fixes.specs.Laws.{IsAccepted, IsOfCapability, IsRead}
 
 -- what a text that takes a part's place makes of its block

@@ -1,5 +1,5 @@
 -- Each edit that is offered for an item of a block heals the item.
-use Rattle.std.proofs.Common.{◌≡◌, ℕ, ◌<◌, ◌==◌, All, true, false, Contains, List, [], ◌∷◌, ◌++◌, length, Option, None, Some, filter, get_or, is_none, slice_get, inl, inr, refl, sym, ap, subst, ◌∙◌, suc}
+use Rattle.std.proofs.Common.{◌≡◌, ℕ, ◌==◌, All, true, Contains, List, [], ◌∷◌, Option, None, Some, get_or, is_none, slice_get, inl, inr, refl, sym, ap, subst, ◌∙◌, suc}
 use Rattle.std.specs.List.{find}
 use Rattle.std.specs.Option.{option_and_then, option_map}
 use Rattle.std.proofs.lemmas.Bool.{cases_Bool}
@@ -19,14 +19,14 @@ use Rattle.ti_source.specs.declared.code.Code.TheVariants as code
 use Rattle.base_meaning.specs.Owner.{owner, readings}
 use Rattle.lsp_spans.specs.Folding.{folded_of}
 use Rattle.lsp_spans.specs.Parts.{end_of, spanned}
-use Rattle.lsp_spans.specs.Replacing.{fault_at, said_at}
+use Rattle.lsp_spans.specs.Replacing.{fault_at}
 use Rattle.lsp_spans.specs.Subjects.{items_of, used_name}
 use Rattle.lsp_spans.specs.declared.parts.Part.{Part}
 use Rattle.lsp_document.specs.Diagnostics.{text_at}
 use Rattle.lsp_blocks.specs.Giving.{can_be_given}
-use Rattle.lsp_fixes.specs.Edits.{EditSeen, edits_for, renames, spellings}
+use Rattle.lsp_fixes.specs.Edits.{EditSeen, edits_for, renames}
 use Rattle.lsp_fixes.specs.Fixes.{given_names, other_names, text_said, used_edits, value_at}
-use Rattle.lsp_fixes.specs.Healing.{EditsHeal, GetsOwner, Heals, LosesFault, Stays, block_after}
+use Rattle.lsp_fixes.specs.Healing.{EditsHeal, GetsOwner, LosesFault, Stays, block_after}
 use Rattle.lsp_fixes.specs.Laws.{IsRead}
 use Rattle.lsp_fixes.proofs.CaretsMend.{carets_mend}
 use Rattle.lsp_fixes.proofs.Changing.{faulty_item}

@@ -1,5 +1,5 @@
 -- Each fix of a text heals its item in the text as the client has it after the edit.
-use Rattle.std.proofs.Common.{◌≡◌, ◌≢◌, ℕ, zero, suc, ◌+◌, ◌-◌, ◌<◌, ◌==◌, ◌&&◌, not, nat_lt, All, Bool, true, false, Contains, List, [], ◌∷◌, ◌++◌, append_assoc, cond, drop, flat_map, get_or, length, map, take, Option, None, Some, slice_get, slice_set, sum_by, inl, inr, refl, sym, ap, ap₂, subst, ◌∙◌, arith, zero-add}
+use Rattle.std.proofs.Common.{◌≡◌, ◌≢◌, ℕ, zero, suc, ◌+◌, ◌-◌, ◌<◌, ◌==◌, nat_lt, All, Bool, true, false, Contains, List, [], ◌∷◌, ◌++◌, append_assoc, cond, drop, flat_map, get_or, length, map, take, Option, None, Some, slice_get, slice_set, sum_by, inl, inr, refl, sym, ap, ap₂, subst, ◌∙◌, arith, zero-add}
 use Rattle.std.specs.List.{concat, enumerate_from}
 use Rattle.std.specs.Option.{option_map_or}
 use Rattle.std.proofs.lemmas.Bool.{cases_Bool, eq-eqb, lt-ltb, ne_eqb}
@@ -14,7 +14,7 @@ use Rattle.ti_source.specs.Folding.{PlacedByte}
 use Rattle.ti_source.specs.Parsing.{reading_of_text}
 use Rattle.ti_source.specs.Reading.{Reading}
 use Rattle.ti_source.proofs.CutLemmas.{each_has_cut, one_cut_law}
-use Rattle.tools_sources.specs.Sources.{first_line, preface_of, source_refusal, source_texts, with_last_newline}
+use Rattle.tools_sources.specs.Sources.{preface_of, source_refusal, source_texts, with_last_newline}
 use Rattle.tools_sources.specs.declared.source_error.SourceError.{SourceError}
 use Rattle.lsp_types.specs.declared.places.Position.{Position}
 use Rattle.lsp_types.specs.declared.places.Range.{Range}

@@ -1,10 +1,9 @@
 -- A name that a source can give ends before a comma.
-use Rattle.std.proofs.Common.{◌≡◌, ℕ, suc, ◌+◌, ◌<◌, ◌≤◌, ◌==◌, ◌||◌, ◌&&◌, not, Bool, true, false, List, [], ◌∷◌, ◌++◌, append_assoc, codes, flat_map, length, map, Option, None, Some, inl, inr, refl, sym, ap, ap₂, subst, ◌∙◌, arith}
-use Rattle.std.specs.Prelude.{nat_le}
+use Rattle.std.proofs.Common.{◌≡◌, ℕ, suc, ◌+◌, ◌<◌, ◌==◌, ◌||◌, Bool, true, false, List, [], ◌∷◌, ◌++◌, append_assoc, codes, flat_map, length, map, Option, None, Some, inl, inr, refl, sym, ap, ap₂, subst, ◌∙◌, arith}
 use Rattle.std.specs.List.{list_all, list_any}
 use Rattle.std.specs.Str.{bytes_eq}
 use Rattle.std.proofs.lemmas.Bool.{and_parts, cases_Bool, eqb-true, false_from_ne_true, le-leb, leb-true, not-true}
-use Rattle.std.proofs.lemmas.List.{append-nil, length-append, map-append}
+use Rattle.std.proofs.lemmas.List.{append-nil, length-append}
 use Rattle.std.proofs.lemmas.Slice.Eq.{bytes_eq-Decides}
 use Rattle.ti_text.specs.WhiteSpace.{is_white_space}
 use Rattle.ti_source.specs.Cutting.{begins_head}
@@ -17,10 +16,9 @@ use Rattle.lsp_spans.specs.Parts.{items_after, rest_of, spanned}
 use Rattle.lsp_spans.specs.Replacing.{BeginsVisible, IsOneLine}
 use Rattle.lsp_spans.specs.Subjects.{UseSeen, items_of, use_at, use_in, used_name, uses_of, without_end}
 use Rattle.lsp_spans.specs.declared.parts.Part.{Part}
-use Rattle.lsp_spans.proofs.Escaping as machine
 use Rattle.lsp_spans.proofs.Escaping.{Escape, backslash, caret, cuts, escape_after, nothing}
 use Rattle.lsp_spans.proofs.Exchanging.{block_from, computed}
-use Rattle.lsp_spans.proofs.Plain.{goes_both, last_of}
+use Rattle.lsp_spans.proofs.Plain.{goes_both}
 use Rattle.lsp_spans.proofs.Recutting.{Goes, by_after, by_after_at, one_if_goes}
 use Rattle.lsp_spans.proofs.Refolding.{bytes_apart, bytes_of_at, kept_after, line_kept}
 use Rattle.lsp_blocks.specs.Giving.{block_with, can_be_given}

@@ -1,18 +1,18 @@
 -- An item with a name that no capability has is healed by a name that is offered for it.
-use Rattle.std.proofs.Common.{◌≡◌, ℕ, ◌==◌, true, false, Contains, List, [], ◌∷◌, ◌++◌, Some, append_assoc, slice_get, inl, inr, refl, sym, ap, subst, ◌∙◌}
+use Rattle.std.proofs.Common.{◌≡◌, ℕ, ◌==◌, true, Contains, List, [], ◌∷◌, ◌++◌, Some, append_assoc, slice_get, inl, inr, refl, sym, ap, subst, ◌∙◌}
 use Rattle.std.proofs.lemmas.Bool.{cases_Bool, eqb-true}
 use Rattle.ti_text.specs.Texts.{last_byte}
 use Rattle.ti_text.specs.WhiteSpace.{is_white_space}
 use Rattle.ti_source.specs.Cutting.{OneBlock}
 use Rattle.ti_source.specs.Folding.{PlacedByte}
-use Rattle.ti_source.specs.Items.{HasNoMark, IsWhite, bytes, is_mark}
+use Rattle.ti_source.specs.Items.{IsWhite, bytes, is_mark}
 use Rattle.ti_source.specs.declared.code.Code.TheVariants as code
 use Rattle.lsp_spans.specs.Folding.{folded_of}
 use Rattle.lsp_spans.specs.Replacing.{BeginsPlain, Replaces, fault_at, is_plain}
 use Rattle.lsp_spans.specs.Subjects.{items_of, without_end}
 use Rattle.lsp_spans.proofs.Plain.{plain_replace}
 use Rattle.lsp_fixes.specs.Candidates.{names_for}
-use Rattle.lsp_fixes.specs.Edits.{EditSeen, known_names, renames}
+use Rattle.lsp_fixes.specs.Edits.{EditSeen, known_names}
 use Rattle.lsp_fixes.specs.Healing.{LosesFault, Stays, block_after}
 use Rattle.lsp_fixes.specs.Laws.{IsInOrder, edited}
 use Rattle.lsp_fixes.specs.Pieces.{after_name, written_name}

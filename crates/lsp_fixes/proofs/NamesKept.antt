@@ -1,5 +1,5 @@
 -- A block with the same head has the same names, so each name has the owner that it had.
-use Rattle.std.proofs.Common.{◌≡◌, ℕ, zero, suc, ◌==◌, ◌||◌, ◌&&◌, Bool, true, false, cond, List, [], ◌∷◌, map, length, ◌<◌, option_map, Option, Some, inl, inr, refl, sym, ap, ap₂, subst, ◌∙◌, arith, slice_set}
+use Rattle.std.proofs.Common.{◌≡◌, ℕ, zero, suc, ◌==◌, ◌||◌, ◌&&◌, Bool, true, false, cond, List, [], ◌∷◌, option_map, Option, Some, inl, inr, refl, sym, ap, ap₂, subst, ◌∙◌, slice_set}
 use Rattle.std.proofs.lemmas.Bool.{cases_Bool}
 use Rattle.ti_text.specs.WhiteSpace.{is_white_space}
 use Rattle.ti_source.specs.Folding.{PlacedByte}
@@ -12,7 +12,6 @@ use Rattle.ti_source.proofs.HeaderLemmas.{headers_have_one_reading}
 use Rattle.ti_source.proofs.ReadingLaws.{has_reading}
 use Rattle.base_meaning.specs.Owner.{is_among, owner, readings}
 use Rattle.lsp_spans.specs.Folding.{bytes_at, folded_of, in_comment}
-use Rattle.lsp_spans.specs.Parts.{field_of}
 use Rattle.lsp_spans.specs.Subjects.{head_text}
 use Rattle.lsp_spans.proofs.Computing.{left_of}
 use Rattle.lsp_spans.proofs.Itemizing.{field_is}

@@ -1,5 +1,5 @@
 -- A new text in the place of a part of an item.
-use Rattle.std.proofs.Common.{◌≡◌, ℕ, ◌==◌, All, true, false, List, [], ◌∷◌, ◌++◌, append_assoc, Some, get_or, slice_get, refl, sym, ap, subst, ◌∙◌}
+use Rattle.std.proofs.Common.{◌≡◌, ℕ, ◌==◌, true, false, List, [], ◌∷◌, ◌++◌, append_assoc, Some, slice_get, refl, sym, ap, subst, ◌∙◌}
 use Rattle.std.proofs.lemmas.List.{map-append}
 use Rattle.std.proofs.lemmas.Option.{get_or_from_slice_get, slice_get_within}
 use Rattle.ti_text.specs.Texts.{last_byte}

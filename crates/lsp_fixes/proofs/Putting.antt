@@ -1,5 +1,5 @@
 -- The names of capabilities are plain.
-use Rattle.std.proofs.Common.{◌≡◌, ◌≢◌, ℕ, suc, ◌==◌, ◌<◌, ◌&&◌, not, if◌then◌else◌, All, Bool, true, false, Contains, List, [], ◌∷◌, ◌++◌, Option, Some, MatchOption, get_or, refl, sym, subst, arith}
+use Rattle.std.proofs.Common.{◌≡◌, ◌≢◌, ℕ, suc, ◌==◌, ◌&&◌, not, if◌then◌else◌, All, Bool, true, false, Contains, List, [], ◌∷◌, ◌++◌, Option, Some, MatchOption, get_or, refl, sym, subst, arith}
 use Rattle.std.specs.List.{list_all}
 use Rattle.std.specs.Str.{bytes_eq}
 use Rattle.std.proofs.lemmas.Bool.{and_parts, not-true}

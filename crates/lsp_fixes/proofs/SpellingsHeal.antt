@@ -1,5 +1,5 @@
 -- A string with an odd escape is healed by the spelling that is offered for it.
-use Rattle.std.proofs.Common.{◌≡◌, ℕ, suc, ◌==◌, ◌<◌, Bool, true, Contains, List, [], ◌∷◌, ◌++◌, append_assoc, Some, slice_get, refl, sym, ap, subst, ◌∙◌}
+use Rattle.std.proofs.Common.{◌≡◌, ℕ, suc, ◌==◌, Bool, true, Contains, List, [], ◌∷◌, ◌++◌, append_assoc, Some, slice_get, refl, sym, ap, subst, ◌∙◌}
 use Rattle.std.proofs.lemmas.List.{append-nil}
 use Rattle.ti_text.specs.Texts.{AreBytes}
 use Rattle.ti_caps.specs.Tables.{Capability}
@@ -28,7 +28,7 @@ use Rattle.lsp_fixes.proofs.Exchanging.{edited_at, no_edit, only_edit}
 use Rattle.lsp_fixes.proofs.ItemParts.{replaced_part}
 use Rattle.lsp_fixes.proofs.Placing.{item_in_order, last_pushed, plain_pushed, text_replaces}
 use Rattle.lsp_fixes.proofs.Putting.{capability_put}
-use Rattle.lsp_fixes.proofs.SpellingsRead.{IsOdd, odd_item, spellings_read, written_shown}
+use Rattle.lsp_fixes.proofs.SpellingsRead.{odd_item, spellings_read, written_shown}
 use Rattle.lsp_fixes.proofs.Written.{IsSafe, spelling_safe, spelling_visible}
 
 -- a string with an odd escape has a byte

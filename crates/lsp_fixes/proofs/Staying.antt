@@ -1,10 +1,10 @@
 -- A block stays one block once a part of an item is exchanged for a text without a newline.
-use Rattle.std.proofs.Common.{◌≡◌, ◌≢◌, ℕ, suc, ◌+◌, ◌==◌, ◌&&◌, true, false, List, [], ◌∷◌, ◌++◌, append_assoc, drop, length, take, Some, slice_get, refl, sym, ap, ap₂, subst, ◌∙◌, arith}
+use Rattle.std.proofs.Common.{◌≡◌, ℕ, suc, ◌==◌, true, false, List, [], ◌∷◌, ◌++◌, append_assoc, drop, take, Some, slice_get, refl, sym, ap, ap₂, subst, ◌∙◌}
 use Rattle.std.proofs.lemmas.Bool.{eq-eqb}
 use Rattle.std.proofs.lemmas.List.{append-nil}
 use Rattle.std.proofs.lemmas.Option.{slice_get-map}
 use Rattle.ti_text.specs.Texts.{last_byte}
-use Rattle.ti_source.specs.Cutting.{HasNoHead, HasOneHead, OneBlock, begins_head, is_head}
+use Rattle.ti_source.specs.Cutting.{HasNoHead, OneBlock, begins_head, is_head}
 use Rattle.ti_source.specs.Folding.{PlacedByte}
 use Rattle.ti_source.specs.Items.{without_front}
 use Rattle.lsp_spans.specs.Folding.{bytes_at, folded_of}

@@ -1,6 +1,5 @@
 -- A byte of an item that is taken out of its block, where only white space of the item is after it.
-use Rattle.std.proofs.Common.{◌≡◌, ℕ, suc, ◌+◌, ◌==◌, Bool, true, false, List, [], ◌∷◌, ◌++◌, append_assoc, drop, length, map, take, Some, slice_get, slice_set, inl, inr, refl, sym, ap, ap₂, subst, ◌∙◌}
-use Rattle.std.specs.Option.{option_map}
+use Rattle.std.proofs.Common.{◌≡◌, ℕ, suc, ◌+◌, ◌==◌, Bool, true, false, List, [], ◌∷◌, ◌++◌, drop, length, map, take, Some, slice_get, slice_set, inl, inr, refl, sym, ap, ap₂, subst, ◌∙◌}
 use Rattle.std.proofs.lemmas.Bool.{cases_Bool}
 use Rattle.std.proofs.lemmas.List.{append-nil, map-append, map-set}
 use Rattle.std.proofs.lemmas.Option.{slice_get-map}
@@ -12,9 +11,8 @@ use Rattle.ti_source.specs.Folding.{PlacedByte}
 use Rattle.ti_source.specs.Items.{IsWhite, bytes, without_front}
 use Rattle.lsp_spans.specs.Folding.{bytes_at, folded_of}
 use Rattle.lsp_spans.specs.Parts.{field_of, items_after, rest_of}
-use Rattle.lsp_spans.specs.Replacing.{BeginsVisible, IsPlain, exchanged, item_texts}
-use Rattle.lsp_spans.specs.Subjects.{head_text, items_of}
-use Rattle.lsp_spans.specs.declared.parts.Part.{Part}
+use Rattle.lsp_spans.specs.Replacing.{BeginsVisible, IsPlain, exchanged}
+use Rattle.lsp_spans.specs.Subjects.{items_of}
 use Rattle.lsp_spans.proofs.Escaping.{Escape, nothing}
 use Rattle.lsp_spans.proofs.Exchanging.{block_from, computed, cut_back, cut_front, found_raw, head_no_newline, is_comma, placed_at, regroup, some_first}
 use Rattle.lsp_spans.proofs.Ordinals.{same_field, same_texts}

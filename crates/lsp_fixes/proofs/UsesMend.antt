@@ -1,5 +1,5 @@
 -- An item that uses a name is healed by another name that a source can give.
-use Rattle.std.proofs.Common.{◌≡◌, ℕ, ◌==◌, ◌&&◌, true, false, List, [], ◌∷◌, ◌++◌, append_assoc, codes, drop, length, None, Option, Some, take, slice_get, inl, inr, refl, sym, ap, ap₂, subst, ◌∙◌}
+use Rattle.std.proofs.Common.{◌≡◌, ℕ, ◌==◌, true, false, List, [], ◌∷◌, ◌++◌, append_assoc, codes, drop, length, None, Some, take, slice_get, inl, inr, refl, sym, ap, ap₂, subst, ◌∙◌}
 use Rattle.std.proofs.lemmas.Bool.{and_parts, cases_Bool, eqb-true}
 use Rattle.std.proofs.lemmas.List.{map-append, take-append-drop}
 use Rattle.std.proofs.lemmas.Option.{cond_some}
@@ -13,14 +13,13 @@ use Rattle.ti_source.specs.Verdicts.{Judges, accepted}
 use Rattle.ti_source.proofs.JudgingLaws.{judged_import}
 use Rattle.lsp_spans.specs.Folding.{bytes_at, folded_of}
 use Rattle.lsp_spans.specs.Parts.{spanned}
-use Rattle.lsp_spans.specs.Replacing.{BeginsVisible, IsOneLine, IsPlain, Replaces, fault_at, said_at}
+use Rattle.lsp_spans.specs.Replacing.{IsOneLine, IsPlain, Replaces, fault_at, said_at}
 use Rattle.lsp_spans.specs.Subjects.{begins_with, items_of, used_name, without_end}
 use Rattle.lsp_spans.specs.declared.parts.Part.{Part}
 use Rattle.lsp_spans.proofs.Escaping.{Escape, cuts, nothing}
 use Rattle.lsp_spans.proofs.Exchanging.{new_bytes}
-use Rattle.lsp_spans.proofs.Plain.{after_both, item_goes, last_of, plain_after, plain_both, plain_byte, takes_none}
+use Rattle.lsp_spans.proofs.Plain.{after_both, item_goes, last_of, plain_after, plain_byte, takes_none}
 use Rattle.lsp_spans.proofs.Recutting.{Goes, by_after}
-use Rattle.lsp_spans.proofs.Refolding.{bytes_of_at}
 use Rattle.lsp_fixes.specs.Edits.{EditSeen}
 use Rattle.lsp_fixes.specs.Healing.{OneItemChanges, Stays, block_after}
 use Rattle.lsp_fixes.specs.Laws.{IsRead}

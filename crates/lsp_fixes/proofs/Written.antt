@@ -1,6 +1,6 @@
 -- A spelling ends no item, and nothing of it takes a byte after it.
-use Rattle.std.proofs.Common.{◌≡◌, ℕ, ◌<◌, ◌==◌, ◌||◌, ◌&&◌, not, Bool, true, false, cond, List, [], ◌∷◌, ◌++◌, inl, inr, refl, sym, ap, subst, ◌∙◌, arith}
-use Rattle.std.proofs.lemmas.Bool.{agree_below_at, and_from, and_parts, cases_Bool, eqb-true, not-true}
+use Rattle.std.proofs.Common.{◌≡◌, ℕ, ◌<◌, ◌==◌, ◌||◌, ◌&&◌, not, Bool, true, false, cond, List, [], ◌∷◌, ◌++◌, refl, sym, ap, subst, ◌∙◌, arith}
+use Rattle.std.proofs.lemmas.Bool.{agree_below_at, and_from, and_parts, not-true}
 use Rattle.std.proofs.lemmas.List.Elements.{All-tail}
 use Rattle.ti_text.specs.Texts.{AreBytes, is_empty, last_byte}
 use Rattle.ti_text.specs.WhiteSpace.{is_white_space}

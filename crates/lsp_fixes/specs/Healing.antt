@@ -1,6 +1,6 @@
 -- What a fix makes of the block of its item once the client has made the edit (own; Language Server
 -- Protocol 3.17, "TextEdit"): that item has lost its fault, and the others are as they were.
-use Rattle.std.specs.Prelude.{ℕ, ◌≡◌, ◌≢◌, ◌≤◌, ◌<◌, ◌⊎◌, All, Contains, List, length, Option, None, Some, slice_get, slice_set}
+use Rattle.std.specs.Prelude.{ℕ, ◌≡◌, ◌≢◌, ◌≤◌, ◌<◌, ◌⊎◌, All, Contains, List, length, None, Some, slice_get, slice_set}
 use Rattle.ti_text.specs.Texts.{AreBytes}
 use Rattle.ti_source.specs.Cutting.{OneBlock}
 use Rattle.ti_source.specs.Folding.{PlacedByte}
