@@ -13,6 +13,8 @@ markdown     pages link to the pages that they name, links lead to files, lines 
              words are plain, and the pictures of crates and of speed are those of crates.txt and of
              README's table
 scripts      comments of scripts, of the header and of examples keep to the width, in plain words
+grammar      the grammar of VS Code gives the scopes that are wanted, and shows no fault of spelling
+             where `ti tic -c` reports none
 readme       the first command of README writes what README says of it, and the
              second is what CI runs
 install      what `make install` puts into a directory runs from there, and `make uninstall`
@@ -38,6 +40,7 @@ import sys
 
 import building
 import completions
+import grammars
 import packages
 import pages
 import shared  # noqa: F401, puts the directory of `common` on the path
@@ -52,6 +55,7 @@ CHECKS = {
     "pages": pages.check_pages,
     "markdown": pages.check_markdown,
     "scripts": pages.check_scripts,
+    "grammar": grammars.check_grammar,
     "readme": pages.check_readme,
     "install": packages.check_install,
     "version": packages.check_version,
@@ -64,7 +68,9 @@ CHECKS = {
     "small-build": building.check_small_build,
 }
 # these look at the repository alone, and not at the built program
-WITHOUT_PROGRAM = {"tables", "markdown", "scripts", "pages", "tarball", "tarball-builds", "build", "small-build"}
+WITHOUT_PROGRAM = {
+    "tables", "markdown", "scripts", "pages", "grammar", "tarball", "tarball-builds", "build", "small-build",
+}
 EXPECTED = (subprocess.SubprocessError, OSError, IndexError, KeyError, TypeError, StopIteration)
 
 
