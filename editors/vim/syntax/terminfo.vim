@@ -44,7 +44,7 @@ syn match terminfoEscape /\\\%([0-3]\o\{,2}\|[4-7]\o\?\o\@!\)/ contained
 syn match terminfoEscape /%\@1<!\^[ -+\--~]/ contained
 
 " a code that is none, unless the line ends in it
-syn match terminfoBadCode /%\%(\%('\\\?.\?\|{\d*\|[pPg]\|:\?[-+# ]*\d*\%(\.\d*\)\?\)$\)\@!./ contained
+syn match terminfoBadCode /%\%(\%('\\\?.\?\|{\d*\|[pPg]\|:\?[-+# ]*\d*\%(\.\d*\)\?\)$\)\@![^\\,]\?/ contained
 syn match terminfoCode /%\%(:[-+# ]*\|[# ]*\)\d*\%(\.\d*\)\?[doxXs]/ contained
 syn match terminfoCode "%[%clmAOi+*/&|=><!~^-]" contained
 syn match terminfoCode /%p[1-9]\|%[Pg]\a\|%{\d\+}/ contained
