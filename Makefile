@@ -15,17 +15,19 @@
 ##                   are built for ncurses's
 ##   make lsp        builds the language server, ti-lsp
 ##   make bench      times and counts the tools and ncurses's on the same work, and edits of lists
-##   make install    puts the program, its pages, completions and examples below
-##                   DESTDIR and PREFIX (which is /usr/local); with TOOLS=1 also
-##                   ti-tic, ti-infocmp and ti-tput; the C library, libtinfo.so.6 and the
-##                   language server too, if they are made
+##   make install    puts the program, its pages, completions and examples, and what Vim,
+##                   Neovim and Emacs show of terminfo source, below DESTDIR and PREFIX
+##                   (which is /usr/local); with TOOLS=1 also ti-tic, ti-infocmp and
+##                   ti-tput; the C library, libtinfo.so.6 and the language server too, if
+##                   they are made
 ##   make install-library   the C library alone, with its header and page, into
 ##                   LIBDIR and INCLUDEDIR
 ##   make install-tinfo     libtinfo.so.6 alone, into LIBDIR/ti, with ti-run and its page
 ##   make uninstall  takes all of that away again
 ##   make dist       makes ti-VERSION.tar.gz of the last commit, which builds
 ##   make deb        makes Debian packages of the built programs, in packages/
-##   make release    makes archives of the built programs and of the source, in packages/
+##   make release    makes archives of the built programs and of the source, and the extension
+##                   of Visual Studio Code, in packages/
 ##   make reproduce  builds two clones of the last commit, and compares what they give
 
 PREFIX ?= /usr/local
@@ -35,6 +37,9 @@ BASHDIR ?= $(PREFIX)/share/bash-completion/completions
 ZSHDIR ?= $(PREFIX)/share/zsh/site-functions
 FISHDIR ?= $(PREFIX)/share/fish/vendor_completions.d
 EXAMPLESDIR ?= $(PREFIX)/share/doc/ti/examples
+VIMDIR ?= $(PREFIX)/share/vim/vimfiles
+NVIMDIR ?= $(PREFIX)/share/nvim/site
+EMACSDIR ?= $(PREFIX)/share/emacs/site-lisp
 LIBDIR ?= $(PREFIX)/lib
 INCLUDEDIR ?= $(PREFIX)/include
 VERSION := $(shell cat VERSION)
@@ -42,7 +47,10 @@ VERSION := $(shell cat VERSION)
 PROGRAM = crates/ti/out/ti
 LSP = crates/ti_lsp/out/ti_lsp
 EXAMPLES = $(wildcard examples/*)
-EDITORS = $(filter-out editors/vscode,$(wildcard editors/* editors/vscode/*))
+# what is for one editor and runs as it is, and what a user copies
+VIM_FILES = $(patsubst editors/vim/%,%,$(wildcard editors/vim/*/terminfo.vim))
+EDITORS = $(wildcard $(addprefix editors/,*.el *.json *.lua *.toml *.vim *.xml textmate/* vim/*/* vscode/*))
+EDITOR_DIRS = vscode textmate vim/syntax vim/ftplugin vim/ftdetect vim
 PAGES = man/ti.1 man/ti-tic.1 man/ti-infocmp.1 man/ti-tput.1 man/ti-session.1 man/ti-report.7
 TOOL_NAMES = ti-tic ti-infocmp ti-tput
 LIBRARY = crates/ti_c/out/lib
@@ -113,6 +121,11 @@ install:
 	install -m 644 completions/_ti "$(DESTDIR)$(ZSHDIR)/_ti"
 	install -m 644 completions/ti.fish "$(DESTDIR)$(FISHDIR)/ti.fish"
 	install -m 644 $(EXAMPLES) "$(DESTDIR)$(EXAMPLESDIR)"
+	for file in $(VIM_FILES); do \
+		install -D -m 644 "editors/vim/$$file" "$(DESTDIR)$(VIMDIR)/$$file" && \
+		install -D -m 644 "editors/vim/$$file" "$(DESTDIR)$(NVIMDIR)/$$file" || exit 1; \
+	done
+	install -D -m 644 editors/terminfo-mode.el "$(DESTDIR)$(EMACSDIR)/terminfo-mode.el"
 ifeq ($(TOOLS),1)
 	for tool in $(TOOL_NAMES); do \
 		printf '#!/bin/sh\nexec "$$(dirname -- "$$(readlink -f -- "$$0")")/ti" %s "$$@"\n' "$${tool#ti-}" \
@@ -160,7 +173,12 @@ uninstall: uninstall-library uninstall-tinfo
 	rm -f "$(DESTDIR)$(BASHDIR)/ti" "$(DESTDIR)$(ZSHDIR)/_ti" "$(DESTDIR)$(FISHDIR)/ti.fish"
 	for example in $(EXAMPLES); do rm -f "$(DESTDIR)$(EXAMPLESDIR)/$${example##*/}"; done
 	for file in $(EDITORS); do rm -f "$(DESTDIR)$(EXAMPLESDIR)/$$file"; done
-	rmdir "$(DESTDIR)$(EXAMPLESDIR)/editors/vscode" "$(DESTDIR)$(EXAMPLESDIR)/editors" 2>/dev/null || true
+	for part in $(EDITOR_DIRS); do \
+		rmdir "$(DESTDIR)$(EXAMPLESDIR)/editors/$$part" 2>/dev/null || true; \
+	done
+	rmdir "$(DESTDIR)$(EXAMPLESDIR)/editors" 2>/dev/null || true
+	for file in $(VIM_FILES); do rm -f "$(DESTDIR)$(VIMDIR)/$$file" "$(DESTDIR)$(NVIMDIR)/$$file"; done
+	rm -f "$(DESTDIR)$(EMACSDIR)/terminfo-mode.el"
 	rmdir "$(DESTDIR)$(EXAMPLESDIR)" "$$(dirname "$(DESTDIR)$(EXAMPLESDIR)")" 2>/dev/null || true
 	for tool in $(TOOL_NAMES); do \
 		rm -f "$(DESTDIR)$(BINDIR)/$$tool" "$(DESTDIR)$(BASHDIR)/$$tool" "$(DESTDIR)$(FISHDIR)/$$tool.fish"; \

@@ -30,7 +30,8 @@ uninstall)
         rm -f "$target/$file"
     done
     examples=$target/share/doc/ti/examples
-    rmdir "$examples/editors/vscode" "$examples/editors" "$examples" "$target/share/doc/ti" 2>/dev/null || true
+    find "$examples" -depth -type d -exec rmdir {} + 2>/dev/null || true
+    rmdir "$target/share/doc/ti" 2>/dev/null || true
     ;;
 *)
     echo "usage: [DESTDIR=DIR] [PREFIX=DIR] ./install.sh [uninstall]" >&2

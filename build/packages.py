@@ -4,7 +4,9 @@
     build/packages.py deb [DIRECTORY]        the packages of debian/control, by debhelper: ti,
                                              libti1, libti-dev and libti-tinfo
     build/packages.py release [DIRECTORY]    ti-VERSION-ARCH-linux.tar.gz with install.sh, the
-                                             source as ti-VERSION.tar.gz, and SHA256SUMS of both
+                                             source as ti-VERSION.tar.gz, the extension of Visual
+                                             Studio Code as ti-lsp-VERSION-PLATFORM.vsix if the
+                                             server is built, and SHA256SUMS of all
 
 What is made depends on the commit and the built program alone: two clones give the same bytes.
 Times are SOURCE_DATE_EPOCH, or that of the last commit; owners are numbers, and names are sorted.
@@ -20,6 +22,7 @@ import sys
 import tarfile
 import tempfile
 
+from extension import extension, platform
 from repository import TOP, files_below, text_of
 
 LICENCES = ("LICENSE-MIT", "LICENSE-APACHE")
@@ -145,6 +148,8 @@ def make_release(made):
             cwd=TOP, stdout=subprocess.PIPE, check=True,
         ).stdout
         archives[f"{name}.tar.gz"] = compressed(source)
+    if os.path.exists(os.path.join(TOP, BUILT[1])):
+        archives[f"ti-lsp-{version()}-{platform()}.vsix"] = extension(when)
     sums = [f"{hashlib.sha256(archives[file]).hexdigest()}  {file}\n" for file in sorted(archives)]
     archives["SHA256SUMS"] = "".join(sums).encode()
     for file, content in archives.items():

@@ -1,11 +1,13 @@
 """What `make install`, the packages and the archives of a release install, and whether that runs."""
 
 import filecmp
+import json
 import os
 import re
 import shutil
 import subprocess
 import tempfile
+import zipfile
 
 from shared import (
     HAS_LSP, INSTALLED_PAGES, TOP, Skipped, commands_of, files_below, install_command, need, output, text_of, ti,
@@ -73,6 +75,8 @@ def check_install():
         wanted += ["usr/share/bash-completion/completions/ti", "usr/share/fish/vendor_completions.d/ti.fish"]
         wanted += ["usr/share/zsh/site-functions/_ti", "usr/share/man/man7/ti-report.7"]
         wanted += [f"usr/share/man/man1/{page}" for page in INSTALLED_PAGES if page.endswith(".1")]
+        wanted += [f"usr/share/{place}/syntax/terminfo.vim" for place in ("vim/vimfiles", "nvim/site")]
+        wanted += ["usr/share/emacs/site-lisp/terminfo-mode.el"]
         wanted += ["usr/bin/ti-lsp"] if HAS_LSP else []
         editors = files_below(os.path.join(TOP, "editors")) if HAS_LSP else []
         wanted += [f"usr/share/doc/ti/examples/editors/{name}" for name in editors]
@@ -265,9 +269,36 @@ def alternative_faults(run):
         yield f"{command}: {said!r}"
 
 
+def extension_faults(path, room):
+    """What is wrong with the extension of Visual Studio Code: files that are named and not there, of
+    no type, or a server that does not run."""
+    with zipfile.ZipFile(path) as packed:
+        names = packed.namelist()
+        types, manifest = (packed.read(name).decode() for name in ("[Content_Types].xml", "extension.vsixmanifest"))
+        about = json.loads(packed.read("extension/package.json"))
+    language, = about["contributes"]["languages"]
+    paths = [about["main"], language["configuration"], *(part["path"] for part in about["contributes"]["grammars"])]
+    wanted = [os.path.normpath(os.path.join("extension", part)) for part in paths]
+    wanted += re.findall(r'Path="([^"]*)"', manifest)
+    yield from (f"the extension has no {name}" for name in sorted(set(wanted) - set(names)))
+    for name in names:
+        ending = name.rpartition(".")[2]
+        if f'Extension=".{ending}"' not in types and f'PartName="/{name}"' not in types:
+            yield f"the extension says of no type of {name}"
+    output(["python3", "-m", "zipfile", "-e", path, room])
+    for name in (name for name in names if name.endswith(".js") and shutil.which("node")):
+        said = output(["node", "--check", os.path.join(room, name)])
+        if said:
+            yield f"{name}: {said}"
+    server = os.path.join(room, "extension", "bin", "ti-lsp")
+    os.chmod(server, 0o755)
+    if output([server, "--version"]) != f"ti-lsp {version()}\n":
+        yield "the server of the extension does not run"
+
+
 def check_release():
     """Whether the archives are the same each time; install.sh installs and removes a program that
-    runs."""
+    runs; the extension of Visual Studio Code has what it names."""
     need("git")
     with tempfile.TemporaryDirectory(prefix="ti-package-") as room:
         made, names, faults = made_twice("release", room)
@@ -291,3 +322,5 @@ def check_release():
         output([script, "uninstall"], env=env)
         if files_below(os.path.join(room, "stage")):
             yield f"install.sh uninstall leaves {files_below(os.path.join(room, 'stage'))[:5]}"
+        for name in (name for name in names if name.endswith(".vsix")):
+            yield from extension_faults(os.path.join(room, "packages", name), os.path.join(room, "extension"))

@@ -23,7 +23,8 @@ version      help, pages, changes, the header and the extension have the version
 deb          the Debian packages are the same each time, run unpacked, and please lintian
 deb-in-chroot
              the package installs, runs, is removed and purged in a system made by debootstrap
-release      the archives of a release are the same each time; install.sh installs what runs
+release      the archives of a release are the same each time; install.sh installs what runs; the
+             extension of Visual Studio Code has what it names
 tarball      `make dist` makes a tarball of every file of the commit
 tarball-builds
              the program is built from that tarball, with every proof anew
