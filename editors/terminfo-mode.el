@@ -70,7 +70,7 @@ A comma ends the string, and so does a head line.")
 
 (defun terminfo-mode--value (is-format)
   "Give the pieces of a string their faces, and go to its end.
-Unless IS-FORMAT, a `%' may stand for itself."
+Unless IS-FORMAT, a `%' may mean itself."
   (let ((start (point)) (is-open t))
     (while (and is-open (re-search-forward terminfo-mode--piece nil 'move))
       (let ((at (match-beginning 0)) (group 1))
