@@ -23,8 +23,8 @@ AVOIDED = re.compile(
 # its rows quote the comments of definitions, and are written by docs/definitions.py
 GENERATED = os.path.join("docs", "DEFINITIONS.md")
 # files with comments, and how a line of a comment alone begins
-COMMENTED = (".bash", ".c", ".fish", ".h", ".py", ".sh", ".ti", ".lua", ".vim", ".el", "Makefile", "_ti", "/run")
-COMMENT = re.compile(r"\s*(#|/\*|\*|--|;;|\"(?!\")) ")
+COMMENTED = (".bash", ".c", ".fish", ".h", ".py", ".sh", ".ti", ".lua", ".vim", ".el", ".js", "Makefile", "_ti", "/run")
+COMMENT = re.compile(r"\s*(#|/\*|\*|//|--|;;|\"(?!\")) ")
 CODES = [f"E{digit}" for digit in range(1, 10)] + [f"W{digit}" for digit in range(1, 5)]
 
 

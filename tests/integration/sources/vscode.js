@@ -1,4 +1,4 @@
-// A stand-in for the module `vscode`: the values that the extension makes, the providers that it
+// A substitute for the module `vscode`: the values that the extension makes, the providers that it
 // registers, and documents that a test opens and edits.
 "use strict";
 
