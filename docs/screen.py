@@ -3,160 +3,105 @@
 
     docs/screen.py
 
-It runs Neovim in tmux, with editors/neovim.lua as it is and the built `ti-lsp`, takes the pane with
-its colours, and draws each cell where it is. Nothing of the picture is written by hand.
+It runs Neovim in tmux, with the files of editors/ as they are and the built `ti-lsp`, takes the pane
+with its colours, and has the library `rich` (Debian's python3-rich) draw it. Nothing of the picture
+is written by hand.
 """
 
 import os
-import re
 import shlex
 import shutil
 import subprocess
 import sys
 import tempfile
 import time
-from xml.sax.saxutils import escape
 
 sys.path.append(os.path.join(os.path.dirname(os.path.dirname(os.path.abspath(__file__))), "build"))
 from repository import TOP, program_of  # noqa: E402
 
 SERVER = program_of("ti_lsp")
+EDITORS = os.path.join(TOP, "editors")
 PICTURE = os.path.join(TOP, "docs", "editor.svg")
-COLUMNS, LINES = 100, 15
+TITLE = "Neovim with a terminfo source: its faults, what a capability is, and the fixes that ti-lsp offers"
+COLUMNS, LINES = 100, 32
 SECONDS = 20
 SOURCE = r"""# a terminal with some mistakes in it
 base|what mine begins with,
 	cr=\r, kf1=\q,
 mine|my terminal,
-	am, cols#8o, lines#24,
+	am, cols#8o, lines=24,
 	bel=^G, clear=\E[H\E[2J, colour#8,
 	use=base, use=vt0,
 """
-# The cursor goes to a name that an entry uses, and what is told of it is shown; what is shown last.
+# how many faults it has
+FAULTS = 5
+# The faults are listed below the source, each with its whole message. The cursor goes to a faulty
+# item: what is told of its capability is shown, and the fixes are asked for, which is shown last.
 SETTINGS = """
-vim.o.number, vim.o.background, vim.o.ruler, vim.o.showcmd = true, 'light', false, false
-vim.cmd('highlight NormalFloat ctermfg=16 ctermbg=255 | highlight FloatBorder ctermfg=8 ctermbg=255')
-vim.cmd('highlight SignColumn ctermbg=none')
-vim.o.fillchars, vim.o.showmode = 'eob: ', false
-vim.wait(20000, function() return #vim.diagnostic.get(0) == 4 end, 20)
-vim.api.nvim_win_set_cursor(0, { 7, 6 })
+vim.o.background, vim.o.ruler, vim.o.showcmd, vim.o.showmode, vim.o.laststatus = 'light', false, false, false, 0
+vim.o.fillchars, vim.o.number, vim.o.cmdheight = 'eob: ', true, 4
+vim.cmd('highlight NormalFloat ctermbg=255 | highlight FloatBorder ctermfg=8 ctermbg=255')
+vim.cmd('highlight SignColumn ctermbg=none | highlight VertSplit cterm=none | highlight QuickFixLine ctermbg=none')
+vim.cmd('highlight StatusLineNC cterm=underline | highlight StatusLine cterm=underline')
+vim.diagnostic.config({ virtual_text = false, severity_sort = false })
+vim.wait(20000, function() return #vim.diagnostic.get(0) >= COUNT end, 20)
+local source = vim.api.nvim_get_current_win()
+vim.diagnostic.setloclist({ open = true })
+vim.wo.wrap, vim.wo.linebreak, vim.wo.number = true, true, false
+vim.api.nvim_set_current_win(source)
+vim.api.nvim_win_set_height(source, 13)
+vim.api.nvim_win_set_cursor(source, { 5, 15 })
 vim.lsp.handlers['textDocument/hover'] = vim.lsp.with(vim.lsp.handlers.hover, { border = 'single' })
 vim.lsp.buf.hover()
-"""
-SHOWN_LAST = "an entry of"
-# a cell, in pixels; a font of this size is about as wide
-WIDE, HIGH, FONT, EDGE = 8.4, 18, 14, 10
-PAPER, INK = "#ffffff", "#24292f"
-# the sixteen colours, dark enough on light
-PALETTE = [
-    "#24292f", "#c2182b", "#1a7f37", "#9a6700", "#0550ae", "#8250df", "#1b7c83", "#d0d7de",
-    "#57606a", "#c2182b", "#1a7f37", "#9a6700", "#0550ae", "#8250df", "#1b7c83", "#f3f5f7",
+vim.wait(20000, function() return #vim.api.nvim_list_wins() == 3 end, 20)
+vim.cmd('redraw')
+vim.lsp.buf.code_action()
+""".replace("COUNT", str(FAULTS))
+SHOWN_LAST = "Type number and"
+# the colours of the terminal: paper, ink, eight colours, and their bright ones
+PAPER, INK = (255, 255, 255), (36, 41, 47)
+COLOURS = [
+    (36, 41, 47), (194, 24, 43), (26, 127, 55), (154, 103, 0), (5, 80, 174), (130, 80, 223), (27, 124, 131), (208, 215, 222),
 ]
-
-
-def colour_of(number):
-    """The colour of that number of 256."""
-    if number < 16:
-        return PALETTE[number]
-    if number >= 232:
-        return "#" + f"{8 + 10 * (number - 232):02x}" * 3
-    parts = [(number - 16) // 36, (number - 16) // 6 % 6, (number - 16) % 6]
-    return "#" + "".join(f"{55 + 40 * part if part else 0:02x}" for part in parts)
-
-
-class Pen:
-    """How cells look, after the sequences so far."""
-
-    def __init__(self):
-        self.ink, self.paper, self.bold, self.italic, self.line, self.swapped = None, None, False, False, False, False
-
-    def take(self, numbers):
-        """Takes the numbers of one SGR sequence."""
-        at = 0
-        while at < len(numbers):
-            number = numbers[at]
-            at += 1
-            if number in (38, 48) and numbers[at : at + 1] == [5]:
-                self.set(number == 38, colour_of(numbers[at + 1]))
-                at += 2
-            elif number in (38, 48) and numbers[at : at + 1] == [2]:
-                self.set(number == 38, "#" + "".join(f"{part:02x}" for part in numbers[at + 1 : at + 4]))
-                at += 4
-            else:
-                self.take_plain(number)
-
-    def set(self, is_ink, colour):
-        if is_ink:
-            self.ink = colour
-        else:
-            self.paper = colour
-
-    def take_plain(self, number):
-        """Takes a number that means itself."""
-        if number == 0:
-            self.__init__()
-        elif number in (1, 22):
-            self.bold = number == 1
-        elif number in (3, 23):
-            self.italic = number == 3
-        elif number in (4, 24):
-            self.line = number == 4
-        elif number in (7, 27):
-            self.swapped = number == 7
-        elif 30 <= number <= 39 or 90 <= number <= 97:
-            self.ink = None if number == 39 else PALETTE[number - 30 if number < 40 else number - 82]
-        elif 40 <= number <= 49 or 100 <= number <= 107:
-            self.paper = None if number == 49 else PALETTE[number - 40 if number < 50 else number - 92]
-
-    def look(self):
-        """The colour of letters and of their background, and the font."""
-        ink, paper = self.ink or INK, self.paper or PAPER
-        if self.swapped:
-            ink, paper = paper, ink
-        return ink, paper, self.bold, self.italic, self.line
-
-
-def runs_of(line, pen):
-    """The parts of a line that look the same: the column, the letters, the look."""
-    column = 0
-    for part in re.split(r"(\x1b\[[0-9;:]*m)", line):
-        sequence = re.fullmatch(r"\x1b\[([0-9;:]*)m", part)
-        if sequence:
-            pen.take([int(number or 0) for number in re.split("[;:]", sequence[1])])
-        elif part:
-            yield column, part, pen.look()
-            column += len(part)
+BRIGHT = [(87, 96, 106), *COLOURS[1:7], (243, 245, 247)]
+# rich's own form of a picture, without its frame and without fonts of the network
+FORM = """<svg xmlns="http://www.w3.org/2000/svg" viewBox="0 0 {width} {height}">
+<title>TITLE</title>
+<style>
+.{unique_id}-matrix {{ font-family: ui-monospace, "DejaVu Sans Mono", monospace; font-size: {char_height}px; }}
+{styles}
+</style>
+<defs>
+<clipPath id="{unique_id}-clip-terminal">
+<rect x="0" y="0" width="{terminal_width}" height="{terminal_height}"/>
+</clipPath>
+{lines}
+</defs>
+<rect width="100%" height="100%" rx="8" fill="PAPER" stroke="#d0d7de"/>
+<g transform="translate({terminal_x}, {terminal_y})" clip-path="url(#{unique_id}-clip-terminal)">
+{backgrounds}
+<g class="{unique_id}-matrix">
+{matrix}
+</g>
+</g>
+</svg>
+""".replace("TITLE", TITLE).replace("PAPER", f"#{bytes(PAPER).hex()}")
 
 
 def drawn(lines):
     """The SVG of the lines of a pane."""
-    width, height = COLUMNS * WIDE + 2 * EDGE, LINES * HIGH + 2 * EDGE
-    pieces = [
-        f'<svg xmlns="http://www.w3.org/2000/svg" width="{width:.0f}" height="{height:.0f}" '
-        f'viewBox="0 0 {width:.0f} {height:.0f}" font-family="ui-monospace, DejaVu Sans Mono, monospace" '
-        f'font-size="{FONT}">',
-        "<title>Neovim with a terminfo source, its faults, and what a used entry holds, as ti-lsp tells</title>",
-        f'<rect width="100%" height="100%" rx="6" fill="{PAPER}" stroke="#d0d7de"/>',
-    ]
-    pen = Pen()
-    for row, line in enumerate(lines[:LINES]):
-        for column, text, (ink, paper, bold, italic, underlined) in runs_of(line, pen):
-            x, y = EDGE + column * WIDE, EDGE + row * HIGH
-            if paper != PAPER:
-                size = f'width="{len(text) * WIDE:.1f}" height="{HIGH}"'
-                pieces.append(f'<rect x="{x:.1f}" y="{y}" {size} fill="{paper}"/>')
-            shown = text.rstrip()
-            if not shown:
-                continue
-            more = ' font-weight="bold"' * bold + ' font-style="italic"' * italic
-            more += ' text-decoration="underline"' * underlined
-            first = len(shown) - len(shown.lstrip())
-            shown = shown.lstrip()
-            pieces.append(
-                f'<text x="{x + first * WIDE:.1f}" y="{y + FONT - 1}" fill="{ink}" xml:space="preserve" '
-                f'textLength="{len(shown) * WIDE:.1f}"{more}>{escape(shown)}</text>'
-            )
-    return "\n".join([*pieces, "</svg>"]) + "\n"
+    from rich.console import Console
+    from rich.terminal_theme import TerminalTheme
+    from rich.text import Text
+
+    while lines and not lines[-1].strip():
+        lines.pop()
+    with open(os.devnull, "w", encoding="utf-8") as nowhere:
+        console = Console(record=True, width=COLUMNS, file=nowhere, color_system="truecolor", force_terminal=True)
+        console.print(Text.from_ansi("\n".join(lines)), no_wrap=True, crop=True, highlight=False)
+    theme = TerminalTheme(PAPER, INK, COLOURS, BRIGHT)
+    picture = console.export_svg(theme=theme, code_format=FORM, unique_id="screen")
+    return "\n".join(line.rstrip() for line in picture.split("\n"))
 
 
 def captured(room):
@@ -164,9 +109,11 @@ def captured(room):
     for name, text in (("mine.ti", SOURCE), ("settings.lua", SETTINGS)):
         with open(os.path.join(room, name), "w", encoding="utf-8") as file:
             file.write(text)
-    shutil.copy(os.path.join(TOP, "editors", "neovim.lua"), room)
+    shutil.copy(os.path.join(EDITORS, "neovim.lua"), room)
+    shutil.copytree(os.path.join(EDITORS, "vim"), os.path.join(room, "vim"))
     os.symlink(SERVER, os.path.join(room, "ti-lsp"))
-    words = "nvim -u NONE -i NONE -n -c 'luafile neovim.lua' -c 'edit mine.ti' -c 'luafile settings.lua'"
+    words = "nvim -u NONE -i NONE -n --cmd 'set rtp^=vim' -c 'syntax on' -c 'luafile neovim.lua'"
+    words += " -c 'edit mine.ti' -c 'luafile settings.lua'"
     environment = f"cd {shlex.quote(room)} && HOME=$PWD PATH=$PWD:$PATH LANG=C.UTF-8 "
     tmux = ["tmux", "-L", f"screen{os.getpid()}", "-f", "/dev/null"]
     size = ["-x", str(COLUMNS), "-y", str(LINES)]
