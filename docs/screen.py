@@ -9,6 +9,7 @@ is written by hand.
 """
 
 import os
+import re
 import shlex
 import shutil
 import subprocess
@@ -96,6 +97,8 @@ def drawn(lines):
 
     while lines and not lines[-1].strip():
         lines.pop()
+    # rich does not know the colour of the line below letters
+    lines = [re.sub(r"\x1b\[58[;:][0-9;:]*m", "", line) for line in lines]
     with open(os.devnull, "w", encoding="utf-8") as nowhere:
         console = Console(record=True, width=COLUMNS, file=nowhere, color_system="truecolor", force_terminal=True)
         console.print(Text.from_ansi("\n".join(lines)), no_wrap=True, crop=True, highlight=False)
