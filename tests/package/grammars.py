@@ -8,8 +8,10 @@ import contextlib
 import ctypes
 import json
 import os
+import random
 import re
 import subprocess
+import tempfile
 
 from shared import PROGRAM, TOP, Skipped
 
@@ -18,6 +20,9 @@ PIECES = os.path.join(TOP, "tests", "integration", "sources", "pieces.ti")
 ONIGURUMA = "libonig.so.5"
 # ncurses's own source, if the environment names it, as for bench/run.py
 MASTER = os.environ.get("MASTER")
+# how many strings are made at random, and of which letters
+STRINGS = 2000
+LETTERS = "\\\\\\^^^%0123478Eqs:Az \t?"
 # what the lines of PIECES have, in the short names of NAMES
 WANTED = """\
 comment <# a comment, TODO>
@@ -193,20 +198,37 @@ def scope_faults(grammar, expressions):
             yield f"line {number}, by {type(expressions).__name__}: {got}, wanted {wanted}"
 
 
+def shown_lines(grammar, lines):
+    """The numbers of the lines in which the grammar shows a fault."""
+    reader = Reader(grammar, Expressions())
+    return {n for n, line in enumerate(lines, 1) if any(scope.startswith("invalid") for scope in reader.line(line))}
+
+
+def reported_lines(path):
+    """The numbers of the lines of which `ti tic -c` reports something."""
+    said = subprocess.run([PROGRAM, "tic", "-c", path], capture_output=True, check=False).stderr.decode()
+    return {int(line.split(":")[0]) for line in said.splitlines()}
+
+
 def spelling_faults(grammar, path):
     """Lines of a source with a fault of spelling of which `ti tic -c` reports nothing."""
     with open(path, encoding="latin-1") as file:
         lines = file.read().split("\n")
-    reader, found = Reader(grammar, Expressions()), {}
-    for number, line in enumerate(lines, 1):
-        if any(scope.startswith("invalid") for scope in reader.line(line)):
-            found[number] = line
-    said = subprocess.run([PROGRAM, "tic", "-c", path], capture_output=True, check=False).stderr.decode()
-    reported = {int(line.split(":")[0]) for line in said.splitlines()}
-    # a fault has the line on which its item begins
-    for number, line in found.items():
-        if number not in reported:
-            yield f"{os.path.basename(path)}:{number}: {line}"
+    for number in sorted(shown_lines(grammar, lines) - reported_lines(path)):
+        yield f"{os.path.basename(path)}:{number}: {lines[number - 1]}"
+
+
+def random_faults(grammar):
+    """Strings made at random in which the grammar shows another fault than `ti tic -c` reports."""
+    made = random.Random(60)
+    values = ["".join(made.choices(LETTERS, k=made.randrange(8))) for _ in range(STRINGS)]
+    lines = [line for at, value in enumerate(values) for line in (f"e{at},", f"\tkf1={value},")]
+    with tempfile.NamedTemporaryFile("w", suffix=".ti") as file:
+        file.write("\n".join([*lines, ""]))
+        file.flush()
+        reported = reported_lines(file.name)
+    for number in sorted(shown_lines(grammar, lines) ^ reported):
+        yield f"{lines[number - 1]}: {'nothing is shown' if number in reported else 'a fault is shown that is none'}"
 
 
 def check_grammar():
@@ -222,3 +244,4 @@ def check_grammar():
     sources = [os.path.join(examples, name) for name in sorted(os.listdir(examples)) if name.endswith(".ti")]
     for path in [*sources, *([MASTER] if MASTER else [])]:
         yield from spelling_faults(grammar, path)
+    yield from random_faults(grammar)
