@@ -8,6 +8,7 @@ with its colours, and has the library `rich` (Debian's python3-rich) draw it. No
 is written by hand.
 """
 
+import importlib.util
 import os
 import re
 import shlex
@@ -142,6 +143,8 @@ def main():
     for program in ("tmux", "nvim"):
         if not shutil.which(program):
             sys.exit(f"{program} is not installed")
+    if not importlib.util.find_spec("rich"):
+        sys.exit(f"{sys.executable} has no library rich: install python3-rich, and run this by /usr/bin/python3")
     if not os.access(SERVER, os.X_OK):
         sys.exit("ti-lsp is not built: make lsp")
     with tempfile.TemporaryDirectory(prefix="ti-screen-") as room:
