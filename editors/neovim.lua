@@ -19,9 +19,6 @@ vim.api.nvim_create_autocmd({ 'BufRead', 'BufNewFile' }, {
   end,
 })
 
--- the settings that the server has at the start, if they are not said
-local settings = { ti = { userDefined = true, hints = true } }
-
 if vim.fn.executable('ti-lsp') == 0 then
   vim.api.nvim_create_autocmd('FileType', {
     pattern = 'terminfo',
@@ -36,8 +33,6 @@ elseif vim.lsp.config and vim.lsp.enable then
     cmd = { 'ti-lsp' },
     filetypes = { 'terminfo' },
     root_markers = { '.git' },
-    init_options = settings,
-    settings = settings,
   })
   vim.lsp.enable('ti-lsp')
 else
@@ -50,8 +45,6 @@ else
           name = 'ti-lsp',
           cmd = { 'ti-lsp' },
           root_dir = vim.fn.getcwd(),
-          init_options = settings,
-          settings = settings,
         })
       end
       vim.lsp.buf_attach_client(event.buf, client)

@@ -6,6 +6,5 @@ call ale#linter#Define('terminfo', {
 \   'lsp': 'stdio',
 \   'executable': 'ti-lsp',
 \   'command': '%e',
-\   'initialization_options': {'ti': {'userDefined': v:true, 'hints': v:true}},
 \   'project_root': {buffer -> expand('#' . buffer . ':p:h')},
 \})

@@ -55,7 +55,6 @@ class Client {
             clientInfo: { name: "Visual Studio Code", version: vscode.version },
             rootUri: null,
             capabilities: CAPABILITIES,
-            initializationOptions: { ti: settings() },
         };
         const { capabilities } = await this.connection.request("initialize", asked);
         this.connection.notify("initialized", {});
@@ -92,9 +91,7 @@ class Client {
     }
 
     asked(method, params) {
-        if (method === "workspace/configuration") {
-            return params.items.map(item => (item.section === "ti" ? settings() : null));
-        }
+        if (method === "workspace/configuration") return params.items.map(() => null);
         return ["client/registerCapability", "client/unregisterCapability"].includes(method) ? null : undefined;
     }
 
@@ -226,11 +223,6 @@ class Client {
         const known = fault => (pairs.find(([other]) => same(other) === same(fault)) || [])[1] || values.diagnostic(fault);
         return (await this.ask("codeAction", document, asked) || []).map(action => values.action(action, known));
     }
-}
-
-function settings() {
-    const { userDefined, hints } = vscode.workspace.getConfiguration("ti");
-    return { userDefined, hints };
 }
 
 // The program: the one that is set, the one that came with the extension, or the one on the PATH.
