@@ -1,0 +1,5 @@
+pub mod Flowing
+pub mod Rows
+pub mod Alone
+pub mod Profile
+pub mod Compared

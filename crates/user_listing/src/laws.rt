@@ -1,0 +1,10 @@
+//! Laws of listings with user-defined capabilities. They compute nothing.
+ghost use Rattle.user_listing.specs.Laws.{ComparisonsAreThoseOfTheProfile, ListingsAreThoseOfTheProfile, RelativesAreThoseOfTheProfile};
+
+/// Without user-defined names that have values, an entry is listed, related to others and compared
+/// byte for byte as `ti_list` does.
+pub fn without_user_defined_as_the_profile()
+    ensures listings { ListingsAreThoseOfTheProfile }
+    ensures relatives { RelativesAreThoseOfTheProfile }
+    ensures comparisons { ComparisonsAreThoseOfTheProfile }
+{}
