@@ -1,0 +1,7 @@
+pub mod Words
+pub mod Stating
+pub mod ReadBack
+pub mod Laying
+pub mod Listed
+pub mod Related
+pub mod Restoring

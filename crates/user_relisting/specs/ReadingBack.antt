@@ -1,0 +1,89 @@
+-- What is read of the listing of an entry with user-defined capabilities (own).
+use Rattle.std.specs.Prelude.{◌≡◌, ◌≢◌, ℕ, true, if◌then◌else◌, List, [], ◌∷◌, ◌++◌, All, map, Option, Some, None}
+use Rattle.std.specs.Option.{option_or}
+use Rattle.std.specs.Str.{bytes_eq}
+use Rattle.std.specs.List.{flat_map}
+use Rattle.ti_caps.specs.declared.capability.Kind.{Kind}
+use Rattle.ti_caps.specs.declared.capability.Kind.TheVariants.{Flag, Number, Text}
+use Rattle.ti_layout.specs.Values.{Content, content_cancelled}
+use Rattle.ti_layout.specs.Laws.{without_cancel}
+use Rattle.ti_list.specs.Items.{IsListable}
+use Rattle.ti_list.specs.RelativeSource.{first_name}
+use Rattle.ti_list.specs.declared.layout.Layout.{Layout}
+use Rattle.tools_relisting.specs.Relisting.{CanHaveAll, IsUsableName}
+use Rattle.user_items.specs.Names.{is_user_defined_name}
+use Rattle.user_items.specs.Verdicts.{UserSaid, says, imports}
+use Rattle.user_items.specs.Parsing.{user_reading_of_text}
+use Rattle.user_extension.specs.UserDefined.{AreUserDefined, Row}
+use Rattle.user_extension.specs.Reading.{ReadRow, said}
+use Rattle.user_extension.specs.Laws.{as_read}
+use Rattle.user_listing.specs.Entries.{Extended}
+use Rattle.user_listing.specs.Names.{names_among}
+use Rattle.user_listing.specs.Listing.{extended_listing}
+use Rattle.user_listing.specs.RelativeSource.{extended_relative, first_said, user_difference}
+use Rattle.user_relisting.specs.Items.{IsUserReadAs, IsWritable}
+
+-- user-defined capabilities of a source: what an entry may have, in bytes
+pub record AreOfSource (rows : List Row) : Type 0 where
+  pub user_defined : AreUserDefined rows
+  pub writable : All (λ (row : Row). IsWritable row.1) rows
+
+-- The listing of an entry that has these user-defined capabilities, in any layout, is read as
+-- these, without a fault.
+abbrev pub ListingsAreRead : Type 0
+ListingsAreRead =
+    (entry : Extended) (names : List (List ℕ)) (rows : List Row) (layout : Layout) → IsListable entry.entry.names names → CanHaveAll entry.entry.contents
+    → entry.rows ≡ as_read rows → AreOfSource rows
+    → IsUserReadAs (map (λ (row : Row). says row.0 row.1) rows) (user_reading_of_text (extended_listing entry layout))
+
+-- ---- relative source
+
+-- what is said of a name, if something is
+abbrev pub said_if : List ℕ → Option Content → List UserSaid
+said_if name None = []
+said_if name (Some content) = says name content ∷ []
+
+-- what a relative source says of the user-defined names of a kind: of each that differs in turn
+abbrev pub differing_said : Kind → Extended → List Extended → List UserSaid
+differing_said kind entry others =
+    flat_map (λ (name : List ℕ). said_if name (user_difference kind (said entry.rows name) (first_said others name))) (names_among kind entry others)
+
+-- what it says of user-defined names, and then a use of each of the others
+abbrev pub relative_said : Extended → List Extended → List UserSaid
+relative_said entry others =
+    differing_said Flag entry others ++ (differing_said Number entry others ++ (differing_said Text entry others ++ map (λ (other : Extended). imports (first_name other.entry.names)) others))
+
+-- a value, if there is one, has a text that is read as it
+abbrev pub IsWritableIfSome : Option Content → Type 0
+IsWritableIfSome None = Unit {0}
+IsWritableIfSome (Some content) = IsWritable content
+
+-- rows of user-defined names, whose values can be written
+abbrev pub AreWritable : List ReadRow → Type 0
+AreWritable rows = All (λ (row : ReadRow). (is_user_defined_name row.0 ≡ true) × IsWritableIfSome row.1) rows
+
+-- an entry that another one can use by its first name, with user-defined names
+pub record CanBeUsed (other : Extended) : Type 0 where
+  pub first : IsUsableName (first_name other.entry.names)
+  pub user_defined : All (λ (row : ReadRow). is_user_defined_name row.0 ≡ true) other.rows
+
+-- The relative source of an entry, in any layout, is read as what differs and the uses, without a
+-- fault.
+abbrev pub RelativesAreRead : Type 0
+RelativesAreRead =
+    (entry : Extended) (others : List Extended) (names : List (List ℕ)) (layout : Layout) → IsListable entry.entry.names names → CanHaveAll entry.entry.contents
+    → AreWritable entry.rows → All CanBeUsed others
+    → IsUserReadAs (relative_said entry others) (user_reading_of_text (extended_relative entry others layout))
+
+-- what the first item that speaks of a name gives it
+abbrev pub given : List UserSaid → List ℕ → Option Content
+given [] name = None
+given (says other content ∷ said) name = if bytes_eq other name then Some content else given said name
+given (imports other ∷ said) name = given said name
+
+-- What a relative source says of a name, and where it says nothing what the first of the others
+-- has, is what the entry has.
+abbrev pub RelativesSayTheEntry : Type 0
+RelativesSayTheEntry =
+    (entry : Extended) (others : List Extended) (name : List ℕ) → All (λ (row : ReadRow). row.1 ≢ Some content_cancelled) entry.rows
+    → without_cancel (option_or (given (relative_said entry others) name) (first_said others name)) ≡ said entry.rows name

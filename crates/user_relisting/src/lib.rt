@@ -1,0 +1,12 @@
+//! The laws of reading back what was listed with user-defined capabilities. They compute nothing:
+//! each is the contract of a function whose code only calls other laws.
+//!
+//! - `reading_back`: what is laid out as a listing is read as the user-defined items that it lists,
+//!   and so are the listings and the relative sources of entries
+#![tactic(auto)]
+
+mod reading_back;
+
+pub use reading_back::{
+    items_are_read, listings_are_read, relatives_are_read, relatives_say_the_entry,
+};

@@ -1,0 +1,37 @@
+//! A listing is read as what it lists.
+ghost use Rattle.user_relisting.specs.Items.{ItemsAreRead};
+ghost use Rattle.user_relisting.specs.ReadingBack.{ListingsAreRead, RelativesAreRead, RelativesSayTheEntry};
+
+/// Each text that is laid out as a listing, whatever its layout, is read as the user-defined items
+/// and the uses that it lists, without a fault.
+pub fn items_are_read()
+    ensures { ItemsAreRead }
+{
+    ti_caps::laws::every_name_is_found();
+    ti_source::laws::written_spells();
+    user_items::laws::one_user_reading();
+}
+
+/// The listing of an entry with user-defined capabilities, in any layout, is read as exactly these,
+/// each with its value and in their order, without a fault.
+pub fn listings_are_read()
+    ensures { ListingsAreRead }
+{
+    ti_caps::laws::each_kind_is_in_order();
+    items_are_read();
+}
+
+/// The relative source of an entry with user-defined capabilities, in any layout, is read as what
+/// it says of those that differ from the others, kind by kind, and then the uses, without a fault.
+pub fn relatives_are_read()
+    ensures { RelativesAreRead }
+{
+    ti_caps::laws::each_kind_is_in_order();
+    items_are_read();
+}
+
+/// What a relative source says of a user-defined name, and where it says nothing what the first of
+/// the others has of it, is what the entry has of it.
+pub fn relatives_say_the_entry()
+    ensures { RelativesSayTheEntry }
+{}
