@@ -16,9 +16,10 @@ use Rattle.ti_caps.specs.declared.capability.Kind.{Kind}
 use Rattle.ti_caps.specs.declared.capability.Kind.TheVariants.{Flag, Number, Text}
 use Rattle.ti_layout.specs.Values.{Contents}
 use Rattle.ti_list.specs.declared.layout.Layout.{Layout}
-use Rattle.ti_list.specs.Items as tables
 use Rattle.ti_list.specs.Listing.{kind_items, in_order}
+use Rattle.ti_source.specs.Reading.{Said}
 use Rattle.tools_relisting.specs.Relisting.{CanHaveAll}
+use Rattle.tools_relisting.specs.Layouts.{entry_items}
 use Rattle.user_items.specs.Names.{is_user_defined_name}
 use Rattle.user_items.specs.Verdicts.{UserSaid, says}
 use Rattle.user_items.specs.Parsing.{user_reading_of_text}
@@ -30,8 +31,8 @@ use Rattle.user_listing.specs.Entries.{Extended}
 use Rattle.user_listing.specs.Names.{is_of_kind, names_of_kind, of_kind}
 use Rattle.user_listing.specs.Items.{item_if_said, kind_lines, named_item, table_items}
 use Rattle.user_listing.specs.Listing.{extended_listing, listed_kind, user_items}
-use Rattle.user_relisting.specs.Items.{Item, of_tables, of_user, item_text, user_said, no_more, IsSource, CanBeWritten, IsWritable, IsUserReadAs, ItemsAreRead}
-use Rattle.user_relisting.specs.ReadingBack.{ListingsAreRead}
+use Rattle.user_relisting.specs.Items.{Item, of_tables, of_user, item_text, user_said, table_said, no_more, IsSource, CanBeWritten, IsWritable, IsUserReadAs, ItemsAreRead}
+use Rattle.user_relisting.specs.ReadingBack.{AreOfSource, ListingsAreRead}
 use Rattle.user_relisting.proofs.Laying.{three-kinds, tables-can, texts-map, tables-give, kind-valid, left-part, right-part}
 
 -- ---- the user-defined items
@@ -142,6 +143,20 @@ kind-gives layout table kind us items =
     ap (filter_map user_said) (append_assoc (map of_tables (kind_items layout table kind)) (map of_row us) items)
     ∙ tables-give table (in_order layout.order kind) (map of_row us ++ items) ∙ rows-give us items
 
+tables-kept : (ss : List Said) (more : List Item) → filter_map table_said (map of_tables ss ++ more) ≡ ss ++ filter_map table_said more
+tables-kept [] more = refl
+tables-kept (s ∷ ss) more = ap (λ (xs : List Said). s ∷ xs) (tables-kept ss more)
+
+rows-left-out : (us : List Row) (more : List Item) → filter_map table_said (map of_row us ++ more) ≡ filter_map table_said more
+rows-left-out [] more = refl
+rows-left-out (u ∷ us) more = rows-left-out us more
+
+kind-keeps : (layout : Layout) (table : Contents) (kind : Kind) (us : List Row) (more : List Item)
+    → filter_map table_said (kind_list layout table kind us ++ more) ≡ kind_items layout table kind ++ filter_map table_said more
+kind-keeps layout table kind us more =
+    ap (filter_map table_said) (append_assoc (map of_tables (kind_items layout table kind)) (map of_row us) more)
+    ∙ tables-kept (kind_items layout table kind) (map of_row us ++ more) ∙ ap (λ (xs : List Said). kind_items layout table kind ++ xs) (rows-left-out us more)
+
 kind-can : (layout : Layout) (table : Contents) (kind : Kind) (us : List Row) → AllByRecursion IsCapability (in_order layout.order kind) → CanHaveAll table
     → AllByRecursion (λ (u : Row). CanBeWritten (of_row u)) us → All CanBeWritten (kind_list layout table kind us)
 kind-can layout table kind us valid has can =
@@ -161,11 +176,19 @@ record ByKind (F N T : List Row) : Type 0 where
 abbrev says_of : List Row → List UserSaid
 says_of us = map (λ (u : Row). says u.0 u.1) us
 
-listed-by-kind : EachKindIsInOrder → ItemsAreRead → (entry : Extended) (names : List (List ℕ)) (layout : Layout) (F N T : List Row) → ByKind F N T
-    → tables.IsListable entry.entry.names names → CanHaveAll entry.entry.contents → entry.rows ≡ as_read (F ++ (N ++ T))
+-- the listing of an entry is laid out as items: those of its tables, and those of these rows
+pub record IsLaidOut (entry : Extended) (layout : Layout) (rows : List Row) : Type 0 where
+  pub items : List Item
+  pub can : All CanBeWritten items
+  pub source : IsSource entry.entry.names items (extended_listing entry layout)
+  pub gives : filter_map user_said items ≡ says_of rows
+  pub keeps : filter_map table_said items ≡ entry_items layout entry.entry.contents
+
+laid-by-kind : EachKindIsInOrder → (entry : Extended) (layout : Layout) (F N T : List Row) → ByKind F N T
+    → CanHaveAll entry.entry.contents → entry.rows ≡ as_read (F ++ (N ++ T))
     → AreSaid (as_read (F ++ (N ++ T))) (F ++ (N ++ T)) → AllByRecursion (λ (u : Row). CanBeWritten (of_row u)) (F ++ (N ++ T))
-    → IsUserReadAs (says_of (F ++ (N ++ T))) (user_reading_of_text (extended_listing entry layout))
-listed-by-kind ordered read entry names layout F N T kinds good has is are can =
+    → IsLaidOut entry layout (F ++ (N ++ T))
+laid-by-kind ordered entry layout F N T kinds has is are can =
     let table = entry.entry.contents in
     let flags = kind_list layout table Flag F in
     let numbers = kind_list layout table Number N in
@@ -198,22 +221,30 @@ listed-by-kind ordered read entry names layout F N T kinds good has is are can =
     kind-gives layout table Flag F (numbers ++ (texts ++ []))
     ∙ ap (λ ss. says_of F ++ ss) (kind-gives layout table Number N (texts ++ []) ∙ ap (λ ss. says_of N ++ ss) (kind-gives layout table Text T [] ∙ append-nil (says_of T)))
     ∙ sym (map-append (λ (u : Row). says u.0 u.1) F (N ++ T) ∙ ap (λ ss. says_of F ++ ss) (map-append (λ (u : Row). says u.0 u.1) N T)) in
-    subst (λ ss. IsUserReadAs ss (user_reading_of_text (extended_listing entry layout))) gives (read entry.entry.names names (flags ++ (numbers ++ (texts ++ []))) (extended_listing entry layout) good each whole)
+    let keeps : filter_map table_said (flags ++ (numbers ++ (texts ++ []))) ≡ entry_items layout table =
+    kind-keeps layout table Flag F (numbers ++ (texts ++ []))
+    ∙ ap (λ ss. kind_items layout table Flag ++ ss)
+    (kind-keeps layout table Number N (texts ++ []) ∙ ap (λ ss. kind_items layout table Number ++ ss) (kind-keeps layout table Text T [] ∙ append-nil (kind_items layout table Text))) in
+    record { items = flags ++ (numbers ++ (texts ++ [])); can = each; source = whole; gives = gives; keeps = keeps }
 
 can-be-written : (us : List Row) → AllByRecursion (λ (u : Row). is_user_defined_name u.0 ≡ true) us → AllByRecursion (λ (u : Row). IsWritable u.1) us → AllByRecursion (λ (u : Row). CanBeWritten (of_row u)) us
 can-be-written [] names values = tt
 can-be-written (u ∷ us) names values = ((names.0, values.0), can-be-written us names.1 values.1)
 
-pub listings_read : EachKindIsInOrder → ItemsAreRead → ListingsAreRead
-listings_read ordered read entry names rows layout good has is are =
+-- the listing of an entry that has these user-defined capabilities
+pub laid_out : EachKindIsInOrder → (entry : Extended) (rows : List Row) (layout : Layout) → CanHaveAll entry.entry.contents → entry.rows ≡ as_read rows → AreOfSource rows
+    → IsLaidOut entry layout rows
+laid_out ordered entry rows layout has is are =
     let user = are.user_defined in
     let s = split rows user.values (λ i j d lt within. ranks (kind_rank (get_or rows i d).1) (kind_rank (get_or rows j d).1) (is_lt (slice_cmp nat_cmp (get_or rows i d).0 (get_or rows j d).0)) (user.rise i j d lt within)) in
-    let F = map as_flag s.fs in
-    let N = map as_number s.ns in
-    let T = map as_text s.ts in
-    let kinds : ByKind F N T = record { flags = flags-kind s.fs; numbers = numbers-kind s.ns; texts = texts-kind s.ts } in
+    let kinds : ByKind (map as_flag s.fs) (map as_number s.ns) (map as_text s.ts) = record { flags = flags-kind s.fs; numbers = numbers-kind s.ns; texts = texts-kind s.ts } in
     let can = can-be-written rows (recursion_from_All (λ (u : Row). is_user_defined_name u.0 ≡ true) rows user.names) (recursion_from_All (λ (u : Row). IsWritable u.1) rows are.writable) in
-    let P : List Row → Type 0 = λ us. IsUserReadAs (says_of us) (user_reading_of_text (extended_listing entry layout)) in
-    subst P (sym s.whole)
-    (listed-by-kind ordered read entry names layout F N T kinds good has (is ∙ ap as_read s.whole) (subst (λ us. AreSaid (as_read us) us) s.whole (all-said rows user.once))
+    subst (IsLaidOut entry layout) (sym s.whole)
+    (laid-by-kind ordered entry layout (map as_flag s.fs) (map as_number s.ns) (map as_text s.ts) kinds has (is ∙ ap as_read s.whole) (subst (λ us. AreSaid (as_read us) us) s.whole (all-said rows user.once))
     (subst (λ us. AllByRecursion (λ (u : Row). CanBeWritten (of_row u)) us) s.whole can))
+
+pub listings_read : EachKindIsInOrder → ItemsAreRead → ListingsAreRead
+listings_read ordered read entry names rows layout good has is are =
+    let laid = laid_out ordered entry rows layout has is are in
+    subst (λ ss. IsUserReadAs ss (user_reading_of_text (extended_listing entry layout))) laid.gives
+    (read entry.entry.names names laid.items (extended_listing entry layout) good laid.can laid.source)

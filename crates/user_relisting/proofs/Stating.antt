@@ -15,10 +15,11 @@ use Rattle.ti_text.specs.WhiteSpace.{is_white_space}
 use Rattle.ti_source.specs.WhiteSpace.{without_trailing_space}
 use Rattle.ti_source.specs.Header.{IsNameByte, IsLookupName}
 use Rattle.ti_source.specs.Items.{Claim, Statement, claims_flag, claims_number, claims_text, claims_cancel, States, number_item, text_item, cancel_item, flag_item, without_outer_space}
-use Rattle.ti_source.specs.Reading.{said_flag, said_number, said_text, said_cancel, said_import}
-use Rattle.ti_source.specs.Verdicts.{ReadClaim, reads_flag, reads_number, reads_text, reads_cancel, IsReadAs, flag_read, number_read_as, text_read_as, cancel_read, is_import}
+use Rattle.ti_source.specs.Reading.{Said, said_flag, said_number, said_text, said_cancel, said_import}
+use Rattle.ti_source.specs.declared.code.Code.TheVariants as code
+use Rattle.ti_source.specs.Verdicts.{Judges, Verdict, accepted, refused, ReadClaim, reads_flag, reads_number, reads_text, reads_cancel, IsReadAs, flag_read, number_read_as, text_read_as, cancel_read, is_import}
 use Rattle.ti_source.specs.inside.Verdicts.{read_claim}
-use Rattle.ti_source.proofs.JudgingLaws.{is_read}
+use Rattle.ti_source.proofs.JudgingLaws.{is_read, judged_cancel, judged_flag, judged_import, judged_number, judged_text}
 use Rattle.ti_spelling.specs.Spelling.{spelling_of, AreBytes, WrittenSpells}
 use Rattle.ti_layout.specs.Values.{Content, content_true, content_number, content_text, content_cancelled}
 use Rattle.user_items.specs.Names.{is_user_defined_name}
@@ -28,8 +29,8 @@ use Rattle.tools_relisting.proofs.Cutting.{is_clear, is_whole, is_inline, has_no
 use Rattle.tools_relisting.proofs.Unfolding.{is_dark}
 use Rattle.tools_relisting.proofs.Words.{capability-name, decimal-digits, numeral-of}
 use Rattle.tools_relisting.proofs.Stating.{import-readable}
-use Rattle.user_relisting.specs.Items.{Item, of_tables, of_user, item_text, user_said, CanBeWritten, IsWritable}
-use Rattle.user_relisting.proofs.Words.{IsGoodName, name-inline, name-no_cut, name-clear, name-dark, name-enabled, name-no_mark, name-visible, name-unmarked, word-named, user-good, found-not}
+use Rattle.user_relisting.specs.Items.{Item, of_tables, of_user, item_text, user_said, table_said, CanBeWritten, IsWritable}
+use Rattle.user_relisting.proofs.Words.{IsGoodName, name-inline, name-no_cut, name-clear, name-dark, name-enabled, name-no_mark, name-visible, name-unmarked, word-named, user-good, user-unknown, found-not}
 
 -- a text, on one line, that is inside one item and states this
 pub record IsStated (w : List ℕ) (s : Statement) : Type 0 where
@@ -105,11 +106,17 @@ named-stated name content_cancelled good can = cancel-stated name good
 
 -- ---- what it gives to user-defined capabilities
 
--- a text that is read as this
-pub record IsUserReadable (w : List ℕ) (said : Option UserSaid) : Type 0 where
+-- the verdict of the profile on an item
+abbrev pub table_verdict : Option Said → Verdict
+table_verdict (Some said) = accepted said
+table_verdict None = refused code.UnknownCapability
+
+-- a text that is read as this, with user-defined capabilities and without
+pub record IsReadable (w : List ℕ) (user : Option UserSaid) (table : Option Said) : Type 0 where
   pub said_by : Statement
   pub stated : IsStated w said_by
-  pub judges : UserJudges said_by.name said_by.claim (option_map user_accepted said)
+  pub judges : UserJudges said_by.name said_by.claim (option_map user_accepted user)
+  pub table_judges : Judges said_by.name said_by.claim (table_verdict table)
 
 -- what a claim of a value reads as
 abbrev read_of : Content → ReadClaim
@@ -137,7 +144,7 @@ defines-value name (content_text t) = refl
 defines-value name content_cancelled = refl
 
 user-readable : WrittenSpells → (name : List ℕ) (content : Content) → is_user_defined_name name ≡ true → IsWritable content
-    → IsUserReadable (named_item name content) (Some (says name content))
+    → IsReadable (named_item name content) (Some (says name content)) None
 user-readable spells name content user can =
     let good = user-good name user in
     record {
@@ -148,11 +155,17 @@ user-readable spells name content user can =
         is_read = reads-value spells content can;
         is = ap (λ v. Some v) (sym (defines-value name content)) ∙ sym (rw (no-import name (claim_of content) good.other, user) refl);
       };
+      table_judges = record {
+        read = read_of content;
+        is_read = reads-value spells content can;
+        is = sym (rw (no-import name (claim_of content) good.other, user-unknown name user) refl);
+      };
     }
 
 -- an item of the tables is none of a user-defined name
-table-readable : EveryNameIsFound → (c : Capability) (content : Content) → IsCapability c → IsWritable content → IsUserReadable (named_item (name_of c) content) None
-table-readable found c content is can =
+table-readable : EveryNameIsFound → (c : Capability) (content : Content) (said : Said) → IsCapability c → IsWritable content
+    → Judges (name_of c) (claim_of content) (accepted said) → IsReadable (named_item (name_of c) content) None (Some said)
+table-readable found c content said is can judged =
     let n = capability-name c is in
     let good : IsGoodName (name_of c) = record { some = n.some; named = word-named (name_of c) n.word; other = n.other } in
     let not_user : is_user_defined_name (name_of c) ≡ false = found-not (name_of c) (rw (found c is) refl) in
@@ -164,6 +177,7 @@ table-readable found c content is can =
         is_read = is_read (claim_of content);
         is = sym (rw (no-import (name_of c) (claim_of content) good.other, not_user) refl);
       };
+      table_judges = judged;
     }
 
 -- ---- a use of another entry
@@ -193,7 +207,7 @@ lookup-visible [] h = refl
 lookup-visible (x ∷ xs) h =
     and_from (is_visible x) (list_all is_visible xs) (name_byte-visible x (All-head IsNameByte x xs h)) (lookup-visible xs (All-tail IsNameByte x xs h))
 
-import-readable-so : (name : List ℕ) → IsLookupName name → All (λ byte. byte ≢ 92) name → IsUserReadable (codes "use=" ++ name) (Some (imports name))
+import-readable-so : (name : List ℕ) → IsLookupName name → All (λ byte. byte ≢ 92) name → IsReadable (codes "use=" ++ name) (Some (imports name)) (Some (said_import name))
 import-readable-so name is none =
     let readable = import-readable name is none in
     let same : without_outer_space name ≡ name = visible-stripped name (lookup-visible name is.bytes) in
@@ -206,14 +220,19 @@ import-readable-so name is none =
         states = text_item (codes "use") name (refl, (refl, (refl, tt))) refl;
       };
       judges = record { read = read_claim (claims_text name); is_read = is_read (claims_text name); is = ap (λ n. Some (user_accepted (imports n))) (sym same) };
+      table_judges = subst (λ n. Judges (codes "use") (claims_text name) (accepted (said_import n))) same (judged_import (codes "use") name refl);
     }
 
 -- ---- each item
 
-pub item-readable : EveryNameIsFound → WrittenSpells → (item : Item) → CanBeWritten item → IsUserReadable (item_text item) (user_said item)
-item-readable found spells (of_tables (said_flag c)) can = table-readable found c content_true can.0 tt
-item-readable found spells (of_tables (said_number c n)) can = table-readable found c (content_number n) can.0 can.2
-item-readable found spells (of_tables (said_text c t)) can = table-readable found c (content_text t) can.0 (can.2, can.3)
-item-readable found spells (of_tables (said_cancel c)) can = table-readable found c content_cancelled can tt
+pub item-readable : EveryNameIsFound → WrittenSpells → (item : Item) → CanBeWritten item → IsReadable (item_text item) (user_said item) (table_said item)
+item-readable found spells (of_tables (said_flag c)) can = table-readable found c content_true (said_flag c) can.0 tt (judged_flag (name_of c) c (found c can.0) can.1)
+item-readable found spells (of_tables (said_number c n)) can =
+    table-readable found c (content_number n) (said_number c n) can.0 can.2
+    (judged_number (name_of c) (decimal n) c n (found c can.0) can.1 (numeral-of n (decimal n) (decimal-digits n (omega (arith, can.2)))) can.2)
+item-readable found spells (of_tables (said_text c t)) can =
+    table-readable found c (content_text t) (said_text c t) can.0 (can.2, can.3)
+    (judged_text (name_of c) (spelling_of t) t c (capability-name c can.0).other (found c can.0) can.1 (spells t can.2 can.3))
+item-readable found spells (of_tables (said_cancel c)) can = table-readable found c content_cancelled (said_cancel c) can tt (judged_cancel (name_of c) c (found c can))
 item-readable found spells (of_tables (said_import name)) can = import-readable-so name can.0 can.1
 item-readable found spells (of_user name content) can = user-readable spells name content can.0 can.1

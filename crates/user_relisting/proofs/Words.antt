@@ -1,5 +1,5 @@
 -- Names of letters, digits and `% & * !`, as they stand in items.
-use Rattle.std.proofs.Common.{◌≡◌, ℕ, ◌<◌, Bool, true, false, not, ◌==◌, ◌||◌, ◌&&◌, nat_le, List, [], ◌∷◌, ◌++◌, length, refl, inl, inr, arith}
+use Rattle.std.proofs.Common.{◌≡◌, ℕ, ◌<◌, Bool, true, false, not, ◌==◌, ◌||◌, ◌&&◌, nat_le, List, [], ◌∷◌, ◌++◌, length, Option, Some, None, refl, inl, inr, arith}
 use Rattle.std.specs.List.{list_all}
 use Rattle.std.specs.Str.{bytes_eq}
 use Rattle.std.specs.Prelude.{codes, is_none}
@@ -141,3 +141,16 @@ unfolding is_user_defined_name
 found-not name h =
     and_right (not (length name == 0)) (list_all is_user_defined_byte name && (not (bytes_eq name (codes "use")) && is_none (capability_named name)))
     (and_right (list_all is_user_defined_byte name) (not (bytes_eq name (codes "use")) && is_none (capability_named name)) (and_right (not (bytes_eq name (codes "use"))) (is_none (capability_named name)) h))
+
+none-is : {X : Type 0} (o : Option X) → is_none o ≡ true → o ≡ None
+none-is None e = refl
+none-is (Some x) e = cc
+
+-- no capability has a user-defined name
+pub user-unknown : (name : List ℕ) → is_user_defined_name name ≡ true → capability_named name ≡ None
+unfolding is_user_defined_name
+user-unknown name h =
+    let first = and_parts (not (length name == 0)) (list_all is_user_defined_byte name && (not (bytes_eq name (codes "use")) && is_none (capability_named name))) h in
+    let second = and_parts (list_all is_user_defined_byte name) (not (bytes_eq name (codes "use")) && is_none (capability_named name)) first.1 in
+    let third = and_parts (not (bytes_eq name (codes "use"))) (is_none (capability_named name)) second.1 in
+    none-is (capability_named name) third.1

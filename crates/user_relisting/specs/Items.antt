@@ -5,7 +5,9 @@ use Rattle.ti_text.specs.Limits.{number_max}
 use Rattle.std.specs.Prelude.{◌≡◌, ℕ, ◌≤◌, true, List, [], ◌∷◌, ◌++◌, map, All, Option, Some, None}
 use Rattle.std.specs.List.{filter_map}
 use Rattle.ti_spelling.specs.Spelling.{AreBytes, HasNoNul}
-use Rattle.ti_source.specs.Reading.{Said, said_flag, said_number, said_text, said_cancel, said_import}
+use Rattle.ti_source.specs.declared.code.Code.TheVariants as code
+use Rattle.ti_source.specs.Reading.{Said, said_flag, said_number, said_text, said_cancel, said_import, ReadFault, ReadItem, Reading}
+use Rattle.ti_source.specs.Parsing.{reading_of_text}
 use Rattle.ti_layout.specs.Values.{Content, content_true, content_number, content_text, content_cancelled}
 use Rattle.ti_list.specs.Items as tables
 use Rattle.user_items.specs.Names.{is_user_defined_name}
@@ -32,6 +34,12 @@ user_said (of_tables (said_text c t)) = None
 user_said (of_tables (said_cancel c)) = None
 user_said (of_tables (said_import name)) = Some (imports name)
 user_said (of_user name content) = Some (says name content)
+
+-- what an item is to the profile: what it says of a capability, or a use; nothing if its name is
+-- user-defined
+abbrev pub table_said : Item → Option Said
+table_said (of_tables said) = Some said
+table_said (of_user name content) = None
 
 -- what follows the comma of the names field: the items in order, each after a space or on a new
 -- line that a tab begins; then a newline
@@ -63,6 +71,21 @@ CanBeWritten (of_user name content) = (is_user_defined_name name ≡ true) × Is
 pub record IsUserReadAs (said : List UserSaid) (reading : UserBlock) : Type 0 where
   pub says : map (λ (item : ReadUserItem). item.said) reading.items ≡ said
   pub none_wrong : reading.faults ≡ []
+
+-- a block was read as this names field with these names and these items, and each fault is the
+-- warning of an unknown name
+pub record IsProfileReadAs (field : List ℕ) (names : List (List ℕ)) (said : List Said) (reading : Reading) : Type 0 where
+  pub same_field : reading.field ≡ field
+  pub same_names : reading.names ≡ names
+  pub says : map (λ (item : ReadItem). item.said) reading.items ≡ said
+  pub warned : All (λ (fault : ReadFault). fault.code ≡ code.UnknownCapability) reading.faults
+
+-- A names field and items that can be written, in any layout, are read without user-defined
+-- capabilities as that field and the items of the tables; the others are warnings.
+abbrev pub ItemsAreReadByTheProfile : Type 0
+ItemsAreReadByTheProfile =
+    (field : List ℕ) (names : List (List ℕ)) (items : List Item) (text : List ℕ) → tables.IsListable field names → All CanBeWritten items → IsSource field items text
+    → IsProfileReadAs field names (filter_map table_said items) (reading_of_text text)
 
 -- A names field and items that can be written, in any layout, are read as what the items give to
 -- user-defined capabilities, without a fault.

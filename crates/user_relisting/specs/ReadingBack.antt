@@ -1,5 +1,5 @@
 -- What is read of the listing of an entry with user-defined capabilities (own).
-use Rattle.std.specs.Prelude.{◌≡◌, ◌≢◌, ℕ, true, if◌then◌else◌, List, [], ◌∷◌, ◌++◌, All, map, Option, Some, None}
+use Rattle.std.specs.Prelude.{◌≡◌, ◌≢◌, ℕ, true, if◌then◌else◌, List, [], ◌∷◌, ◌++◌, All, map, Option, Some, None, slice_get}
 use Rattle.std.specs.Option.{option_or}
 use Rattle.std.specs.Str.{bytes_eq}
 use Rattle.std.specs.List.{flat_map}
@@ -7,6 +7,8 @@ use Rattle.ti_caps.specs.declared.capability.Kind.{Kind}
 use Rattle.ti_caps.specs.declared.capability.Kind.TheVariants.{Flag, Number, Text}
 use Rattle.ti_layout.specs.Values.{Content, content_cancelled}
 use Rattle.ti_layout.specs.Laws.{without_cancel}
+use Rattle.ti_layout.specs.Image.{image, ImageFits}
+use Rattle.base_meaning.specs.Compiled.{compiled}
 use Rattle.ti_list.specs.Items.{IsListable}
 use Rattle.ti_list.specs.RelativeSource.{first_name}
 use Rattle.ti_list.specs.declared.layout.Layout.{Layout}
@@ -35,6 +37,14 @@ ListingsAreRead =
     (entry : Extended) (names : List (List ℕ)) (rows : List Row) (layout : Layout) → IsListable entry.entry.names names → CanHaveAll entry.entry.contents
     → entry.rows ≡ as_read rows → AreOfSource rows
     → IsUserReadAs (map (λ (row : Row). says row.0 row.1) rows) (user_reading_of_text (extended_listing entry layout))
+
+-- In whatever source it is, the listing of such an entry compiles without user-defined capabilities
+-- to the image of what the tables have, if that is within its limit.
+abbrev pub ListingsCompileByTheProfile : Type 0
+ListingsCompileByTheProfile =
+    (entry : Extended) (names : List (List ℕ)) (rows : List Row) (layout : Layout) → IsListable entry.entry.names names → CanHaveAll entry.entry.contents
+    → entry.rows ≡ as_read rows → AreOfSource rows → ImageFits entry.entry.names entry.entry.contents
+    → (texts : List (List ℕ)) (at : ℕ) → slice_get texts at ≡ Some (extended_listing entry layout) → compiled texts at ≡ Some (image entry.entry.names entry.entry.contents)
 
 -- ---- relative source
 

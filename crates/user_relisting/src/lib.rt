@@ -8,5 +8,6 @@
 mod reading_back;
 
 pub use reading_back::{
-    items_are_read, listings_are_read, relatives_are_read, relatives_say_the_entry,
+    items_are_read, items_are_read_by_the_profile, listings_are_read,
+    listings_compile_by_the_profile, relatives_are_read, relatives_say_the_entry,
 };

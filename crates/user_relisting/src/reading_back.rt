@@ -1,6 +1,6 @@
 //! A listing is read as what it lists.
-ghost use Rattle.user_relisting.specs.Items.{ItemsAreRead};
-ghost use Rattle.user_relisting.specs.ReadingBack.{ListingsAreRead, RelativesAreRead, RelativesSayTheEntry};
+ghost use Rattle.user_relisting.specs.Items.{ItemsAreRead, ItemsAreReadByTheProfile};
+ghost use Rattle.user_relisting.specs.ReadingBack.{ListingsAreRead, ListingsCompileByTheProfile, RelativesAreRead, RelativesSayTheEntry};
 
 /// Each text that is laid out as a listing, whatever its layout, is read as the user-defined items
 /// and the uses that it lists, without a fault.
@@ -12,6 +12,16 @@ pub fn items_are_read()
     user_items::laws::one_user_reading();
 }
 
+/// Such a text is read without user-defined capabilities as the items of the tables and the uses.
+/// Its faults are warnings of unknown names.
+pub fn items_are_read_by_the_profile()
+    ensures { ItemsAreReadByTheProfile }
+{
+    ti_caps::laws::every_name_is_found();
+    ti_source::laws::written_spells();
+    ti_source::laws::one_reading();
+}
+
 /// The listing of an entry with user-defined capabilities, in any layout, is read as exactly these,
 /// each with its value and in their order, without a fault.
 pub fn listings_are_read()
@@ -19,6 +29,16 @@ pub fn listings_are_read()
 {
     ti_caps::laws::each_kind_is_in_order();
     items_are_read();
+}
+
+/// The listing of an entry with user-defined capabilities, in any layout and in whatever source it
+/// is, compiles without these to the image of what the tables have.
+pub fn listings_compile_by_the_profile()
+    ensures { ListingsCompileByTheProfile }
+{
+    ti_caps::laws::each_kind_is_in_order();
+    ti_layout::laws::images_are_of_values();
+    items_are_read_by_the_profile();
 }
 
 /// The relative source of an entry with user-defined capabilities, in any layout, is read as what
