@@ -1,5 +1,5 @@
 -- The listing of an entry compiles without user-defined capabilities to the image of its tables.
-use Rattle.std.proofs.Common.{◌≡◌, ℕ, suc, false, List, [], ◌∷◌, map, length, Option, Some, None, option_map, option_and_then, slice_get, refl, ap, sym, ◌∙◌}
+use Rattle.std.proofs.Common.{◌≡◌, ℕ, suc, false, List, [], ◌∷◌, map, length, Option, Some, None, option_map, option_and_then, slice_get, refl, subst, ap, sym, ◌∙◌}
 use Rattle.std.specs.List.{AllByRecursion, list_any}
 use Rattle.std.specs.Option.{option_or}
 use Rattle.std.proofs.lemmas.List.{append-nil}
@@ -14,19 +14,25 @@ use Rattle.ti_source.specs.Parsing.{reading_of_text}
 use Rattle.ti_layout.specs.Values.{Content, Contents, contents}
 use Rattle.ti_layout.specs.Laws.{without_cancel, ImagesAreOfValues, LimitsAreOfValues}
 use Rattle.base_meaning.specs.Owner.{owner_block, readings}
-use Rattle.base_meaning.specs.Expansion.{is_broken, expand}
+use Rattle.base_meaning.specs.Expansion.{is_broken, expand, expansion}
 use Rattle.base_meaning.specs.Compiled.{entry as compiled_entry}
 use Rattle.ti_list.specs.Listing.{items_for}
 use Rattle.tools_relisting.proofs.Orders.{all_in}
 use Rattle.tools_relisting.proofs.Listing.{entry_items-all, mentions_for, expand_says, expand_items-says, own-expands}
 use Rattle.tools_relisting.proofs.Compiling.{all-contents, entry-is, used_at}
+use Rattle.ti_list.specs.declared.layout.Layout.{Layout}
+use Rattle.ti_list.specs.Items.{IsListable}
+use Rattle.tools_relisting.specs.Relisting.{CanHaveAll}
+use Rattle.user_extension.specs.UserDefined.{Row}
+use Rattle.user_extension.specs.Laws.{as_read}
+use Rattle.user_listing.specs.Entries.{Extended}
 use Rattle.user_listing.specs.Listing.{extended_listing}
-use Rattle.user_relisting.specs.Items.{ItemsAreReadByTheProfile}
-use Rattle.user_relisting.specs.ReadingBack.{ListingsCompileByTheProfile}
+use Rattle.user_relisting.specs.Items.{IsProfileReadAs, ItemsAreReadByTheProfile}
+use Rattle.user_relisting.specs.ReadingBack.{AreOfSource, ListingsCompileByTheProfile, ListingsSayTheTables}
 use Rattle.user_relisting.proofs.Listed.{laid_out}
 
 -- a block with warnings of unknown names alone is not broken
-not-broken : (faults : List ReadFault) → AllByRecursion (λ (fault : ReadFault). fault.code ≡ code.UnknownCapability) faults → list_any (λ (fault : ReadFault). is_error fault.code) faults ≡ false
+pub not-broken : (faults : List ReadFault) → AllByRecursion (λ (fault : ReadFault). fault.code ≡ code.UnknownCapability) faults → list_any (λ (fault : ReadFault). is_error fault.code) faults ≡ false
 not-broken [] all = refl
 not-broken (fault ∷ faults) all = rw all.0 (not-broken faults all.1)
 
@@ -43,20 +49,43 @@ or-nothing : (o : Option Content) → option_or o None ≡ o
 or-nothing None = refl
 or-nothing (Some x) = refl
 
+module _ (ordered : EachKindIsInOrder) (read : ItemsAreReadByTheProfile) where
+  -- what the profile reads of the listing of an entry
+  pub listing-read : (entry : Extended) (names : List (List ℕ)) (rows : List Row) (layout : Layout) → IsListable entry.entry.names names → CanHaveAll entry.entry.contents
+      → entry.rows ≡ as_read rows → AreOfSource rows
+      → IsProfileReadAs entry.entry.names names (items_for entry.entry.contents (all_in layout.order)) (reading_of_text (extended_listing entry layout))
+  listing-read entry names rows layout good has is are =
+      let laid = laid_out ordered entry rows layout has is are in
+      subst (λ items. IsProfileReadAs entry.entry.names names items (reading_of_text (extended_listing entry layout))) (laid.keeps ∙ entry_items-all layout entry.entry.contents)
+      (read entry.entry.names names laid.items (extended_listing entry layout) good laid.can laid.source)
+
+  -- and its expansion
+  listing-expands : (entry : Extended) (names : List (List ℕ)) (rows : List Row) (layout : Layout) → IsListable entry.entry.names names → CanHaveAll entry.entry.contents
+      → entry.rows ≡ as_read rows → AreOfSource rows → (texts : List (List ℕ))
+      → expansion (readings texts) (reading_of_text (extended_listing entry layout)) ≡ Some (mentions_for entry.entry.contents (all_in layout.order))
+  listing-expands entry names rows layout good has is are texts =
+      let block = reading_of_text (extended_listing entry layout) in
+      let readable = listing-read entry names rows layout good has is are in
+      expands (owner_block (readings texts)) (length (readings texts)) block entry.entry.contents (all_in layout.order)
+      (not-broken block.faults (recursion_from_All (λ (fault : ReadFault). fault.code ≡ code.UnknownCapability) block.faults readable.warned)) readable.says
+
+  listing-tells : (entry : Extended) (layout : Layout) (c : Capability) → IsCapability c → contents (mentions_for entry.entry.contents (all_in layout.order)) c ≡ entry.entry.contents c
+  unfolding contents
+  listing-tells entry layout c cap =
+      let table = entry.entry.contents in
+      ap (λ l. contents l c) (sym (append-nil (mentions_for table (all_in layout.order)))) ∙ all-contents ordered table layout [] c cap ∙ or-nothing (table c)
+
+  pub tables_say : ListingsSayTheTables
+  tables_say entry layout texts can =
+      (mentions_for entry.entry.contents (all_in layout.order), listing-expands entry can.names can.rows layout can.listable can.holds can.are_rows can.of_source texts, listing-tells entry layout)
+
 pub listings_compile : EachKindIsInOrder → ItemsAreReadByTheProfile → ImagesAreOfValues → LimitsAreOfValues → ListingsCompileByTheProfile
-unfolding contents
 listings_compile ordered read images limits entry names rows layout good has is are within texts at stands =
-    let table = entry.entry.contents in
     let text = extended_listing entry layout in
     let blocks = readings texts in
     let block = reading_of_text text in
-    let laid = laid_out ordered entry rows layout has is are in
-    let readable = read entry.entry.names names laid.items text good laid.can laid.source in
-    let sound = not-broken block.faults (recursion_from_All (λ (fault : ReadFault). fault.code ≡ code.UnknownCapability) block.faults readable.warned) in
-    let ms = mentions_for table (all_in layout.order) in
-    let tells : (c : Capability) → IsCapability c → without_cancel (contents ms c) ≡ without_cancel (table c) =
-    λ c cap. ap without_cancel (ap (λ l. contents l c) (sym (append-nil ms)) ∙ all-contents ordered table layout [] c cap ∙ or-nothing (table c)) in
     let read_there : slice_get blocks at ≡ Some block = slice_get-map reading_of_text texts at ∙ ap (option_map reading_of_text) stands in
     ap (option_and_then (compiled_entry blocks)) read_there
-    ∙ entry-is images limits blocks block entry.entry.names table ms
-    (expands (owner_block blocks) (length blocks) block table (all_in layout.order) sound (readable.says ∙ laid.keeps ∙ entry_items-all layout table)) readable.same_field tells within
+    ∙ entry-is images limits blocks block entry.entry.names entry.entry.contents (mentions_for entry.entry.contents (all_in layout.order))
+    (listing-expands ordered read entry names rows layout good has is are texts) (listing-read ordered read entry names rows layout good has is are).same_field
+    (λ c cap. ap without_cancel (listing-tells ordered read entry layout c cap)) within

@@ -6,3 +6,4 @@ pub mod Listed
 pub mod Compiling
 pub mod Related
 pub mod Restoring
+pub mod Telling

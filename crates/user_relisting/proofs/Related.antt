@@ -13,7 +13,10 @@ use Rattle.ti_caps.specs.NameOrder.{EachKindIsInOrder}
 use Rattle.ti_caps.specs.Tables.{Capability, IsCapability}
 use Rattle.ti_caps.specs.declared.capability.Kind.{Kind}
 use Rattle.ti_caps.specs.declared.capability.Kind.TheVariants.{Flag, Number, Text}
-use Rattle.ti_source.specs.Reading.{said_import}
+use Rattle.ti_list.specs.Items as tables
+use Rattle.ti_source.specs.declared.code.Code.TheVariants as code
+use Rattle.ti_source.specs.Parsing.{reading_of_text}
+use Rattle.ti_source.specs.Reading.{said_import, ReadFault}
 use Rattle.ti_layout.specs.Values.{Content, Contents}
 use Rattle.ti_layout.specs.View.{Entry}
 use Rattle.ti_list.specs.declared.layout.Layout.{Layout}
@@ -29,7 +32,7 @@ use Rattle.user_listing.specs.Names.{is_of_kind, names_among, names_of_both, nam
 use Rattle.user_listing.specs.Items.{item_if_said, kind_lines, table_items}
 use Rattle.user_listing.specs.RelativeSource.{differing_kind, extended_relative, first_said, user_difference}
 use Rattle.user_listing.proofs.Rows.{both-less, both-equal, both-greater}
-use Rattle.user_relisting.specs.Items.{Item, of_tables, of_user, item_text, user_said, IsTail, no_more, new_line, IsSource, CanBeWritten, IsUserReadAs, ItemsAreRead}
+use Rattle.user_relisting.specs.Items.{Item, of_tables, of_user, item_text, user_said, IsTail, no_more, new_line, IsSource, CanBeWritten, IsUserReadAs, ItemsAreRead, ItemsAreReadByTheProfile}
 use Rattle.user_relisting.specs.ReadingBack.{AreWritable, CanBeUsed, IsWritableIfSome, RelativesAreRead, differing_said, relative_said, said_if}
 use Rattle.user_relisting.proofs.Laying.{three-kinds, tables-can, texts-map, tables-give, kind-valid}
 
@@ -240,3 +243,12 @@ relatives_read ordered read entry others names layout good has own used =
     subst (λ ss. IsUserReadAs ss (user_reading_of_text (extended_relative entry others layout))) (all-give ordered entry others layout has own used)
     (read entry.entry.names names (all_items ordered entry others layout has own used) (extended_relative entry others layout) good (all-can ordered entry others layout has own used)
     (source ordered entry others layout has own used))
+
+-- without user-defined capabilities each fault is a warning
+pub relative-sound : EachKindIsInOrder → ItemsAreReadByTheProfile → (entry : Extended) (others : List Extended) (names : List (List ℕ)) (layout : Layout) → tables.IsListable entry.entry.names names
+    → CanHaveAll entry.entry.contents → AreWritable entry.rows → All CanBeUsed others
+    → AllByRecursion (λ (fault : ReadFault). fault.code ≡ code.UnknownCapability) (reading_of_text (extended_relative entry others layout)).faults
+relative-sound ordered plain entry others names layout good has own used =
+    recursion_from_All (λ (fault : ReadFault). fault.code ≡ code.UnknownCapability) (reading_of_text (extended_relative entry others layout)).faults
+    (plain entry.entry.names names (all_items ordered entry others layout has own used) (extended_relative entry others layout) good (all-can ordered entry others layout has own used)
+    (source ordered entry others layout has own used)).warned

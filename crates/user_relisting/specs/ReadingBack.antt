@@ -1,11 +1,15 @@
 -- What is read of the listing of an entry with user-defined capabilities (own).
-use Rattle.std.specs.Prelude.{◌≡◌, ◌≢◌, ℕ, true, if◌then◌else◌, List, [], ◌∷◌, ◌++◌, All, map, Option, Some, None, slice_get}
+use Rattle.std.specs.Prelude.{◌≡◌, ◌≢◌, ℕ, ◌<◌, true, if◌then◌else◌, List, [], ◌∷◌, ◌++◌, All, map, length, Option, Some, None, slice_get}
 use Rattle.std.specs.Option.{option_or}
 use Rattle.std.specs.Str.{bytes_eq}
 use Rattle.std.specs.List.{flat_map}
 use Rattle.ti_caps.specs.declared.capability.Kind.{Kind}
 use Rattle.ti_caps.specs.declared.capability.Kind.TheVariants.{Flag, Number, Text}
-use Rattle.ti_layout.specs.Values.{Content, content_cancelled}
+use Rattle.ti_caps.specs.Tables.{Capability, IsCapability}
+use Rattle.ti_source.specs.Parsing.{reading_of_text}
+use Rattle.base_meaning.specs.Owner.{readings}
+use Rattle.base_meaning.specs.Expansion as profile
+use Rattle.ti_layout.specs.Values.{Content, content_cancelled, contents, Mention}
 use Rattle.ti_layout.specs.Laws.{without_cancel}
 use Rattle.ti_layout.specs.Image.{image, ImageFits}
 use Rattle.base_meaning.specs.Compiled.{compiled}
@@ -23,6 +27,8 @@ use Rattle.user_listing.specs.Entries.{Extended}
 use Rattle.user_listing.specs.Names.{names_among}
 use Rattle.user_listing.specs.Listing.{extended_listing}
 use Rattle.user_listing.specs.RelativeSource.{extended_relative, first_said, user_difference}
+use Rattle.user_values.specs.Expansion.{UserMention, first_said as mentioned, expansion, owner_text}
+use Rattle.user_values.specs.Tables.{IsUserTableOf}
 use Rattle.user_relisting.specs.Items.{IsUserReadAs, IsWritable}
 
 -- user-defined capabilities of a source: what an entry may have, in bytes
@@ -97,3 +103,49 @@ abbrev pub RelativesSayTheEntry : Type 0
 RelativesSayTheEntry =
     (entry : Extended) (others : List Extended) (name : List ℕ) → All (λ (row : ReadRow). row.1 ≢ Some content_cancelled) entry.rows
     → without_cancel (option_or (given (relative_said entry others) name) (first_said others name)) ≡ said entry.rows name
+
+-- ---- in a source
+
+-- an entry whose names field and values can be listed, with user-defined capabilities of a source
+pub record CanBeListed (entry : Extended) : Type 0 where
+  pub names : List (List ℕ)
+  pub rows : List Row
+  pub listable : IsListable entry.entry.names names
+  pub holds : CanHaveAll entry.entry.contents
+  pub are_rows : entry.rows ≡ as_read rows
+  pub of_source : AreOfSource rows
+
+-- In whatever source it is, the listing of such an entry says of each user-defined name what the
+-- entry has.
+abbrev pub ListingsSayTheEntry : Type 0
+ListingsSayTheEntry = (entry : Extended) (layout : Layout) (texts : List (List ℕ)) → CanBeListed entry → IsUserTableOf texts (extended_listing entry layout) (said entry.rows)
+
+-- And without user-defined capabilities it says of each capability of the tables what the entry has.
+abbrev pub ListingsSayTheTables : Type 0
+ListingsSayTheTables =
+    (entry : Extended) (layout : Layout) (texts : List (List ℕ)) → CanBeListed entry
+    → (mentions : List Mention) × (profile.expansion (readings texts) (reading_of_text (extended_listing entry layout)) ≡ Some mentions)
+    × ((c : Capability) → IsCapability c → contents mentions c ≡ entry.entry.contents c)
+
+-- an entry, and the layout of its listing
+abbrev pub Listed : Type 0
+Listed = Extended × Layout
+
+-- the entries without their layouts
+abbrev pub entries_of : List Listed → List Extended
+entries_of listed = map (λ (one : Listed). one.0) listed
+
+-- the first name of an entry leads to its listing
+pub record IsListedIn (texts : List (List ℕ)) (one : Listed) : Type 0 where
+  pub listed : CanBeListed one.0
+  pub first : IsUsableName (first_name one.0.entry.names)
+  pub owned : owner_text texts (first_name one.0.entry.names) ≡ Some (extended_listing one.0 one.1)
+
+-- In a source in which the first names of the others lead to their listings, each in any layout,
+-- the relative source of an entry says of each user-defined name what the entry has, a cancel being
+-- nothing.
+abbrev pub RelativesSayTheEntryInASource : Type 0
+RelativesSayTheEntryInASource =
+    (entry : Extended) (layout : Layout) (listed : List Listed) (texts : List (List ℕ)) → CanBeListed entry → 0 < length texts → All (IsListedIn texts) listed
+    → (mentions : List UserMention) × (expansion texts (extended_relative entry (entries_of listed) layout) ≡ Some mentions)
+    × ((name : List ℕ) → without_cancel (mentioned mentions name) ≡ said entry.rows name)

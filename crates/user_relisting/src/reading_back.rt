@@ -1,6 +1,6 @@
 //! A listing is read as what it lists.
 ghost use Rattle.user_relisting.specs.Items.{ItemsAreRead, ItemsAreReadByTheProfile};
-ghost use Rattle.user_relisting.specs.ReadingBack.{ListingsAreRead, ListingsCompileByTheProfile, RelativesAreRead, RelativesSayTheEntry};
+ghost use Rattle.user_relisting.specs.ReadingBack.{ListingsAreRead, ListingsCompileByTheProfile, ListingsSayTheEntry, ListingsSayTheTables, RelativesAreRead, RelativesSayTheEntry, RelativesSayTheEntryInASource};
 
 /// Each text that is laid out as a listing, whatever its layout, is read as the user-defined items
 /// and the uses that it lists, without a fault.
@@ -55,3 +55,24 @@ pub fn relatives_are_read()
 pub fn relatives_say_the_entry()
     ensures { RelativesSayTheEntry }
 {}
+
+/// In whatever source it is, the listing of an entry with user-defined capabilities says of each
+/// user-defined name and of each capability of the tables what the entry has.
+pub fn listings_say_the_entry()
+    ensures user_defined { ListingsSayTheEntry }
+    ensures tables { ListingsSayTheTables }
+{
+    ti_caps::laws::each_kind_is_in_order();
+    items_are_read();
+    items_are_read_by_the_profile();
+}
+
+/// In a source in which the first names of the others lead to their listings, the relative source
+/// of an entry says of each user-defined name what the entry has.
+pub fn relatives_say_the_entry_in_a_source()
+    ensures { RelativesSayTheEntryInASource }
+{
+    ti_caps::laws::each_kind_is_in_order();
+    items_are_read();
+    items_are_read_by_the_profile();
+}
