@@ -3,3 +3,4 @@ pub mod Rows
 pub mod Alone
 pub mod Profile
 pub mod Compared
+pub mod Rising

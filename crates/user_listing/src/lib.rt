@@ -18,7 +18,7 @@
 //! - `listing`: an entry as source text (`list`)
 //! - `relative_source`: an entry as source text, as it differs from others (`relative`)
 //! - `comparison`: two entries compared (`compare`)
-//! - `laws`: without user-defined names, these are the texts of `ti_list`
+//! - `laws`: without user-defined names, these are the texts of `ti_list`; names come in order
 //!
 //! Layouts, orders, modes and the refusal are those of `ti_list`.
 #![tactic(auto)]
