@@ -76,9 +76,26 @@ def table(name, words):
     return f"EXPORTED const char *const {name}[] = {{\n" + "\n".join([*lines, line]) + "\n};\n"
 
 
+HEAD = """/* Written by build/tinfo.py. */
+#define EXPORTED __attribute__((visibility("default")))
+
+struct coded {
+    char code[3];
+    short index;
+};
+"""
+
+
+def code_table(kind, coded):
+    """The text of a table of a kind's codes in their order; the last of two has the code."""
+    indexes = {code: index for index, (_, code) in enumerate(coded)}
+    rows = "".join(f'    {{ "{code}", {indexes[code]} }},\n' for code in sorted(indexes, key=str.encode))
+    return f"static const struct coded {kind}_by_code[] = {{\n{rows}}};\n"
+
+
 def names_header():
     """The text of names.h: the tables, and an index for each name."""
-    parts = ["/* Written by build/tinfo.py. */\n#define EXPORTED __attribute__((visibility(\"default\")))\n"]
+    parts = [HEAD]
     left = codes()
     for kind in KINDS:
         names, variables = names_of(kind), variables_of(kind)
@@ -88,6 +105,7 @@ def names_header():
         parts.append(table(f"{kind}names", names))
         parts.append(table(f"{kind}codes", [code for _, code in coded]))
         parts.append(table(f"{kind}fnames", variables))
+        parts.append(code_table(kind, coded))
         indexes = "".join(f"    {kind.upper()}_{name} = {index},\n" for index, name in enumerate(names))
         parts.append(f"enum {{\n{indexes}}};\n")
     if left:

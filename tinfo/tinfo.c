@@ -518,16 +518,40 @@ struct taken {
  * before, if it was one.
  */
 static int pops_of(char code, int last) {
-    if (code && strchr("doxXcsl", code)) return last ? 0 : 1;
-    if (code && strchr("+-*/m&|^=<>AO", code)) return 2;
-    return code == '!' || code == '~' || code == 'P';
+    switch (code) {
+    case 'd': case 'o': case 'x': case 'X': case 'c': case 's': case 'l':
+        return last ? 0 : 1;
+    case '+': case '-': case '*': case '/': case 'm': case '&': case '|': case '^': case '=':
+    case '<': case '>': case 'A': case 'O':
+        return 2;
+    case '!': case '~': case 'P':
+        return 1;
+    default:
+        return 0;
+    }
+}
+
+/* Whether a code leaves what was put on the stack where it is. */
+static bool is_quiet(char code) {
+    return code == 'i' || code == '?' || code == 't' || code == 'e' || code == ';';
+}
+
+/* The letter of a code, after its flags, width and precision. */
+static const char *letter_of(const char *at) {
+    bool has_sign = *at == ':';
+    while ((*at >= '0' && *at <= '9') || *at == '.' || *at == '#' || *at == ' ' ||
+           (has_sign && (*at == ':' || *at == '+' || *at == '-')))
+        at++;
+    return at;
 }
 
 /* The text after a code of a format, of which `at` is the letter. */
 static const char *after_code(const char *at) {
-    if (*at == '{') return at + strcspn(at, "}");
-    size_t more = *at == '\'' ? 2 : *at && strchr("pPg", *at) ? 1 : 0;
-    return at + strnlen(at, 1 + more);
+    int more = *at == '\'' ? 3 : *at == 'p' || *at == 'P' || *at == 'g' ? 2 : 1;
+    if (*at == '{')
+        while (*at && *at != '}') at++;
+    while (*at && more-- > 0) at++;
+    return at;
 }
 
 /*
@@ -537,9 +561,9 @@ static const char *after_code(const char *at) {
 static struct taken taken_by(const char *format) {
     struct taken taken = { 0, 0, false };
     int pops = 0, last = 0;
-    for (const char *at = strchr(format, '%'); at; at = strchr(at, '%')) {
-        at++;
-        at += strspn(at, *at == ':' ? ":-+# 0123456789." : "# 0123456789.");
+    for (const char *at = format; *at;) {
+        if (*at++ != '%') continue;
+        at = letter_of(at);
         if (*at == 'p' && at[1] >= '1' && at[1] <= '9') {
             last = at[1] - '0';
             taken.by_number = true;
@@ -547,7 +571,7 @@ static struct taken taken_by(const char *format) {
         } else {
             pops += pops_of(*at, last);
             if (last && (*at == 's' || *at == 'l')) taken.texts |= 1u << (last - 1);
-            if (*at && !strchr("i?te;", *at)) last = 0;
+            if (!is_quiet(*at)) last = 0;
         }
         at = after_code(at);
     }
@@ -650,19 +674,20 @@ EXPORTED char *tiparm(const char *format, ...) {
     return text;
 }
 
-/* Expands a format for two numbers. */
-static char *expand_two(const char *format, int first, int second) {
+/* Expands a format for two numbers, and 0 for each further one. */
+static char *expand_two(const char *format, struct taken taken, int first, int second) {
     struct ti_parameter params[PARAMETERS];
     for (int i = 0; i < PARAMETERS; i++) params[i] = ti_number_given(0);
     params[0].number = first;
     params[1].number = second;
-    return is_string(format) ? expand(format, taken_by(format), params) : NULL;
+    return expand(format, taken, params);
 }
 
 /* A format of more than two parameters is not for this call. */
 EXPORTED char *tgoto(const char *format, int column, int line) {
-    if (!is_string(format) || taken_by(format).count > 2) return NULL;
-    return expand_two(format, line, column);
+    if (!is_string(format)) return NULL;
+    struct taken taken = taken_by(format);
+    return taken.count > 2 ? NULL : expand_two(format, taken, line, column);
 }
 
 /* ---- writing: tputs(3x) */
@@ -746,6 +771,11 @@ static bool put_waiting(struct ti_text text, uint32_t lines, struct ti_line line
 /* The answer of `put` is not looked at: programs let it give anything. */
 EXPORTED int tputs(const char *given, int lines, int (*put)(int)) {
     if (!is_string(given)) return ERR;
+    /* most texts have no delay */
+    if (!strstr(given, "$<")) {
+        while (*given) put((unsigned char)*given++);
+        return OK;
+    }
     struct ti_text text = ti_text_of(given);
     struct ti_line line = current_line();
     struct padded made;
@@ -775,13 +805,17 @@ static bool is_same_user_code(const char *asked, const char *name) {
 
 static bool is_code(const char *asked) { return asked[0] && asked[1]; }
 
-/* The index of a code in a table, or -1: the last one, since "ML" is that of smglr. */
-static int code_index(const char *const *codes, const char *asked) {
-    int found = -1;
-    for (int i = 0; codes[i]; i++)
-        if (is_same_code(asked, codes[i])) found = i;
-    return found;
+static int compare_codes(const void *asked, const void *row) {
+    return memcmp(asked, ((const struct coded *)row)->code, 2);
 }
+
+/* The index of a code in a table of names.h, or -1. */
+static int code_index(const struct coded *rows, size_t count, const char *asked) {
+    const struct coded *found =
+        (const struct coded *)bsearch(asked, rows, count, sizeof *rows, compare_codes);
+    return found ? found->index : -1;
+}
+#define CODE_INDEX(rows, asked) code_index(rows, sizeof(rows) / sizeof(rows)[0], asked)
 
 /* The text after a delay `$<..>` and after what means 0 in a control sequence, if they are here. */
 static const char *after_delay(const char *at) {
@@ -839,7 +873,8 @@ static bool drop_rmacs(char *text, const char *rmacs) {
 static char *sgr0_without_acs(void) {
     char *sgr0 = string_at(STR_sgr0), *sgr = string_at(STR_sgr), *rmacs = string_at(STR_rmacs);
     if (!sgr0 || !sgr || !rmacs || !string_at(STR_smacs)) return NULL;
-    char *off = expand_two(sgr, 0, 0), *made = off ? strdup(off) : NULL, *end = strdup(sgr0);
+    char *off = expand_two(sgr, taken_by(sgr), 0, 0);
+    char *made = off ? strdup(off) : NULL, *end = strdup(sgr0);
     bool is_found = made && end && drop_rmacs(made, rmacs);
     if (is_found) drop_rmacs(end, rmacs);
     if (!is_found || !do_same(made, end)) {
@@ -899,21 +934,21 @@ EXPORTED int tgetent(char *buffer, const char *name) {
 
 EXPORTED int tgetflag(const char *code) {
     if (!cur_term || !is_code(code)) return 0;
-    int index = code_index(boolcodes, code);
+    int index = CODE_INDEX(bool_by_code, code);
     if (index < 0) index = user_flag(code, is_same_user_code);
     return index >= 0 && cur_term->type.Booleans[index];
 }
 
 EXPORTED int tgetnum(const char *code) {
     if (!cur_term || !is_code(code)) return -1;
-    int index = code_index(numcodes, code);
+    int index = CODE_INDEX(num_by_code, code);
     if (index < 0) index = user_number(code, is_same_user_code);
     return index < 0 ? -1 : cur_term->numbers[index];
 }
 
 EXPORTED char *tgetstr(const char *code, char **area) {
     if (!cur_term || !is_code(code)) return NULL;
-    int index = code_index(strcodes, code);
+    int index = CODE_INDEX(str_by_code, code);
     if (index < 0) index = user_string(code, is_same_user_code);
     char *text = index < 0 ? NULL : string_at(index);
     if (index == STR_sgr0 && text && cur_term->without_acs) text = cur_term->without_acs;
