@@ -29,7 +29,8 @@ said-alone kind None = refl
 said-alone kind (Some x) = refl
 
 names-alone : (kind : Kind) (rows : List ReadRow) (names : List (List ℕ))
-    → flat_map (λ (name : List ℕ). item_if_said name (user_difference kind (said rows name) None)) names ≡ flat_map (λ (name : List ℕ). item_if_said name (of_kind kind (said rows name))) names
+    → flat_map (λ (name : List ℕ). item_if_said name (user_difference kind (said rows name) None)) names ≡ flat_map (λ (name : List ℕ). item_if_said name
+    (of_kind kind (said rows name))) names
 names-alone kind rows [] = refl
 names-alone kind rows (name ∷ names) = rw (said-alone kind (said rows name), names-alone kind rows names) refl
 

@@ -33,7 +33,8 @@ pub table-row : (mode : Mode) (one other : Contents) (caps : List Capability) (p
     → slice_get caps place ≡ Some c → kind ≡ c.kind → name ≡ name_of c → x ≡ one c → y ≡ other c → after ≡ before ++ named_row mode kind name x y
     → before ++ rows mode one other (drop place caps) ≡ all → after ++ rows mode one other (drop (place + 1) caps) ≡ all
 table-row mode one other caps place c kind name x y before after all at of_kind of_name of_one of_other writes invariant =
-    let same : named_row mode kind name x y ≡ row mode c x y = ap (λ (k : Kind). named_row mode k name x y) of_kind ∙ ap (λ (n : List ℕ). named_row mode c.kind n x y) of_name ∙ row-named mode c x y in
+    let same : named_row mode kind name x y ≡ row mode c x y = ap (λ (k : Kind). named_row mode k name x y) of_kind
+    ∙ ap (λ (n : List ℕ). named_row mode c.kind n x y) of_name ∙ row-named mode c x y in
     rows-step mode one other caps place c x y before after all at of_one of_other (writes ∙ ap (λ (t : List ℕ). before ++ t) same) invariant
 
 -- after the last capability there are no rows

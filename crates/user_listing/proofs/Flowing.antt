@@ -34,13 +34,15 @@ table-at table caps place c x at some =
     ap (map item_text) (items-some table caps place c x at some) ∙ ap (λ (t : List ℕ). t ∷ table_from table caps (place + 1)) (item-named c x)
 
 -- after the item of a capability was written, what is still to come is as it was
-pub table-some : (layout : Layout) (line taken : Option ℕ) (before after all : List ℕ) (table : Contents) (caps : List Capability) (place : ℕ) (c : Capability) (x : Content) (later : List (List ℕ))
+pub table-some : (layout : Layout) (line taken : Option ℕ) (before after all : List ℕ) (table : Contents) (caps : List Capability) (place : ℕ) (c : Capability)
+    (x : Content) (later : List (List ℕ))
     → slice_get caps place ≡ Some c → table c ≡ Some x
     → ((items : List (List ℕ)) → after ++ flow layout taken items ≡ before ++ flow layout line (named_item (name_of c) x ∷ items))
     → before ++ flow layout line (table_from table caps place ++ later) ≡ all
     → after ++ flow layout taken (table_from table caps (place + 1) ++ later) ≡ all
 table-some layout line taken before after all table caps place c x later at some writes invariant =
-    writes (table_from table caps (place + 1) ++ later) ∙ ap (λ (items : List (List ℕ)). before ++ flow layout line (items ++ later)) (sym (table-at table caps place c x at some)) ∙ invariant
+    writes (table_from table caps (place + 1) ++ later)
+    ∙ ap (λ (items : List (List ℕ)). before ++ flow layout line (items ++ later)) (sym (table-at table caps place c x at some)) ∙ invariant
 
 -- if a capability has no item, what is still to come is as it was
 pub table-none : (layout : Layout) (line : Option ℕ) (before all : List ℕ) (table : Contents) (caps : List Capability) (place : ℕ) (c : Capability) (later : List (List ℕ))

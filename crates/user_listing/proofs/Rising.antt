@@ -130,7 +130,8 @@ rise-by x v xs vs Equal e one other less equal greater =
 rise-by x v xs vs Greater e one other less equal greater =
     subst Rises (sym (both-greater x v xs vs e)) (both-below v (x ∷ xs) vs (turned x v e, below-less v x xs (turned x v e) one.0) other.0, greater)
 
-rise-at : (x : List ℕ) (xs : List (List ℕ)) → Rises (x ∷ xs) → ((ys : List (List ℕ)) → Rises ys → Rises (names_of_both xs ys)) → (vs : List (List ℕ)) → Rises vs → Rises (names_of_both (x ∷ xs) vs)
+rise-at : (x : List ℕ) (xs : List (List ℕ)) → Rises (x ∷ xs) → ((ys : List (List ℕ)) → Rises ys → Rises (names_of_both xs ys)) → (vs : List (List ℕ)) → Rises vs
+    → Rises (names_of_both (x ∷ xs) vs)
 unfolding IsStrictlySortedBy
 rise-at x xs one on [] other = one
 rise-at x xs one on (v ∷ vs) other = rise-by x v xs vs (slice_cmp nat_cmp x v) refl one other (on (v ∷ vs) other) (on vs other.1) (rise-at x xs one on vs other.1)

@@ -1,5 +1,6 @@
 -- The names of a kind among the rows of an extension, one row after the other, and of two lists.
-use Rattle.std.proofs.Common.{◌≡◌, ℕ, ◌+◌, ◌<◌, ◌≤◌, true, false, List, [], ◌∷◌, ◌++◌, length, drop, get_or, slice_get, option_map, Option, Some, refl, sym, ◌∙◌, ap, append_assoc, append-nil, add-one, unwrap_or, map, ◌⊎◌, inl, inr}
+use Rattle.std.proofs.Common.{◌≡◌, ℕ, ◌+◌, ◌<◌, ◌≤◌, true, false, List, [], ◌∷◌, ◌++◌, length, drop, get_or, slice_get, option_map, Option, Some}
+use Rattle.std.proofs.Common.{refl, sym, ◌∙◌, ap, append_assoc, append-nil, add-one, unwrap_or, map, ◌⊎◌, inl, inr}
 use Rattle.std.specs.Ordering.{nat_cmp}
 use Rattle.std.specs.Cmp.Lexicographic.{slice_cmp}
 use Rattle.std.specs.declared.cmp.Ordering.TheVariants.{Less, Equal, Greater}
@@ -30,7 +31,8 @@ names-there kind rows place name value before all within of_name of_value is inv
     let kinded : is_of_kind kind r.1 ≡ true = rw (← valued) is in
     let of : names_of_kind kind (r ∷ drop (place + 1) rows) ≡ r.0 ∷ names_of_kind kind (drop (place + 1) rows) = rw kinded refl in
     append_assoc before (name ∷ []) _
-    ∙ ap (λ (t : List (List ℕ)). before ++ t) (ap (λ (n : List ℕ). n ∷ names_of_kind kind (drop (place + 1) rows)) named ∙ sym of ∙ ap (names_of_kind kind) (sym (rest-at rows place d within)))
+    ∙ ap (λ (t : List (List ℕ)). before ++ t) (ap (λ (n : List ℕ). n ∷ names_of_kind kind (drop (place + 1) rows)) named ∙ sym of
+    ∙ ap (names_of_kind kind) (sym (rest-at rows place d within)))
     ∙ invariant
 
 -- a row that has none
@@ -68,7 +70,8 @@ module _ {X : Type 0} (f : X → List ℕ) (one other : List X) (left right : �
       → names ++ names_of_both (map f (drop left one)) (map f (drop right other)) ≡ all → (names ++ map f (drop left one)) ++ map f (drop right other) ≡ all
   both-ended names all (inl past) invariant =
       let none : drop left one ≡ [] = drop_all left one past in
-      let here : names_of_both (map f (drop left one)) (map f (drop right other)) ≡ map f (drop right other) = ap (λ (xs : List X). names_of_both (map f xs) (map f (drop right other))) none in
+      let here : names_of_both (map f (drop left one)) (map f (drop right other)) ≡ map f (drop right other) = ap (λ (xs : List X). names_of_both (map f xs) (map f
+      (drop right other))) none in
       let front : names ++ map f (drop left one) ≡ names = ap (λ (xs : List X). names ++ map f xs) none ∙ append-nil names in
       ap (λ (ns : List (List ℕ)). ns ++ map f (drop right other)) front ∙ ap (λ (ns : List (List ℕ)). names ++ ns) (sym here) ∙ invariant
   both-ended names all (inr past) invariant =

@@ -32,7 +32,8 @@ use Rattle.user_relisting.specs.ReadingBack.{AreOfSource, ListingsCompileByThePr
 use Rattle.user_relisting.proofs.Listed.{laid_out}
 
 -- a block with warnings of unknown names alone is not broken
-pub not-broken : (faults : List ReadFault) → AllByRecursion (λ (fault : ReadFault). fault.code ≡ code.UnknownCapability) faults → list_any (λ (fault : ReadFault). is_error fault.code) faults ≡ false
+pub not-broken : (faults : List ReadFault) → AllByRecursion (λ (fault : ReadFault). fault.code ≡ code.UnknownCapability) faults
+    → list_any (λ (fault : ReadFault). is_error fault.code) faults ≡ false
 not-broken [] all = refl
 not-broken (fault ∷ faults) all = rw all.0 (not-broken faults all.1)
 

@@ -53,7 +53,8 @@ three-kinds layout field one two three more rest laid =
     let third = kind_lines layout (map item_text three) in
     record {
       tail = first ++ (second ++ (third ++ rest));
-      whole = append_assoc ((field ++ 44 ∷ first) ++ second) third rest ∙ append_assoc (field ++ 44 ∷ first) second (third ++ rest) ∙ append_assoc field (44 ∷ first) (second ++ (third ++ rest));
+      whole = append_assoc ((field ++ 44 ∷ first) ++ second) third rest ∙ append_assoc (field ++ 44 ∷ first) second (third ++ rest)
+          ∙ append_assoc field (44 ∷ first) (second ++ (third ++ rest));
       is_tail = lines-tail layout one (two ++ (three ++ more)) (second ++ (third ++ rest)) (lines-tail layout two (three ++ more) (third ++ rest) (lines-tail layout three more rest laid));
     }
 
@@ -100,7 +101,8 @@ tables-give table (c ∷ cs) items =
     ∙ ap (filter_map user_said) (append_assoc (map of_tables (item_for c (table c))) (map of_tables (items_for table cs)) items)
     ∙ table-gives c (table c) (map of_tables (items_for table cs) ++ items) ∙ tables-give table cs items
 
-pub kind-valid : EachKindIsInOrder → (layout : Layout) → (AllByRecursion IsCapability (in_order layout.order Flag)) × (AllByRecursion IsCapability (in_order layout.order Number)) × AllByRecursion IsCapability (in_order layout.order Text)
+pub kind-valid : EachKindIsInOrder → (layout : Layout)
+    → (AllByRecursion IsCapability (in_order layout.order Flag)) × (AllByRecursion IsCapability (in_order layout.order Number)) × AllByRecursion IsCapability (in_order layout.order Text)
 kind-valid ordered layout =
     let all = recursion_from_All IsCapability (all_in layout.order) (all_in-all ordered layout.order).valid in
     let rest = right-part IsCapability (in_order layout.order Flag) (in_order layout.order Number ++ in_order layout.order Text) all in (

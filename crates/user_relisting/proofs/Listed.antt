@@ -1,5 +1,6 @@
 -- The listing of an entry with user-defined capabilities is read as these.
-use Rattle.std.proofs.Common.{◌≡◌, ◌≢◌, ℕ, suc, ◌<◌, ◌≤◌, Bool, true, false, ◌||◌, ◌&&◌, ◌==◌, List, [], ◌∷◌, ◌++◌, map, cond, length, get_or, Some, refl, ap, sym, ◌∙◌, subst, append_assoc, append-nil, arith}
+use Rattle.std.proofs.Common.{◌≡◌, ◌≢◌, ℕ, suc, ◌<◌, ◌≤◌, Bool, true, false, ◌||◌, ◌&&◌, ◌==◌, List, [], ◌∷◌, ◌++◌, map, cond, length, get_or, Some}
+use Rattle.std.proofs.Common.{refl, ap, sym, ◌∙◌, subst, append_assoc, append-nil, arith}
 use Rattle.std.specs.List.{All, AllByRecursion, filter_map, flat_map}
 use Rattle.std.specs.Str.{bytes_eq}
 use Rattle.std.proofs.lemmas.Bool.{false_from_ne_true}
@@ -133,9 +134,11 @@ rows-give (u ∷ us) items = ap (λ (ss : List UserSaid). says u.0 u.1 ∷ ss) (
 abbrev kind_list : Layout → Contents → Kind → List Row → List Item
 kind_list layout table kind us = map of_tables (kind_items layout table kind) ++ map of_row us
 
-kind-texts : (layout : Layout) (table : Contents) (kind : Kind) (us : List Row) → map item_text (kind_list layout table kind us) ≡ table_items layout table kind ++ map item_text (map of_row us)
+kind-texts : (layout : Layout) (table : Contents) (kind : Kind) (us : List Row)
+    → map item_text (kind_list layout table kind us) ≡ table_items layout table kind ++ map item_text (map of_row us)
 kind-texts layout table kind us =
-    map-append item_text (map of_tables (kind_items layout table kind)) (map of_row us) ∙ ap (λ (items : List (List ℕ)). items ++ map item_text (map of_row us)) (texts-map (kind_items layout table kind))
+    map-append item_text (map of_tables (kind_items layout table kind)) (map of_row us)
+    ∙ ap (λ (items : List (List ℕ)). items ++ map item_text (map of_row us)) (texts-map (kind_items layout table kind))
 
 kind-gives : (layout : Layout) (table : Contents) (kind : Kind) (us : List Row) (items : List Item)
     → filter_map user_said (kind_list layout table kind us ++ items) ≡ map (λ (u : Row). says u.0 u.1) us ++ filter_map user_said items
@@ -202,7 +205,8 @@ laid-by-kind ordered entry layout F N T kinds has is are can =
     (All-append CanBeWritten texts [] (kind-can layout table Text T valid.2 has (right-part (λ (u : Row). CanBeWritten (of_row u)) N T can_rest)) (All-nil CanBeWritten))) in
     let last : (F ++ N) ++ (T ++ []) ≡ F ++ (N ++ T) = ap (λ t. (F ++ N) ++ t) (append-nil T) ∙ append_assoc F N T in
     let of_flags : user_items Flag (as_read (F ++ (N ++ T))) ≡ map item_text (map of_row F) =
-    items-among Flag [] F (N ++ T) tt kinds.flags.0 (both-others Flag N T kinds.numbers.0 kinds.texts.0) (left-part (λ (u : Row). said (as_read (F ++ (N ++ T))) u.0 ≡ Some u.1) F (N ++ T) are) in
+    items-among Flag [] F (N ++ T) tt kinds.flags.0 (both-others Flag N T kinds.numbers.0 kinds.texts.0) (left-part (λ (u : Row). said (as_read (F ++
+    (N ++ T))) u.0 ≡ Some u.1) F (N ++ T) are) in
     let of_numbers : user_items Number (as_read (F ++ (N ++ T))) ≡ map item_text (map of_row N) =
     items-among Number F N T kinds.flags.1 kinds.numbers.1 kinds.texts.1 (left-part (λ (u : Row). said (as_read (F ++ (N ++ T))) u.0 ≡ Some u.1) N T are_rest) in
     let of_texts : user_items Text (as_read (F ++ (N ++ T))) ≡ map item_text (map of_row T) =
@@ -227,7 +231,8 @@ laid-by-kind ordered entry layout F N T kinds has is are can =
     (kind-keeps layout table Number N (texts ++ []) ∙ ap (λ ss. kind_items layout table Number ++ ss) (kind-keeps layout table Text T [] ∙ append-nil (kind_items layout table Text))) in
     record { items = flags ++ (numbers ++ (texts ++ [])); can = each; source = whole; gives = gives; keeps = keeps }
 
-can-be-written : (us : List Row) → AllByRecursion (λ (u : Row). is_user_defined_name u.0 ≡ true) us → AllByRecursion (λ (u : Row). IsWritable u.1) us → AllByRecursion (λ (u : Row). CanBeWritten (of_row u)) us
+can-be-written : (us : List Row) → AllByRecursion (λ (u : Row). is_user_defined_name u.0 ≡ true) us → AllByRecursion (λ (u : Row). IsWritable u.1) us
+    → AllByRecursion (λ (u : Row). CanBeWritten (of_row u)) us
 can-be-written [] names values = tt
 can-be-written (u ∷ us) names values = ((names.0, values.0), can-be-written us names.1 values.1)
 
@@ -236,11 +241,13 @@ pub laid_out : EachKindIsInOrder → (entry : Extended) (rows : List Row) (layou
     → IsLaidOut entry layout rows
 laid_out ordered entry rows layout has is are =
     let user = are.user_defined in
-    let s = split rows user.values (λ i j d lt within. ranks (kind_rank (get_or rows i d).1) (kind_rank (get_or rows j d).1) (is_lt (slice_cmp nat_cmp (get_or rows i d).0 (get_or rows j d).0)) (user.rise i j d lt within)) in
+    let s = split rows user.values (λ i j d lt within. ranks (kind_rank (get_or rows i d).1) (kind_rank (get_or rows j d).1) (is_lt (slice_cmp nat_cmp
+    (get_or rows i d).0 (get_or rows j d).0)) (user.rise i j d lt within)) in
     let kinds : ByKind (map as_flag s.fs) (map as_number s.ns) (map as_text s.ts) = record { flags = flags-kind s.fs; numbers = numbers-kind s.ns; texts = texts-kind s.ts } in
     let can = can-be-written rows (recursion_from_All (λ (u : Row). is_user_defined_name u.0 ≡ true) rows user.names) (recursion_from_All (λ (u : Row). IsWritable u.1) rows are.writable) in
     subst (IsLaidOut entry layout) (sym s.whole)
-    (laid-by-kind ordered entry layout (map as_flag s.fs) (map as_number s.ns) (map as_text s.ts) kinds has (is ∙ ap as_read s.whole) (subst (λ us. AreSaid (as_read us) us) s.whole (all-said rows user.once))
+    (laid-by-kind ordered entry layout (map as_flag s.fs) (map as_number s.ns) (map as_text s.ts) kinds has (is
+    ∙ ap as_read s.whole) (subst (λ us. AreSaid (as_read us) us) s.whole (all-said rows user.once))
     (subst (λ us. AllByRecursion (λ (u : Row). CanBeWritten (of_row u)) us) s.whole can))
 
 pub listings_read : EachKindIsInOrder → ItemsAreRead → ListingsAreRead

@@ -25,9 +25,11 @@ use Rattle.tools_relisting.proofs.Cutting.{is_whole, whole-cons, whole-cut}
 use Rattle.tools_relisting.proofs.Unfolding.{is_dark, is_inline, unbroken-inline, unbroken-dark, is_calm, uncommented-calm, calm-inline, split-bytes, split-byte}
 use Rattle.user_items.specs.Laws.{BlocksHaveOneUserReading}
 use Rattle.user_items.specs.Parsing.{ReadsUserItems}
-use Rattle.user_items.specs.Reading.{ReadUserItem, UserBlock, UserJudged, IsUserJudged, states_nothing, states_another, states_user, AreUserJudged, no_item, item_and_rest, items_from, faults_from, reading_by}
+use Rattle.user_items.specs.Reading.{ReadUserItem, UserBlock, UserJudged, IsUserJudged, states_nothing, states_another, states_user, AreUserJudged}
+use Rattle.user_items.specs.Reading.{no_item, item_and_rest, items_from, faults_from, reading_by}
 use Rattle.user_items.specs.Verdicts.{UserSaid, user_accepted, UserJudges}
-use Rattle.user_relisting.specs.Items.{Item, item_text, user_said, table_said, IsTail, no_more, same_line, new_line, IsSource, CanBeWritten, IsUserReadAs, IsProfileReadAs, ItemsAreRead, ItemsAreReadByTheProfile}
+use Rattle.user_relisting.specs.Items.{Item, item_text, user_said, table_said, IsTail, no_more, same_line, new_line, IsSource, CanBeWritten}
+use Rattle.user_relisting.specs.Items.{IsUserReadAs, IsProfileReadAs, ItemsAreRead, ItemsAreReadByTheProfile}
 use Rattle.user_relisting.proofs.Stating.{IsReadable, item-readable, table_verdict}
 
 -- what comes of an item on this line that gives this to user-defined capabilities

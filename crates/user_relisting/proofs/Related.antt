@@ -32,7 +32,8 @@ use Rattle.user_listing.specs.Names.{is_of_kind, names_among, names_of_both, nam
 use Rattle.user_listing.specs.Items.{item_if_said, kind_lines, table_items}
 use Rattle.user_listing.specs.RelativeSource.{differing_kind, extended_relative, first_said, user_difference}
 use Rattle.user_listing.proofs.Rows.{both-less, both-equal, both-greater}
-use Rattle.user_relisting.specs.Items.{Item, of_tables, of_user, item_text, user_said, IsTail, no_more, new_line, IsSource, CanBeWritten, IsUserReadAs, ItemsAreRead, ItemsAreReadByTheProfile}
+use Rattle.user_relisting.specs.Items.{Item, of_tables, of_user, item_text, user_said, IsTail, no_more, new_line, IsSource, CanBeWritten}
+use Rattle.user_relisting.specs.Items.{IsUserReadAs, ItemsAreRead, ItemsAreReadByTheProfile}
 use Rattle.user_relisting.specs.ReadingBack.{AreWritable, CanBeUsed, IsWritableIfSome, RelativesAreRead, differing_said, relative_said, said_if}
 use Rattle.user_relisting.proofs.Laying.{three-kinds, tables-can, texts-map, tables-give, kind-valid}
 
@@ -110,10 +111,12 @@ with-users kind names [] users can = users
 with-users kind names (other ∷ others) users can =
     let used = All-head CanBeUsed other others can in
     with-users kind (names_of_both names (names_of_kind kind other.rows)) others
-    (both-users names (names_of_kind kind other.rows) users (kind-users kind other.rows (recursion_from_All (λ (row : ReadRow). is_user_defined_name row.0 ≡ true) other.rows used.user_defined)))
+    (both-users names (names_of_kind kind other.rows) users (kind-users kind other.rows (recursion_from_All (λ
+    (row : ReadRow). is_user_defined_name row.0 ≡ true) other.rows used.user_defined)))
     (All-tail CanBeUsed other others can)
 
-own-users : (rows : List ReadRow) → AllByRecursion (λ (row : ReadRow). (is_user_defined_name row.0 ≡ true) × IsWritableIfSome row.1) rows → AllByRecursion (λ (row : ReadRow). is_user_defined_name row.0 ≡ true) rows
+own-users : (rows : List ReadRow) → AllByRecursion (λ (row : ReadRow). (is_user_defined_name row.0 ≡ true) × IsWritableIfSome row.1) rows
+    → AllByRecursion (λ (row : ReadRow). is_user_defined_name row.0 ≡ true) rows
 own-users [] all = tt
 own-users (row ∷ rows) all = (all.0.0, own-users rows all.1)
 
@@ -184,7 +187,8 @@ uses-give (other ∷ others) = ap (λ (ss : List UserSaid). imports (first_name 
 
 -- ---- a kind, and the whole
 
-module _ (ordered : EachKindIsInOrder) (entry : Extended) (others : List Extended) (layout : Layout) (has : CanHaveAll entry.entry.contents) (own : AreWritable entry.rows) (used : All CanBeUsed others) where
+module _ (ordered : EachKindIsInOrder) (entry : Extended) (others : List Extended) (layout : Layout) (has : CanHaveAll entry.entry.contents)
+    (own : AreWritable entry.rows) (used : All CanBeUsed others) where
   abbrev table : Contents
   table = differing_contents entry.entry.contents (entries_in others)
 
@@ -211,7 +215,8 @@ module _ (ordered : EachKindIsInOrder) (entry : Extended) (others : List Extende
       All-append CanBeWritten (map of_tables (kind_items layout table kind)) (items_of (say kind) (names_among kind entry others))
       (tables-can table (in_order layout.order kind) valid (differing-have entry.entry.contents (entries_in others) has))
       (items-can (say kind) (names_among kind entry others) (among-users kind entry others own used)
-      (λ name. user-can kind (said entry.rows name) (first_said others name) (said-can entry.rows name (recursion_from_All (λ (row : ReadRow). (is_user_defined_name row.0 ≡ true) × IsWritableIfSome row.1) entry.rows own))))
+      (λ name. user-can kind (said entry.rows name) (first_said others name) (said-can entry.rows name (recursion_from_All (λ (row : ReadRow).
+      (is_user_defined_name row.0 ≡ true) × IsWritableIfSome row.1) entry.rows own))))
 
   abbrev all_items : List Item
   all_items = kind_list Flag ++ (kind_list Number ++ (kind_list Text ++ map use_of others))
@@ -234,7 +239,8 @@ module _ (ordered : EachKindIsInOrder) (entry : Extended) (others : List Extende
   source : IsSource entry.entry.names all_items (extended_relative entry others layout)
   source =
       let front = entry.entry.names ++ 44 ∷ differing_kind layout entry others Flag ++ differing_kind layout entry others Number ++ differing_kind layout entry others Text in
-      let laid = three-kinds layout entry.entry.names (kind_list Flag) (kind_list Number) (kind_list Text) (map use_of others) (use_lines (entries_in others) ++ 10 ∷ []) (uses-tail others) in
+      let laid = three-kinds layout entry.entry.names (kind_list Flag) (kind_list Number) (kind_list Text) (map use_of others) (use_lines
+      (entries_in others) ++ 10 ∷ []) (uses-tail others) in
       let lines : IsSource entry.entry.names all_items (front ++ (use_lines (entries_in others) ++ 10 ∷ [])) = rw (kind-lines Flag, kind-lines Number, kind-lines Text) at laid in
       subst (λ text. IsSource entry.entry.names all_items text) (sym (append_assoc front (use_lines (entries_in others)) (10 ∷ []))) lines
 
@@ -245,7 +251,8 @@ relatives_read ordered read entry others names layout good has own used =
     (source ordered entry others layout has own used))
 
 -- without user-defined capabilities each fault is a warning
-pub relative-sound : EachKindIsInOrder → ItemsAreReadByTheProfile → (entry : Extended) (others : List Extended) (names : List (List ℕ)) (layout : Layout) → tables.IsListable entry.entry.names names
+pub relative-sound : EachKindIsInOrder → ItemsAreReadByTheProfile → (entry : Extended) (others : List Extended) (names : List (List ℕ)) (layout : Layout)
+    → tables.IsListable entry.entry.names names
     → CanHaveAll entry.entry.contents → AreWritable entry.rows → All CanBeUsed others
     → AllByRecursion (λ (fault : ReadFault). fault.code ≡ code.UnknownCapability) (reading_of_text (extended_relative entry others layout)).faults
 relative-sound ordered plain entry others names layout good has own used =

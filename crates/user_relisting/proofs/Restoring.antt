@@ -145,7 +145,8 @@ among-at : (kind : Kind) (entry : Extended) (others : List Extended) (n : List �
 among-at kind entry others n None is e = others-in kind (names_of_kind kind entry.rows) others n e
 among-at kind entry others n (Some x) is e = with-in kind (names_of_kind kind entry.rows) others n (said-in kind entry.rows n (ap (is_of_kind kind) is ∙ e))
 
-among-in : (kind : Kind) (entry : Extended) (others : List Extended) (n : List ℕ) → is_of_kind kind (option_or (said entry.rows n) (first_said others n)) ≡ true → is_in (names_among kind entry others) n ≡ true
+among-in : (kind : Kind) (entry : Extended) (others : List Extended) (n : List ℕ) → is_of_kind kind (option_or (said entry.rows n) (first_said others n)) ≡ true
+    → is_in (names_among kind entry others) n ≡ true
 among-in kind entry others n e = among-at kind entry others n (said entry.rows n) refl e
 
 -- ---- what is given to a name
@@ -213,12 +214,14 @@ cancel-said (Some x) theirs plain is = absurd (plain is)
 -- of the three kinds, the one of the value gives the difference
 kinds-give : (own theirs : Option Content) (f n t : Bool) → own ≢ Some content_cancelled
     → (is_of_kind Flag (option_or own theirs) ≡ true → f ≡ true) → (is_of_kind Number (option_or own theirs) ≡ true → n ≡ true) → (is_of_kind Text (option_or own theirs) ≡ true → t ≡ true)
-    → without_cancel (option_or (option_or (if_in f (user_difference Flag own theirs)) (option_or (if_in n (user_difference Number own theirs)) (option_or (if_in t (user_difference Text own theirs)) None))) theirs)
+    → without_cancel (option_or (option_or (if_in f (user_difference Flag own theirs)) (option_or (if_in n (user_difference Number own theirs)) (option_or (if_in t
+    (user_difference Text own theirs)) None))) theirs)
     ≡ without_cancel own
 kinds-give own theirs f n t plain of_flag of_number of_text = by-value (option_or own theirs) refl
   where
     by-value : (d : Option Content) → option_or own theirs ≡ d
-        → without_cancel (option_or (option_or (if_in f (user_difference Flag own theirs)) (option_or (if_in n (user_difference Number own theirs)) (option_or (if_in t (user_difference Text own theirs)) None))) theirs)
+        → without_cancel (option_or (option_or (if_in f (user_difference Flag own theirs)) (option_or (if_in n (user_difference Number own theirs)) (option_or
+        (if_in t (user_difference Text own theirs)) None))) theirs)
         ≡ without_cancel own
     by-value None is =
         ap (λ o. without_cancel (option_or o theirs))
@@ -226,15 +229,18 @@ kinds-give own theirs f n t plain of_flag of_number of_text = by-value (option_o
         ∙ none-said own theirs is
     by-value (Some content_true) is =
         ap (λ o. without_cancel (option_or o theirs))
-        (first-of-three _ _ _ (difference own theirs) (of-kind f _ _ (ap (is_of_kind Flag) is) (of_flag (ap (is_of_kind Flag) is))) (not-of-kind n _ _ (ap (is_of_kind Number) is)) (not-of-kind t _ _ (ap (is_of_kind Text) is)))
+        (first-of-three _ _ _ (difference own theirs) (of-kind f _ _ (ap (is_of_kind Flag) is) (of_flag (ap (is_of_kind Flag) is))) (not-of-kind n _ _ (ap
+        (is_of_kind Number) is)) (not-of-kind t _ _ (ap (is_of_kind Text) is)))
         ∙ restores own theirs
     by-value (Some (content_number m)) is =
         ap (λ o. without_cancel (option_or o theirs))
-        (second-of-three _ _ _ (difference own theirs) (not-of-kind f _ _ (ap (is_of_kind Flag) is)) (of-kind n _ _ (ap (is_of_kind Number) is) (of_number (ap (is_of_kind Number) is))) (not-of-kind t _ _ (ap (is_of_kind Text) is)))
+        (second-of-three _ _ _ (difference own theirs) (not-of-kind f _ _ (ap (is_of_kind Flag) is)) (of-kind n _ _ (ap (is_of_kind Number) is) (of_number (ap
+        (is_of_kind Number) is))) (not-of-kind t _ _ (ap (is_of_kind Text) is)))
         ∙ restores own theirs
     by-value (Some (content_text u)) is =
         ap (λ o. without_cancel (option_or o theirs))
-        (third-of-three _ _ _ (difference own theirs) (not-of-kind f _ _ (ap (is_of_kind Flag) is)) (not-of-kind n _ _ (ap (is_of_kind Number) is)) (of-kind t _ _ (ap (is_of_kind Text) is) (of_text (ap (is_of_kind Text) is))))
+        (third-of-three _ _ _ (difference own theirs) (not-of-kind f _ _ (ap (is_of_kind Flag) is)) (not-of-kind n _ _ (ap (is_of_kind Number) is)) (of-kind t _ _
+        (ap (is_of_kind Text) is) (of_text (ap (is_of_kind Text) is))))
         ∙ restores own theirs
     by-value (Some content_cancelled) is =
         ap (λ o. without_cancel (option_or o theirs))

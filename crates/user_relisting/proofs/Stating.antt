@@ -17,7 +17,8 @@ use Rattle.ti_source.specs.Header.{IsNameByte, IsLookupName}
 use Rattle.ti_source.specs.Items.{Claim, Statement, claims_flag, claims_number, claims_text, claims_cancel, States, number_item, text_item, cancel_item, flag_item, without_outer_space}
 use Rattle.ti_source.specs.Reading.{Said, said_flag, said_number, said_text, said_cancel, said_import}
 use Rattle.ti_source.specs.declared.code.Code.TheVariants as code
-use Rattle.ti_source.specs.Verdicts.{Judges, Verdict, accepted, refused, ReadClaim, reads_flag, reads_number, reads_text, reads_cancel, IsReadAs, flag_read, number_read_as, text_read_as, cancel_read, is_import}
+use Rattle.ti_source.specs.Verdicts.{Judges, Verdict, accepted, refused, ReadClaim, reads_flag, reads_number, reads_text, reads_cancel, IsReadAs}
+use Rattle.ti_source.specs.Verdicts.{flag_read, number_read_as, text_read_as, cancel_read, is_import}
 use Rattle.ti_source.specs.inside.Verdicts.{read_claim}
 use Rattle.ti_source.proofs.JudgingLaws.{is_read, judged_cancel, judged_flag, judged_import, judged_number, judged_text}
 use Rattle.ti_spelling.specs.Spelling.{spelling_of, AreBytes, WrittenSpells}
@@ -30,7 +31,8 @@ use Rattle.tools_relisting.proofs.Unfolding.{is_dark}
 use Rattle.tools_relisting.proofs.Words.{capability-name, decimal-digits, numeral-of}
 use Rattle.tools_relisting.proofs.Stating.{import-readable}
 use Rattle.user_relisting.specs.Items.{Item, of_tables, of_user, item_text, user_said, table_said, CanBeWritten, IsWritable}
-use Rattle.user_relisting.proofs.Words.{IsGoodName, name-inline, name-no_cut, name-clear, name-dark, name-enabled, name-no_mark, name-visible, name-unmarked, word-named, user-good, user-unknown, found-not}
+use Rattle.user_relisting.proofs.Words.{IsGoodName, name-inline, name-no_cut, name-clear, name-dark, name-enabled, name-no_mark, name-visible}
+use Rattle.user_relisting.proofs.Words.{name-unmarked, word-named, user-good, user-unknown, found-not}
 
 -- a text, on one line, that is inside one item and states this
 pub record IsStated (w : List ℕ) (s : Statement) : Type 0 where
@@ -59,7 +61,8 @@ flag-stated name n =
       dark = subst (λ w. is_dark w ≡ true) none (name-dark name [] n.some n.named);
       inline = name-inline name n.named;
       whole = λ before. no_cut-whole before name (name-no_cut name n.named);
-      states = subst P none (flag_item name [] (name-no_mark name n.named) tt (name-enabled name [] n.some n.named) (name-visible name n.some n.named) (eqb-false _ 64 (name-unmarked name n.some n.named)));
+      states = subst P none (flag_item name [] (name-no_mark name n.named) tt (name-enabled name [] n.some n.named) (name-visible name n.some n.named)
+          (eqb-false _ 64 (name-unmarked name n.some n.named)));
     }
 
 number-stated : (name : List ℕ) (n : ℕ) → IsGoodName name → n ≤ number_max → IsStated (name ++ 35 ∷ decimal n) (statement name (claims_number (decimal n)))

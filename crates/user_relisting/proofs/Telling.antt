@@ -1,5 +1,6 @@
 -- What listings and relative source say of user-defined names in a source.
-use Rattle.std.proofs.Common.{◌≡◌, ◌≢◌, ℕ, suc, Bool, true, false, cond, List, [], ◌∷◌, ◌++◌, map, length, Option, Some, None, option_and_then, refl, ap, sym, ◌∙◌, subst, append_assoc, arith}
+use Rattle.std.proofs.Common.{◌≡◌, ◌≢◌, ℕ, suc, Bool, true, false, cond, List, [], ◌∷◌, ◌++◌, map, length, Option, Some, None, option_and_then, refl}
+use Rattle.std.proofs.Common.{ap, sym, ◌∙◌, subst, append_assoc, arith}
 use Rattle.std.specs.List.{All, AllByRecursion, flat_map}
 use Rattle.std.specs.Option.{option_or}
 use Rattle.std.specs.Str.{bytes_eq}
@@ -29,7 +30,8 @@ use Rattle.user_listing.specs.Names.{names_among}
 use Rattle.user_listing.specs.RelativeSource.{extended_relative, first_said, user_difference}
 use Rattle.user_values.specs.Expansion.{UserMention, first_said as mentioned, mentions_of, expand_items, expand, owner_text}
 use Rattle.user_relisting.specs.Items.{IsWritable, IsUserReadAs, ItemsAreRead, ItemsAreReadByTheProfile}
-use Rattle.user_relisting.specs.ReadingBack.{AreWritable, CanBeListed, CanBeUsed, IsListedIn, IsWritableIfSome, Listed, ListingsSayTheEntry, RelativesSayTheEntryInASource, differing_said, entries_of, given, relative_said, said_if}
+use Rattle.user_relisting.specs.ReadingBack.{AreWritable, CanBeListed, CanBeUsed, IsListedIn, IsWritableIfSome, Listed, ListingsSayTheEntry}
+use Rattle.user_relisting.specs.ReadingBack.{RelativesSayTheEntryInASource, differing_said, entries_of, given, relative_said, said_if}
 use Rattle.user_relisting.proofs.Compiling.{not-broken}
 use Rattle.user_relisting.proofs.Listed.{laid_out, listings_read}
 use Rattle.user_relisting.proofs.Related.{relative-sound, relatives_read}
@@ -67,11 +69,13 @@ rows-mentioned [] name = refl
 rows-mentioned (u ∷ us) name = either-same (bytes_eq u.0 name) (Some u.1) (mentioned us name) (said (as_read us) name) (rows-mentioned us name)
 
 module _ (ordered : EachKindIsInOrder) (read : ItemsAreRead) (plain : ItemsAreReadByTheProfile) where
-  listing-expands : (entry : Extended) (layout : Layout) (texts : List (List ℕ)) (depth : ℕ) (can : CanBeListed entry) → expand texts (suc depth) (extended_listing entry layout) ≡ Some can.rows
+  listing-expands : (entry : Extended) (layout : Layout) (texts : List (List ℕ)) (depth : ℕ) (can : CanBeListed entry)
+      → expand texts (suc depth) (extended_listing entry layout) ≡ Some can.rows
   listing-expands entry layout texts depth can =
       let text = extended_listing entry layout in
       let laid = laid_out ordered entry can.rows layout can.holds can.are_rows can.of_source in
-      let sound = not-broken (reading_of_text text).faults (recursion_from_All (λ (fault : ReadFault). fault.code ≡ code.UnknownCapability) (reading_of_text text).faults (plain entry.entry.names can.names laid.items text can.listable laid.can laid.source).warned) in
+      let sound = not-broken (reading_of_text text).faults (recursion_from_All (λ (fault : ReadFault). fault.code ≡ code.UnknownCapability)
+      (reading_of_text text).faults (plain entry.entry.names can.names laid.items text can.listable laid.can laid.source).warned) in
       block-expands texts depth text _ sound (listings_read ordered read entry can.names can.rows layout can.listable can.holds can.are_rows can.of_source)
       ∙ rows-expand (names_in texts depth) can.rows
 
@@ -108,7 +112,8 @@ pairs-append (says name content ∷ xs) ys = ap (λ (ms : List UserMention). (na
 pairs-append (imports name ∷ xs) ys = pairs-append xs ys
 
 names-before : (say : List ℕ → Option Content) (names : List (List ℕ)) (of_name : List ℕ → Option (List UserMention)) (more : List UserSaid)
-    → expand_said of_name (flat_map (λ (name : List ℕ). said_if name (say name)) names ++ more) ≡ before (pairs_of (flat_map (λ (name : List ℕ). said_if name (say name)) names)) (expand_said of_name more)
+    → expand_said of_name (flat_map (λ (name : List ℕ). said_if name (say name)) names ++ more) ≡ before (pairs_of (flat_map (λ (name : List ℕ). said_if name
+    (say name)) names)) (expand_said of_name more)
 names-before say [] of_name more = nothing-before (expand_said of_name more)
 names-before say (n ∷ ns) of_name more =
     let later = flat_map (λ (name : List ℕ). said_if name (say name)) ns in
@@ -162,7 +167,8 @@ row-writable : (rows : List Row) → AllByRecursion (λ (u : Row). is_user_defin
 row-writable [] users can = tt
 row-writable (u ∷ us) users can = ((users.0, can.0), row-writable us users.1 can.1)
 
-row-users : (rows : List ReadRow) → AllByRecursion (λ (row : ReadRow). (is_user_defined_name row.0 ≡ true) × IsWritableIfSome row.1) rows → AllByRecursion (λ (row : ReadRow). is_user_defined_name row.0 ≡ true) rows
+row-users : (rows : List ReadRow) → AllByRecursion (λ (row : ReadRow). (is_user_defined_name row.0 ≡ true) × IsWritableIfSome row.1) rows
+    → AllByRecursion (λ (row : ReadRow). is_user_defined_name row.0 ≡ true) rows
 row-users [] all = tt
 row-users (row ∷ rows) all = (all.0.0, row-users rows all.1)
 
@@ -179,7 +185,8 @@ rows-plain (u ∷ us) all = (value-plain u.1 all.0, rows-plain us all.1)
 writable : (entry : Extended) → CanBeListed entry → AllByRecursion (λ (row : ReadRow). (is_user_defined_name row.0 ≡ true) × IsWritableIfSome row.1) entry.rows
 writable entry can =
     subst (AllByRecursion (λ (row : ReadRow). (is_user_defined_name row.0 ≡ true) × IsWritableIfSome row.1)) (sym can.are_rows)
-    (row-writable can.rows (recursion_from_All (λ (u : Row). is_user_defined_name u.0 ≡ true) can.rows can.of_source.user_defined.names) (recursion_from_All (λ (u : Row). IsWritable u.1) can.rows can.of_source.writable))
+    (row-writable can.rows (recursion_from_All (λ (u : Row). is_user_defined_name u.0 ≡ true) can.rows can.of_source.user_defined.names) (recursion_from_All (λ
+    (u : Row). IsWritable u.1) can.rows can.of_source.writable))
 
 can-use : (texts : List (List ℕ)) (listed : List Listed) → AllByRecursion (IsListedIn texts) listed → All CanBeUsed (entries_of listed)
 can-use texts [] all = All-nil CanBeUsed
@@ -226,16 +233,19 @@ module _ (ordered : EachKindIsInOrder) (read : ItemsAreRead) (plain : ItemsAreRe
       names-before (say Flag) (names_among Flag entry others) of_name (n ++ (t ++ imported))
       ∙ ap (before (pairs_of f)) (names-before (say Number) (names_among Number entry others) of_name (t ++ imported)
       ∙ ap (before (pairs_of n)) (names-before (say Text) (names_among Text entry others) of_name imported ∙ ap (before (pairs_of t)) uses.is)) in
-      let found : (name : List ℕ) → mentioned (pairs_of f ++ (pairs_of n ++ (pairs_of t ++ uses.mentions))) name ≡ option_or (given (relative_said entry others) name) (first_said others name) =
+      let found : (name : List ℕ) → mentioned (pairs_of f ++ (pairs_of n ++ (pairs_of t ++ uses.mentions))) name ≡ option_or (given
+      (relative_said entry others) name) (first_said others name) =
       λ name.
       let swapped : option_or (mentioned (pairs_of f) name) (option_or (mentioned (pairs_of n) name) (option_or (mentioned (pairs_of t) name) (mentioned uses.mentions name)))
       ≡ option_or (option_or (given f name) (option_or (given n name) (option_or (given t name) None))) (first_said others name) =
       rw (pairs-given f name, pairs-given n name, pairs-given t name, uses.say name) (or-three (given f name) (given n name) (given t name) (first_said others name)) in
       mentioned-append (pairs_of f) (pairs_of n ++ (pairs_of t ++ uses.mentions)) name
-      ∙ ap (option_or (mentioned (pairs_of f) name)) (mentioned-append (pairs_of n) (pairs_of t ++ uses.mentions) name ∙ ap (option_or (mentioned (pairs_of n) name)) (mentioned-append (pairs_of t) uses.mentions name))
+      ∙ ap (option_or (mentioned (pairs_of f) name)) (mentioned-append (pairs_of n) (pairs_of t ++ uses.mentions) name
+      ∙ ap (option_or (mentioned (pairs_of n) name)) (mentioned-append (pairs_of t) uses.mentions name))
       ∙ swapped
       ∙ ap (λ o. option_or o (first_said others name))
-      (sym (given-append f (n ++ (t ++ imported)) name ∙ ap (option_or (given f name)) (given-append n (t ++ imported) name ∙ ap (option_or (given n name)) (given-append t imported name ∙ ap (option_or (given t name)) (uses-give-none others name))))) in
+      (sym (given-append f (n ++ (t ++ imported)) name ∙ ap (option_or (given f name)) (given-append n (t ++ imported) name
+      ∙ ap (option_or (given n name)) (given-append t imported name ∙ ap (option_or (given t name)) (uses-give-none others name))))) in
       let values = recursion_from_All (λ (u : Row). IsValue u.1) can.rows can.of_source.user_defined.values in
       let plain_rows = All-from_recursion (λ (row : ReadRow). row.1 ≢ Some content_cancelled) entry.rows
       (subst (AllByRecursion (λ (row : ReadRow). row.1 ≢ Some content_cancelled)) (sym can.are_rows) (rows-plain can.rows values)) in (

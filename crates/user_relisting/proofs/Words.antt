@@ -140,7 +140,8 @@ pub found-not : (name : List ℕ) → is_none (capability_named name) ≡ false 
 unfolding is_user_defined_name
 found-not name h =
     and_right (not (length name == 0)) (list_all is_user_defined_byte name && (not (bytes_eq name (codes "use")) && is_none (capability_named name)))
-    (and_right (list_all is_user_defined_byte name) (not (bytes_eq name (codes "use")) && is_none (capability_named name)) (and_right (not (bytes_eq name (codes "use"))) (is_none (capability_named name)) h))
+    (and_right (list_all is_user_defined_byte name) (not (bytes_eq name (codes "use")) && is_none (capability_named name)) (and_right (not (bytes_eq name
+    (codes "use"))) (is_none (capability_named name)) h))
 
 none-is : {X : Type 0} (o : Option X) → is_none o ≡ true → o ≡ None
 none-is None e = refl

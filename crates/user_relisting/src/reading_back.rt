@@ -1,6 +1,7 @@
 //! A listing is read as what it lists.
 ghost use Rattle.user_relisting.specs.Items.{ItemsAreRead, ItemsAreReadByTheProfile};
-ghost use Rattle.user_relisting.specs.ReadingBack.{ListingsAreRead, ListingsCompileByTheProfile, ListingsSayTheEntry, ListingsSayTheTables, RelativesAreRead, RelativesSayTheEntry, RelativesSayTheEntryInASource};
+ghost use Rattle.user_relisting.specs.ReadingBack.{ListingsAreRead, ListingsCompileByTheProfile, ListingsSayTheEntry, ListingsSayTheTables};
+ghost use Rattle.user_relisting.specs.ReadingBack.{RelativesAreRead, RelativesSayTheEntry, RelativesSayTheEntryInASource};
 
 /// Each text that is laid out as a listing, whatever its layout, is read as the user-defined items
 /// and the uses that it lists, without a fault.

@@ -7,4 +7,5 @@ use Rattle.user_listing.proofs.comparison.push_table_rows.Given as goal
 abbrev pub invariant-loop-place : goal.invariant-loop-place
 invariant-loop-place l =
     let caps = in_order l.order l.kind in
-    l.out.items ++ rows l.mode (view_contents l.one.view) (view_contents l.other.view) (drop l.place caps) ≡ l.initial.out.items ++ rows l.mode (view_contents l.one.view) (view_contents l.other.view) caps
+    l.out.items ++ rows l.mode (view_contents l.one.view) (view_contents l.other.view) (drop l.place caps) ≡ l.initial.out.items ++ rows l.mode
+    (view_contents l.one.view) (view_contents l.other.view) caps

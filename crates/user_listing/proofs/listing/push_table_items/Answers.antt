@@ -21,13 +21,16 @@ loop-place-preserved c =
           let some : option_map content_seen c.said_of_cap.result ≡ Some (content_seen w.in-Some.content) = rw w.in-Some.is refl in
           let named = w.as_bytes.ensures.value ∙ w.name.ensures in
           rw (w.out-is, w.line-is)
-          (table-some c.args.layout.now c.loop-place.line _ c.loop-place.out.items _ _ table caps c.loop-place.place _ (content_seen w.in-Some.content) later c.cap_at-cap.ensures (sym c.said_of_cap.ensures ∙ some)
-          (λ items. w.in_ok-line.ensures items ∙ ap (λ (n : List ℕ). c.loop-place.out.items ++ flow c.args.layout.now c.loop-place.line (named_item n (content_seen w.in-Some.content) ∷ items)) named)
+          (table-some c.args.layout.now c.loop-place.line _ c.loop-place.out.items _ _ table caps c.loop-place.place _
+          (content_seen w.in-Some.content) later c.cap_at-cap.ensures (sym c.said_of_cap.ensures ∙ some)
+          (λ items. w.in_ok-line.ensures items ∙ ap (λ (n : List ℕ). c.loop-place.out.items ++ flow c.args.layout.now c.loop-place.line (named_item n
+          (content_seen w.in-Some.content) ∷ items)) named)
           (c.loop-place.invariant later))
       | in_default w ↦
           let none : option_map content_seen c.said_of_cap.result ≡ None = rw w.in_default.is refl in
           rw (w.out-is, w.line-is)
-          (table-none c.args.layout.now c.loop-place.line c.loop-place.out.items _ table caps c.loop-place.place _ later c.cap_at-cap.ensures (sym c.said_of_cap.ensures ∙ none) (c.loop-place.invariant later))
+          (table-none c.args.layout.now c.loop-place.line c.loop-place.out.items _ table caps c.loop-place.place _ later c.cap_at-cap.ensures
+          (sym c.said_of_cap.ensures ∙ none) (c.loop-place.invariant later))
     ]
 
 pub returns : goal.returns
