@@ -1,0 +1,5 @@
+-- The definitions that the contracts of this crate cite.
+pub mod Directories
+pub mod Finding
+pub mod Paths
+pub mod Reading

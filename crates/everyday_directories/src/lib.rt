@@ -1,0 +1,30 @@
+//! Where the everyday tools look for a terminal's entry, as ncurses on Debian does, and what they
+//! find there.
+//!
+//! ```text
+//! let environment = Environment { terminfo: None, home: Some("/home/me"), dirs: None };
+//! let directories = entry_directories(alloc, &environment)?;
+//! let found = find(alloc, &mut tree, "xterm", directories.as_slice())?;
+//! let (view, extension) = read(found.bytes.as_slice())?;
+//! ```
+//!
+//! - `environment`: the variables that say where entries are (`Environment`)
+//! - `directories`: the directories in which an entry is looked for, in order (`entry_directories`)
+//! - `paths`: the files that may have the entry of a name (`entry_paths`)
+//! - `finding`: the first of them that there is (`find`, which gives a `Found`)
+//! - `reading`: the entry that its bytes are, with its user-defined capabilities (`read`)
+//! - `laws`: each directory is listed once, and a search without a failure finds the first file
+#![tactic(auto)]
+
+mod directories;
+mod environment;
+mod finding;
+pub mod laws;
+mod paths;
+mod reading;
+
+pub use directories::entry_directories;
+pub use environment::Environment;
+pub use finding::{Found, find};
+pub use paths::entry_paths;
+pub use reading::read;
