@@ -11,7 +11,7 @@ import os
 
 from repository import TOP
 
-GROUPS = ("ti_", "user_", "base_", "tools_", "lsp_", "test_", "dev_")
+GROUPS = ("ti_", "user_", "base_", "tools_", "everyday_", "lsp_", "test_", "dev_")
 
 
 class Crate:
