@@ -25,6 +25,7 @@ pub record TerminalState : Type 0 where
   pub rate : ℕ
   pub run : RunState
 
+-- the same, by its parts
 abbrev pub state_at : FullEntry → ℕ → RunState → TerminalState
 state_at e rate run = record { entry = e; rate = rate; run = run }
 
