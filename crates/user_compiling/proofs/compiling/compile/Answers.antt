@@ -1,0 +1,8 @@
+use Rattle.std.proofs.Common.{◌≡◌, Err, ap}
+use Rattle.user_values.specs.declared.fault.ValuesError.TheVariants.{TooManyNames}
+use Rattle.user_compiling.proofs.compiling.compile.Goals as goal
+
+pub returns-in-Err-clause-too_many : goal.returns-in-Err-clause-too_many
+returns-in-Err-clause-too_many c = λ at e.
+    let same : c.in-Err.error ≡ TooManyNames at = cc in
+    c.in-Err.ensures.too_many at (ap (λ x. Err x) same)

@@ -1,0 +1,18 @@
+use Rattle.std.proofs.Common.{◌≡◌, ◌++◌, length, map, drop, All}
+use Rattle.base_meaning.specs.Owner.{readings}
+use Rattle.base_meaning.specs.Usable.{IsPlaced}
+use Rattle.base_meaning.specs.Faults.{fault_seen as profile_fault_seen, faults_after}
+use Rattle.user_compiling.specs.Entries.{state_seen}
+use Rattle.user_compiling.specs.Faults.{fault_seen, extended_faults, extended_faults_after}
+use Rattle.user_compiling.specs.Report.{IsExtendedPlaced}
+use Rattle.user_compiling.proofs.source_faults.extend_all.Given as goal
+
+-- the faults of the profile that are left are those of the blocks that are left; what was added and
+-- what is to be added are all
+abbrev pub invariant-loop-at : goal.invariant-loop-at
+invariant-loop-at l = record {
+  left : map profile_fault_seen l.rest ≡ faults_after (readings l.database) l.at (drop l.at (readings l.database));
+  left_placed : All (IsPlaced (length l.database)) (map profile_fault_seen l.rest);
+  all : map fault_seen l.all.items ++ extended_faults_after (readings l.database) l.at (drop l.at l.database) (drop l.at (map state_seen l.compiled)) ≡ extended_faults l.database (map state_seen l.compiled);
+  placed : All (IsExtendedPlaced (length l.database)) (map fault_seen l.all.items);
+}

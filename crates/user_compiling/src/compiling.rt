@@ -1,0 +1,166 @@
+//! What becomes of each block of a source.
+ghost use Rattle.std.specs.Prelude.{◌≡◌, ◌<◌, ◌≤◌, ℕ, List, All, length, map, slice_get, option_map, Some, IfOk, IsErrOf, OnOk};
+ghost use Rattle.ti_source.specs.Cutting.{OneBlock};
+ghost use Rattle.ti_source.specs.Parsing.{reading_of_text};
+ghost use Rattle.ti_layout.specs.Values.{Mention, contents};
+ghost use Rattle.base_meaning.specs.Expansion.{is_broken};
+ghost use Rattle.base_meaning.specs.Owner.{readings};
+ghost use Rattle.base_meaning.specs.ValueTables.{HasTable, IsTableOfMentions};
+ghost use Rattle.std.specs.Prelude.{false, ◌↔◌, IsTrue};
+ghost use Rattle.user_extension.specs.UserDefined.{rows_of as rows_seen};
+ghost use Rattle.user_values.specs.Limit.{name_count, name_limit, IsOverLimitAt};
+ghost use Rattle.user_values.specs.Tables.{said_at, AreUserTables, HasUserTable, IsUserTableOf};
+ghost use Rattle.user_compiling.specs.Entries.{state_seen, state_with, AreStates, HasStateBy, IsStateOf};
+ghost use Rattle.user_compiling.specs.inside.States.{state_of_entry};
+
+use crate::compiled::Compiled;
+use crate::rows::rows_of;
+use std::alloc::{AllocError, Global};
+use ti_base::Database;
+use ti_layout::{Table, WriteError};
+use ti_source::{is_block, parse};
+use user_extension::{UserDefined, write};
+use user_values::{UserTable, ValuesError, user_values};
+
+// What becomes of a sound block that says this.
+fn write_block(
+    alloc: Global,
+    text: &[u8],
+    table: &Table,
+    rows: &[UserDefined<'_>],
+) -> Result<Compiled, AllocError>
+    requires one { OneBlock text.now }
+    requires whole { is_broken (reading_of_text text.now) ≡ false }
+    ensures { IfOk result (λ state. (mentions : List Mention) → IsTableOfMentions (contents table.now) mentions
+        → state_seen state ≡ state_with (reading_of_text text.now) mentions (rows_seen rows.now)) }
+{
+    let parsed = parse(alloc, text)?;
+    match write(alloc, &parsed.field, table, rows) {
+        Ok(entry) => Ok(Compiled::Written(entry)),
+        Err(WriteError::TooLarge) => Ok(Compiled::TooLarge),
+        Err(WriteError::Memory) => Err(AllocError),
+        Err(WriteError::NamesTooLong) => unreachable!(),
+    }
+}
+
+// What the profile makes of a block that resolves: its entry, if it has one.
+fn profile_state(alloc: Global, found: Option<&[u8]>) -> Result<Compiled, AllocError>
+    ensures { IfOk result (λ state. state_seen state ≡ state_of_entry (option_map (λ bytes. bytes.now) found.entry)) }
+{
+    match found {
+        Some(bytes) => Ok(Compiled::Written(Vec::from_slice(alloc, bytes)?)),
+        None => Ok(Compiled::TooLarge),
+    }
+}
+
+// What becomes of the block at a position, which resolves and says this.
+fn compile_resolved(
+    alloc: Global,
+    database: &Database,
+    at: usize,
+    user: &UserTable,
+    table: &Table,
+) -> Result<Compiled, AllocError>
+    requires within { at < length database.now }
+    requires one { All OneBlock database.now }
+    requires user { (text : List ℕ) → slice_get database.now at ≡ Some text → IsUserTableOf database.now text (said_at user.now) }
+    requires table { (text : List ℕ) → slice_get database.now at ≡ Some text → HasTable contents (readings database.now) (reading_of_text text) (Some table.now) }
+    ensures { IfOk result (λ state. (text : List ℕ) → slice_get database.now at ≡ Some text → HasStateBy database.now text (state_seen state)) }
+{
+    let rows = rows_of(alloc, user)?;
+    if rows.is_empty() {
+        let state = profile_state(alloc, database.compiled(at))?;
+        return Ok(state);
+    }
+    let written = write_block(alloc, database.text(at), table, &rows)?;
+    Ok(written)
+}
+
+// What becomes of the block at a position, which says this of user-defined names.
+fn compile_with(
+    alloc: Global,
+    database: &Database,
+    at: usize,
+    user: &UserTable,
+) -> Result<Compiled, AllocError>
+    requires within { at < length database.now }
+    requires one { All OneBlock database.now }
+    requires user { (text : List ℕ) → slice_get database.now at ≡ Some text → IsUserTableOf database.now text (said_at user.now) }
+    ensures { IfOk result (λ state. (text : List ℕ) → slice_get database.now at ≡ Some text → IsStateOf database.now text (state_seen state)) }
+{
+    match database.values(at) {
+        Some(table) => {
+            let state = compile_resolved(alloc, database, at, user, table)?;
+            Ok(state)
+        }
+        None => Ok(Compiled::Unresolved),
+    }
+}
+
+// What becomes of the block at a position, with what it says of user-defined names.
+fn compile_block(
+    alloc: Global,
+    database: &Database,
+    at: usize,
+    user: &Option<UserTable>,
+) -> Result<Compiled, AllocError>
+    requires within { at < length database.now }
+    requires one { All OneBlock database.now }
+    requires user { (text : List ℕ) → slice_get database.now at ≡ Some text → HasUserTable database.now text user.now }
+    ensures { IfOk result (λ state. (text : List ℕ) → slice_get database.now at ≡ Some text → IsStateOf database.now text (state_seen state)) }
+{
+    user_values::laws::values_are_where_resolved();
+    match user {
+        Some(user) => compile_with(alloc, database, at, user),
+        None => Ok(Compiled::Unresolved),
+    }
+}
+
+// What becomes of each block, with what each says of user-defined names.
+fn compile_all(
+    alloc: Global,
+    database: &Database,
+    tables: &[Option<UserTable>],
+) -> Result<Vec<Compiled>, AllocError>
+    requires one { All OneBlock database.now }
+    requires tables { AreUserTables database.now tables.now }
+    ensures { IfOk result (λ all. AreStates database.now (map state_seen all.items)) }
+{
+    let mut all = Vec::with_capacity(alloc, tables.len())?;
+    for (at, table) in tables.iter().enumerate() {
+        let state = compile_block(alloc, database, at, table)?;
+        all.push(state)?;
+    }
+    Ok(all)
+}
+
+/// Whether each text of a database is one block, which `compile` and `faults` ask for. No edit puts
+/// in another text, and who has the source knows it by the law `blocks_are_single` of `ti_source`.
+pub fn holds_blocks(database: &Database) -> bool
+    ensures { IsTrue result ↔ All OneBlock database.now }
+{
+    for at in 0..database.len() {
+        if !is_block(database.text(at)) {
+            return false;
+        }
+    }
+    true
+}
+
+/// What becomes of each block of a source whose user-defined capabilities are kept. A block without
+/// them has the entry that the profile gives it.
+///
+/// # Errors
+/// `TooManyNames` for a source of more than 1,024 distinct user-defined names, with the position of
+/// the first block by which it has more; or `Memory`.
+pub fn compile(alloc: Global, database: &Database) -> Result<Vec<Compiled>, ValuesError>
+    requires { All OneBlock database.now }
+    ensures states { IfOk result (λ all. AreStates database.now (map state_seen all.items)) }
+    ensures few { OnOk result (name_count database.now (length database.now) ≤ name_limit) }
+    ensures too_many { (at : ℕ) → IsErrOf result (ValuesError.TooManyNames at) → IsOverLimitAt database.now at }
+{
+    match user_values(alloc, database) {
+        Ok(tables) => Ok(compile_all(alloc, database, &tables)?),
+        Err(error) => Err(error),
+    }
+}

@@ -1,0 +1,37 @@
+//! What `tic -x` makes of a source (tic(1), user_caps(5)): the entry of each block with its
+//! user-defined capabilities, and the report.
+//!
+//! ```text
+//! let compiled = compile(alloc, &database)?;
+//! let found = faults(alloc, &database, &compiled)?;
+//! let report = report_of(alloc, &database, &found, 1)?;
+//! ```
+//!
+//! - `compiled`: what becomes of a block (`Compiled`): its entry, or why there is none
+//! - `rows`: the user-defined capabilities that an entry has
+//! - `compiling`: what becomes of each block of a source (`compile`), and whether a database holds
+//!   blocks (`holds_blocks`)
+//! - `fault`: a fault of a source (`ExtendedFault`), one of the profile or W5; `own_codes`: what is
+//!   wrong with the items of a block that define names; `block_faults`: the faults of a block;
+//!   `source_faults`: those of a source (`faults`)
+//! - `report`: the faults as text (`report_of`)
+//! - `laws`: without user-defined names all is as in the profile
+//!
+//! A source without user-defined names gives the entries and the report that `ti_base` gives.
+#![tactic(auto)]
+
+mod block_faults;
+mod compiled;
+mod compiling;
+mod fault;
+pub mod laws;
+mod own_codes;
+mod report;
+mod rows;
+mod source_faults;
+
+pub use compiled::Compiled;
+pub use compiling::{compile, holds_blocks};
+pub use fault::ExtendedFault;
+pub use report::report_of;
+pub use source_faults::faults;

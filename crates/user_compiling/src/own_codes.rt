@@ -1,0 +1,104 @@
+//! What is wrong with the items of a block that define user-defined names.
+ghost use Rattle.std.specs.Prelude.{◌≡◌, ◌<◌, ◌≤◌, ◌++◌, ◌∷◌, List, IfOk, OnOk, OnSome, drop, length, map, option_map};
+ghost use Rattle.ti_source.specs.Reading.{ReadFault};
+ghost use Rattle.std.specs.Rc.{rc_slice_items};
+ghost use Rattle.user_items.specs.Laws.{is_unknown};
+ghost use Rattle.user_compiling.specs.Faults.{is_warning_with};
+ghost use Rattle.ti_source.specs.Cutting.{OneBlock};
+ghost use Rattle.ti_source.specs.Parsing.{reading_of_text};
+ghost use Rattle.ti_source.specs.Reading.{fault_of};
+ghost use Rattle.user_items.specs.Parsing.{user_reading_of_text};
+ghost use Rattle.user_items.specs.Reading.{user_fault_of};
+ghost use Rattle.user_compiling.specs.inside.Pairs.{code_here, pairs, warning_ordinals};
+
+use std::alloc::{AllocError, Global};
+use std::rc::RcSlice;
+use ti_source::{Code, Local, parse};
+use user_items::{UserCode, UserFault, is_user_defined_name, user_items};
+
+// Whether a code is that of an unknown name.
+fn is_unknown(code: Code) -> bool
+    ensures { result ≡ is_unknown code }
+{
+    matches!(code, Code::UnknownCapability)
+}
+
+/// Whether a fault with this code and detail is the warning of an unknown name that is user-defined.
+pub(crate) fn is_warning(code: Code, detail: &Option<RcSlice<u8>>) -> bool
+    ensures { result ≡ is_warning_with code (option_map rc_slice_items detail.now) }
+{
+    match detail {
+        Some(name) => is_unknown(code) && is_user_defined_name(name.as_slice()),
+        None => false,
+    }
+}
+
+// What is wrong with the item of an ordinal, if the next fault is of that item.
+fn code_here(own: &[UserFault], next: usize, ordinal: usize) -> Option<UserCode>
+    ensures code { result ≡ code_here ordinal (map user_fault_of (drop next own.now)) }
+    ensures within { OnSome result (next < length own.now) }
+{
+    match own.get(next) {
+        Some(fault) if fault.ordinal == ordinal => Some(fault.code),
+        _ => None,
+    }
+}
+
+// Adds the code of a warning; another fault has none.
+fn add_code(
+    own: &[UserFault],
+    local: &Local,
+    next: &mut usize,
+    codes: &mut Vec<Option<UserCode>>,
+) -> Result<(), AllocError>
+    requires { next.old ≤ length own.now }
+    ensures added { OnOk result ((fs : List ReadFault) → codes.new.items ++ pairs (warning_ordinals fs) (map user_fault_of (drop next.new own.now))
+        ≡ codes.old.items ++ pairs (warning_ordinals (fault_of local.now ∷ fs)) (map user_fault_of (drop next.old own.now))) }
+    ensures within { next.new ≤ length own.now }
+{
+    if !is_warning(local.code, &local.detail) {
+        return Ok(());
+    }
+    match code_here(own, *next, local.ordinal) {
+        Some(code) => {
+            codes.push(Some(code))?;
+            *next += 1;
+            Ok(())
+        }
+        None => {
+            codes.push(None)?;
+            Ok(())
+        }
+    }
+}
+
+// For each warning among the faults that reading gave what is wrong with its item, by the faults of
+// user-defined items.
+fn pair(
+    alloc: Global,
+    locals: &[Local],
+    own: &[UserFault],
+) -> Result<Vec<Option<UserCode>>, AllocError>
+    ensures { IfOk result (λ codes. codes.items ≡ pairs (warning_ordinals (map fault_of locals.now)) (map user_fault_of own.now)) }
+{
+    let mut codes = Vec::new(alloc);
+    let mut next = 0;
+    for local in locals {
+        add_code(own, local, &mut next, &mut codes)?;
+    }
+    Ok(codes)
+}
+
+/// For each warning of a block that a name is unknown which is user-defined, what is wrong with the
+/// item that defines it, if something is.
+///
+/// # Errors
+/// Out of memory.
+pub(crate) fn own_codes(alloc: Global, text: &[u8]) -> Result<Vec<Option<UserCode>>, AllocError>
+    requires { OneBlock text.now }
+    ensures { IfOk result (λ codes. codes.items ≡ pairs (warning_ordinals (reading_of_text text.now).faults) (user_reading_of_text text.now).faults) }
+{
+    let read = user_items(alloc, text)?;
+    let parsed = parse(alloc, text)?;
+    pair(alloc, &parsed.faults, &read.faults)
+}

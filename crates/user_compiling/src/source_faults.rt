@@ -1,0 +1,78 @@
+//! The faults of a source whose user-defined capabilities are kept.
+ghost use Rattle.std.specs.Prelude.{◌≡◌, ◌<◌, ◌≤◌, ◌++◌, ℕ, List, All, IfOk, OnOk, length, map, slice_get, Some, drop};
+ghost use Rattle.ti_source.specs.Cutting.{OneBlock};
+ghost use Rattle.base_meaning.specs.Owner.{readings};
+ghost use Rattle.base_meaning.specs.Usable.{IsPlaced};
+ghost use Rattle.base_meaning.specs.Faults as spec;
+ghost use Rattle.base_meaning.specs.Faults.{fault_seen as profile_fault_seen};
+ghost use Rattle.user_compiling.specs.Entries.{state_seen};
+ghost use Rattle.user_compiling.specs.Faults.{extended_faults, fault_seen};
+ghost use Rattle.user_compiling.specs.Report.{IsExtendedPlaced};
+ghost use Rattle.user_compiling.specs.inside.Pairs.{count_at};
+
+use crate::block_faults::add_block_faults;
+use crate::compiled::Compiled;
+use crate::fault::ExtendedFault;
+use base_meaning::Fault;
+use std::alloc::{AllocError, Global};
+use ti_base::Database;
+
+// How many faults at the front are of the block at a position.
+fn count_at(faults: &[Fault], at: usize) -> usize
+    ensures within { result ≤ length faults.now }
+    ensures count { result ≡ count_at at (map profile_fault_seen faults.now) }
+{
+    let mut count = 0;
+    for fault in faults {
+        if fault.block != at {
+            return count;
+        }
+        count += 1;
+    }
+    count
+}
+
+// The faults of a source, given those of the profile.
+fn extend_all(
+    alloc: Global,
+    database: &Database,
+    profile: &[Fault],
+    compiled: &[Compiled],
+) -> Result<Vec<ExtendedFault>, AllocError>
+    requires one { All OneBlock database.now }
+    requires as_many { length compiled.now ≡ length database.now }
+    requires profile { map profile_fault_seen profile.now ≡ spec.faults (readings database.now) }
+    requires placed { All (IsPlaced (length database.now)) (map profile_fault_seen profile.now) }
+    ensures all { IfOk result (λ all. map fault_seen all.items ≡ extended_faults database.now (map state_seen compiled.now)) }
+    ensures placed { IfOk result (λ all. All (IsExtendedPlaced (length database.now)) (map fault_seen all.items)) }
+{
+    let mut all = Vec::new(alloc);
+    let mut rest = profile;
+    for (at, state) in compiled.iter().enumerate() {
+        let (block, others) = rest.split_at(count_at(rest, at));
+        add_block_faults(alloc, database, at, block, state, &mut all)?;
+        rest = others;
+    }
+    Ok(all)
+}
+
+/// The faults of a source, of whose blocks this becomes: those of the profile, without the warnings
+/// that a name is unknown which an item defines. In the place of such a warning comes W5 or W3, if
+/// the item has it. The fault of an entry is that of the entry with its extension.
+///
+/// # Errors
+/// Out of memory.
+pub fn faults(
+    alloc: Global,
+    database: &Database,
+    compiled: &[Compiled],
+) -> Result<Vec<ExtendedFault>, AllocError>
+    requires one { All OneBlock database.now }
+    requires as_many { length compiled.now ≡ length database.now }
+    ensures all { IfOk result (λ all. map fault_seen all.items ≡ extended_faults database.now (map state_seen compiled.now)) }
+    ensures placed { IfOk result (λ all. All (IsExtendedPlaced (length database.now)) (map fault_seen all.items)) }
+{
+    let profile = database.faults()?;
+    let all = extend_all(alloc, database, &profile, compiled)?;
+    Ok(all)
+}
