@@ -2,6 +2,7 @@
 -- are own.
 use Rattle.std.specs.Prelude.{ℕ, List, [], ◌∷◌, ◌++◌, Option, None, Some, codes}
 use Rattle.std.specs.Fmt.{decimal}
+use Rattle.std.specs.Option.{option_map_or}
 use Rattle.serde_json.specs.Data.{Data, null}
 use Rattle.ti_caps.specs.Tables.{Capability, name_of}
 use Rattle.lsp_messages.specs.Shapes.{hover_data}
@@ -13,19 +14,40 @@ use Rattle.lsp_features.specs.Hovers.{AboutSeen, HoverSeen, about_item, about_na
 use Rattle.lsp_features.specs.Meanings.{MeaningSeen, means_cancelled, means_nothing, means_number, means_set, means_text}
 use Rattle.lsp_descriptions.specs.Words.{detail_of, documentation_of}
 
--- what an entry holds: how many bytes it takes, and how many capabilities of each kind it has values of
-abbrev pub holding_told : Holding → List ℕ
-holding_told holding =
-    codes "an entry of " ++ decimal holding.bytes ++ codes " bytes\nBooleans: " ++ decimal holding.flags
-    ++ codes ", numbers: " ++ decimal holding.numbers ++ codes ", strings: " ++ decimal holding.texts
+-- how many bytes an entry takes
+abbrev pub size_told : ℕ → List ℕ
+size_told bytes = codes "an entry of " ++ decimal bytes ++ codes " bytes"
 
--- What an entry holds, or why there is none: the code of the first error that the report has of the
--- block, and what the diagnostic says that is published for it.
+-- how many there are of what a word says
+abbrev pub count_told : List ℕ → ℕ → List ℕ
+count_told word count = word ++ codes ": " ++ decimal count
+
+-- how many numbers and strings it has
+abbrev pub others_told : Holding → List ℕ
+others_told holding = count_told (codes "numbers") holding.numbers ++ codes ", " ++ count_told (codes "strings") holding.texts
+
+-- how many capabilities of each kind it has values of
+abbrev pub counts_told : Holding → List ℕ
+counts_told holding = count_told (codes "Booleans") holding.flags ++ codes ", " ++ others_told holding
+
+-- why there is no entry: the code of the first error that the report has of the block, and what the
+-- diagnostic says that is published for it
+abbrev pub cause_told : Shown → List ℕ
+cause_told cause = label_of_problem cause.problem ++ codes " " ++ cause.message
+
+-- what an entry holds, or why there is none
 abbrev pub entry_told : EntrySeen → List ℕ
 entry_told entry_missing = codes "no block has this name"
-entry_told (entry_faulty None) = codes "no entry"
-entry_told (entry_faulty (Some cause)) = codes "no entry: " ++ label_of_problem cause.problem ++ codes " " ++ cause.message
-entry_told (entry_held holding) = holding_told holding
+entry_told (entry_faulty cause) = codes "no entry" ++ option_map_or (λ (why : Shown). codes ": " ++ cause_told why) cause []
+entry_told (entry_held holding) = size_told holding.bytes ++ codes "\n" ++ counts_told holding
+
+-- the name of a capability, and what it is
+abbrev pub head_told : Capability → List ℕ
+head_told c = name_of c ++ codes ": " ++ detail_of c
+
+-- what is said of it, and the item as it is written
+abbrev pub item_told : Capability → List ℕ → List ℕ
+item_told c text = documentation_of c ++ codes "\nWritten: " ++ text
 
 -- what an item means
 abbrev pub meaning_told : MeaningSeen → List ℕ
@@ -35,11 +57,17 @@ meaning_told (means_number number) = decimal number
 meaning_told (means_text text) = text
 meaning_told means_cancelled = codes "cancelled"
 
--- what a capability is, what is said of it, and the item as it is written and as it is read
+-- the item as it is read
+abbrev pub read_told : MeaningSeen → List ℕ
+read_told meaning = codes "Read" ++ codes ": " ++ meaning_told meaning
+
+-- what is said of it, and the item as it is written and as it is read
+abbrev pub lines_told : Capability → List ℕ → MeaningSeen → List ℕ
+lines_told c text meaning = item_told c text ++ codes "\n" ++ read_told meaning
+
+-- what a capability is, and the item as it is written and as it is read
 abbrev pub capability_told : Capability → List ℕ → MeaningSeen → List ℕ
-capability_told c text meaning =
-    name_of c ++ codes ": " ++ detail_of c ++ codes "\n" ++ documentation_of c
-    ++ codes "\nWritten: " ++ text ++ codes "\nRead: " ++ meaning_told meaning
+capability_told c text meaning = head_told c ++ codes "\n" ++ lines_told c text meaning
 
 -- the names of capabilities, each after a comma
 abbrev pub more_told : List Capability → List ℕ

@@ -1,5 +1,6 @@
 //! What is told of what a place is on, as a value of the protocol.
 ghost use Rattle.std.specs.Prelude.{◌≡◌, ◌++◌, IfOk, OnOk, Some, codes, map};
+ghost use Rattle.std.specs.Fmt.{decimal};
 ghost use Rattle.std.specs.String.{string_bytes};
 ghost use Rattle.serde_json.specs.View.{view};
 ghost use Rattle.lsp_blocks.specs.Deciding.{source_seen};
@@ -7,8 +8,7 @@ ghost use Rattle.lsp_blocks.specs.Holdings.{entry_faulty, entry_held, entry_seen
 ghost use Rattle.lsp_features.specs.Hovers.{about_seen, hover_of};
 ghost use Rattle.lsp_features.specs.Meanings.{meaning_seen};
 ghost use Rattle.lsp_document.specs.Diagnostics.{diagnostic_seen};
-ghost use Rattle.ti_lsp.specs.Hovers.{about_told, capabilities_told, capability_told, entry_told, holding_told, hover_shown};
-ghost use Rattle.ti_lsp.specs.Hovers.{meaning_told, more_told, source_told, sources_told};
+ghost use Rattle.ti_lsp.specs.Hovers.{about_told, capabilities_told, capability_told, cause_told, count_told, counts_told, entry_told, head_told, hover_shown, item_told, lines_told, meaning_told, more_told, others_told, read_told, size_told, source_told, sources_told};
 
 use lsp_blocks::{DecidingBlock, Entry, Holding};
 use lsp_descriptions::{detail_of, documentation_of};
@@ -20,26 +20,75 @@ use serde_json::Value;
 use std::alloc::{AllocError, Global};
 use ti_caps::{Cap, name};
 
+// Two parts, and what is between them.
+fn joined(alloc: Global, first: &str, between: &str, rest: &str) -> Result<String, AllocError>
+    ensures { IfOk result (λ text. string_bytes text ≡ first.now ++ between.now ++ rest.now) }
+{
+    format!(in alloc; "{first}{between}{rest}")
+}
+
+// How many bytes an entry takes.
+fn size_told(alloc: Global, bytes: usize) -> Result<String, AllocError>
+    ensures { IfOk result (λ text. string_bytes text ≡ size_told bytes) }
+{
+    format!(in alloc; "an entry of {bytes} bytes")
+}
+
+// A number in decimal digits.
+fn digits(alloc: Global, number: usize) -> Result<String, AllocError>
+    ensures { IfOk result (λ text. string_bytes text ≡ decimal number) }
+{
+    format!(in alloc; "{number}")
+}
+
+// How many there are of what a word says.
+fn count_told(alloc: Global, word: &str, count: usize) -> Result<String, AllocError>
+    ensures { IfOk result (λ text. string_bytes text ≡ count_told word.now count) }
+{
+    let count = digits(alloc, count)?;
+    joined(alloc, word, ": ", count.as_str())
+}
+
+// How many numbers and strings an entry has.
+fn others_told(alloc: Global, holding: Holding) -> Result<String, AllocError>
+    ensures { IfOk result (λ text. string_bytes text ≡ others_told holding) }
+{
+    let numbers = count_told(alloc, "numbers", holding.numbers)?;
+    let texts = count_told(alloc, "strings", holding.texts)?;
+    joined(alloc, numbers.as_str(), ", ", texts.as_str())
+}
+
+// How many capabilities of each kind an entry has values of.
+fn counts_told(alloc: Global, holding: Holding) -> Result<String, AllocError>
+    ensures { IfOk result (λ text. string_bytes text ≡ counts_told holding) }
+{
+    let flags = count_told(alloc, "Booleans", holding.flags)?;
+    let others = others_told(alloc, holding)?;
+    joined(alloc, flags.as_str(), ", ", others.as_str())
+}
+
 // What an entry holds.
 fn holding_told(alloc: Global, holding: Holding) -> Result<String, AllocError>
-    ensures { IfOk result (λ text. string_bytes text ≡ holding_told holding) }
+    ensures { IfOk result (λ text. string_bytes text ≡ entry_told (entry_held holding)) }
 {
-    let Holding {
-        bytes,
-        flags,
-        numbers,
-        texts,
-    } = holding;
-    format!(in alloc; "an entry of {bytes} bytes\nBooleans: {flags}, numbers: {numbers}, strings: {texts}")
+    let size = size_told(alloc, holding.bytes)?;
+    let counts = counts_told(alloc, holding)?;
+    joined(alloc, size.as_str(), "\n", counts.as_str())
+}
+
+// Why there is no entry.
+fn cause_told(alloc: Global, cause: &Diagnostic) -> Result<String, AllocError>
+    ensures { IfOk result (λ text. string_bytes text ≡ cause_told (diagnostic_seen cause.now)) }
+{
+    joined(alloc, cause.problem.label(), " ", cause.message.as_str())
 }
 
 // That there is no entry, and why.
 fn fault_told(alloc: Global, cause: &Diagnostic) -> Result<String, AllocError>
     ensures { IfOk result (λ text. string_bytes text ≡ entry_told (entry_faulty (Some (diagnostic_seen cause.now)))) }
 {
-    let label = cause.problem.label();
-    let message = cause.message.as_str();
-    format!(in alloc; "no entry: {label} {message}")
+    let cause = cause_told(alloc, cause)?;
+    joined(alloc, "no entry", ": ", cause.as_str())
 }
 
 // What an entry holds, or why there is none.
@@ -53,6 +102,22 @@ fn entry_told(alloc: Global, entry: &Entry) -> Result<String, AllocError>
     }
 }
 
+// The name of a capability, and what it is.
+fn head_told(alloc: Global, capability: Cap) -> Result<String, AllocError>
+    ensures { IfOk result (λ told. string_bytes told ≡ head_told capability) }
+{
+    let detail = detail_of(alloc, capability)?;
+    joined(alloc, name(capability), ": ", detail.as_str())
+}
+
+// What is said of a capability, and the item as it is written.
+fn item_told(alloc: Global, capability: Cap, text: &str) -> Result<String, AllocError>
+    ensures { IfOk result (λ told. string_bytes told ≡ item_told capability text.now) }
+{
+    let documentation = documentation_of(alloc, capability)?;
+    joined(alloc, documentation.as_str(), "\nWritten: ", text)
+}
+
 // What an item means.
 fn meaning_told(alloc: Global, meaning: &Meaning) -> Result<String, AllocError>
     ensures { IfOk result (λ told. string_bytes told ≡ meaning_told (meaning_seen meaning.now)) }
@@ -60,13 +125,32 @@ fn meaning_told(alloc: Global, meaning: &Meaning) -> Result<String, AllocError>
     match meaning {
         Meaning::Nothing => String::from_str(alloc, "nothing, as the item is faulty"),
         Meaning::Set => String::from_str(alloc, "set"),
-        Meaning::Number(number) => {
-            let number = *number as usize;
-            format!(in alloc; "{number}")
-        }
+        Meaning::Number(number) => digits(alloc, *number as usize),
         Meaning::Text(text) => String::from_str(alloc, text.as_str()),
         Meaning::Cancelled => String::from_str(alloc, "cancelled"),
     }
+}
+
+// The item as it is read.
+fn read_told(alloc: Global, meaning: &Meaning) -> Result<String, AllocError>
+    ensures { IfOk result (λ told. string_bytes told ≡ read_told (meaning_seen meaning.now)) }
+{
+    let meaning = meaning_told(alloc, meaning)?;
+    joined(alloc, "Read", ": ", meaning.as_str())
+}
+
+// What is said of a capability, and the item as it is written and as it is read.
+fn lines_told(
+    alloc: Global,
+    capability: Cap,
+    text: &str,
+    meaning: &Meaning,
+) -> Result<String, AllocError>
+    ensures { IfOk result (λ told. string_bytes told ≡ lines_told capability text.now (meaning_seen meaning.now)) }
+{
+    let item = item_told(alloc, capability, text)?;
+    let read = read_told(alloc, meaning)?;
+    joined(alloc, item.as_str(), "\n", read.as_str())
 }
 
 // What a capability is, and the item as it is written and as it is read.
@@ -78,11 +162,9 @@ fn capability_told(
 ) -> Result<String, AllocError>
     ensures { IfOk result (λ told. string_bytes told ≡ capability_told capability text.now (meaning_seen meaning.now)) }
 {
-    let name = name(capability);
-    let detail = detail_of(alloc, capability)?;
-    let documentation = documentation_of(alloc, capability)?;
-    let meaning = meaning_told(alloc, meaning)?;
-    format!(in alloc; "{name}: {detail}\n{documentation}\nWritten: {text}\nRead: {meaning}")
+    let head = head_told(alloc, capability)?;
+    let lines = lines_told(alloc, capability, text, meaning)?;
+    joined(alloc, head.as_str(), "\n", lines.as_str())
 }
 
 // Adds the names of capabilities, each after a comma.
@@ -139,7 +221,7 @@ fn name_told(
     ensures { IfOk result (λ told. string_bytes told ≡ name.now ++ codes ": " ++ entry_told (entry_seen entry.now) ++ sources_told (map source_seen sources.now)) }
 {
     let found = entry_told(alloc, entry)?;
-    let mut told = format!(in alloc; "{name}: {found}")?;
+    let mut told = joined(alloc, name, ": ", found.as_str())?;
     push_sources(&mut told, sources)?;
     Ok(told)
 }

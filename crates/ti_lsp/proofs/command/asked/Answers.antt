@@ -21,9 +21,9 @@ asked_by kinds kind (Ok (Refusal text)) (inr among) memory said = (kind, among, 
 pub returns-clause-asked : goal.returns-clause-asked
 returns-clause-asked c =
     let P : App → Type 0 = λ app. is_simple_and_free app ≡ true → HasKind (fault_of app (map string_bytes c.args.words.now)) c.in-Err.error in
-    asked_by _ (kind_of c.in-Err.error) c.said.result (subst P c.command.ensures c.in-Err.ensures.kinds refl) c.said.ensures.memory c.said.ensures.said
+    asked_by _ (kind_of c.in-Err.error) c.said.result (subst P c.in_ok-command.ensures c.in-Err.ensures.kinds refl) c.said.ensures.memory c.said.ensures.said
 
 pub returns-clause-served : goal.returns-clause-served
 returns-clause-served c =
     let P : App → Type 0 = λ app. takes app (map string_bytes c.args.words.now) ≡ true → kind_of c.in-Err.error ≡ OutOfMemory in
-    IfOk-weaker c.said.result _ _ (λ task kept took. absurd (kept (subst P c.command.ensures c.in-Err.ensures.passes took))) c.said.ensures.memory
+    IfOk-weaker c.said.result _ _ (λ task kept took. absurd (kept (subst P c.in_ok-command.ensures c.in-Err.ensures.passes took))) c.said.ensures.memory
