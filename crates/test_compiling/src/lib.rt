@@ -1,0 +1,16 @@
+//! What `tic -x` makes of sources, as tests, with bytes by hand; no code of the product.
+//!
+//! - `making`: a source as it is compiled
+//! - `rows`: the worked rows: entries and reports
+//! - `limits`: limits of entries and of names
+//! - `reading`: extensions read by themselves
+#![tactic(auto)]
+
+#[cfg(test)]
+mod limits;
+#[cfg(test)]
+mod making;
+#[cfg(test)]
+mod reading;
+#[cfg(test)]
+mod rows;
