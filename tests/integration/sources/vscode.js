@@ -79,8 +79,8 @@ class Document {
     constructor(file, text) {
         Object.assign(this, { uri: new Uri(`file://${path.resolve(file)}`), languageId: "terminfo", version: 1, text });
     }
-    getText() {
-        return this.text;
+    getText(part) {
+        return part ? this.text.slice(this.offsetAt(part.start), this.offsetAt(part.end)) : this.text;
     }
     offsetAt({ line, character }) {
         return this.text.split("\n").slice(0, line).join("\n").length + (line ? 1 : 0) + character;
