@@ -13,7 +13,8 @@ end
 vim.api.nvim_create_autocmd({ 'BufRead', 'BufNewFile' }, {
   pattern = { '*.ti', '*.terminfo', 'terminfo.src', '*.info' },
   callback = function(event)
-    if not event.match:find('%.info$') or is_entry(event.buf) then
+    local is_new = vim.bo[event.buf].filetype ~= 'terminfo'
+    if is_new and (not event.match:find('%.info$') or is_entry(event.buf)) then
       vim.bo[event.buf].filetype = 'terminfo'
     end
   end,
@@ -40,13 +41,14 @@ else
   vim.api.nvim_create_autocmd('FileType', {
     pattern = 'terminfo',
     callback = function(event)
-      if not client or vim.lsp.client_is_stopped(client) then
-        client = vim.lsp.start_client({
-          name = 'ti-lsp',
-          cmd = { 'ti-lsp' },
-          root_dir = vim.fn.getcwd(),
-        })
-      end
+      client = client or vim.lsp.start_client({
+        name = 'ti-lsp',
+        cmd = { 'ti-lsp' },
+        root_dir = vim.fn.getcwd(),
+        on_exit = function()
+          client = nil
+        end,
+      })
       vim.lsp.buf_attach_client(event.buf, client)
     end,
   })
