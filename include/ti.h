@@ -139,7 +139,7 @@ void ti_long_name(const struct ti_entry *entry, struct ti_text *text);
 /* Whether a boolean is set: 1, or 0 if it is absent or cancelled; -1 if the index has none. */
 int32_t ti_flag(const struct ti_entry *entry, uint32_t index);
 
-/* A number; -1 if it is absent or cancelled; -2 if there is no number of the index. */
+/* A number; -1 if it is absent or cancelled; -2 if the index is not that of a number. */
 int64_t ti_number(const struct ti_entry *entry, uint32_t index);
 
 /*
@@ -247,7 +247,7 @@ struct ti_outcome ti_path(const uint8_t *dir, size_t dir_size, const uint8_t *na
  */
 uint32_t ti_open(const char *name, struct ti_entry **entry);
 
-/* Gives back an entry of ti_entry_new or ti_open, and the texts in it. NULL is nothing. */
+/* Frees an entry of ti_entry_new or ti_open, and its texts. NULL is a no-op. */
 void ti_entry_free(struct ti_entry *entry);
 
 /*
