@@ -1,5 +1,6 @@
 -- A block has no entry exactly if the report has an error of it.
-use Rattle.std.proofs.Common.{◌≡◌, ℕ, zero, suc, inl, inr, Bool, true, false, cond, List, [], ◌∷◌, ◌++◌, ◌+◌, ◌||◌, ◌⊎◌, filter, map, Option, Some, None, is_some, option_and_then, slice_get, refl, subst, sym, ◌∙◌, ap, not, arith}
+use Rattle.std.proofs.Common.{◌≡◌, ℕ, zero, suc, inl, inr, Bool, true, false, cond, List, [], ◌∷◌, ◌++◌, ◌+◌, ◌||◌, ◌⊎◌, filter, map, Option, Some, None}
+use Rattle.std.proofs.Common.{is_some, option_and_then, slice_get, refl, subst, sym, ◌∙◌, ap, not, arith}
 use Rattle.std.specs.Prelude.{nat_eq, nat_lt, IsSome, IsTrue}
 use Rattle.std.specs.List.{find, list_any}
 use Rattle.std.proofs.lemmas.Bool.{and_parts, cases_Bool, false≢true, eq-eqb, eqb-true, or_cases}
@@ -14,7 +15,9 @@ use Rattle.ti_layout.specs.Values.{Mention}
 use Rattle.base_meaning.specs.Expansion.{expansion, is_broken, resolves}
 use Rattle.base_meaning.specs.Reaching.{used_name, Uses, leads_to}
 use Rattle.base_meaning.specs.Compiled.{entry, entry_of, image_of, is_too_large, state_of, state_with, EntryState, unresolved, oversized, written}
-use Rattle.base_meaning.specs.Faults.{SourceFault, block_faults, entry_faults, fault_between, fault_of_item, distinct, fault_of_use, faults, faults_after, faults_before, faults_from, is_kept, is_owned_before, name_fault, item_faults, local_fault, local_faults, name_faults, use_fault}
+use Rattle.base_meaning.specs.Faults.{SourceFault, block_faults, entry_faults, fault_between, fault_of_item, distinct, fault_of_use, faults, faults_after}
+use Rattle.base_meaning.specs.Faults.{faults_before, faults_from, is_kept, is_owned_before, name_fault, item_faults, local_fault, local_faults, name_faults}
+use Rattle.base_meaning.specs.Faults.{use_fault}
 use Rattle.base_meaning.specs.UseLaws.{UnresolvedBlocksHaveACause, HasUseAtFault}
 use Rattle.lsp_blocks.specs.Causes.{MissingEntriesHaveACause, cause_of, is_error_of}
 
@@ -54,7 +57,8 @@ found p (x ∷ xs) e = elim (cases_Bool (p x)) [
 one-local : (at : ℕ) (fault : ReadFault) → is_error fault.code ≡ true → is_error_of at (local_fault at fault) ≡ true
 one-local at fault e = rw (eq-eqb at at refl, e) refl
 
-any-local : (at : ℕ) (fs : List ReadFault) → list_any (λ (f : ReadFault). is_error f.code) fs ≡ true → list_any (is_error_of at) (map (local_fault at) fs) ≡ true
+any-local : (at : ℕ) (fs : List ReadFault) → list_any (λ (f : ReadFault). is_error f.code) fs ≡ true
+    → list_any (is_error_of at) (map (local_fault at) fs) ≡ true
 any-local at [] e = e
 any-local at (f ∷ fs) e = elim (or_cases (is_error f.code) (list_any (λ (g : ReadFault). is_error g.code) fs) e) [
   | inl here ↦ or-left (is_error_of at (local_fault at f)) (list_any (is_error_of at) (map (local_fault at) fs)) (one-local at f here)
@@ -106,10 +110,12 @@ read-error blocks at fs (item ∷ items) e =
     let rest = item_faults blocks at (faults_from item.ordinal fs) items in
     elim (parted item.ordinal fs e) [
       | inl front ↦ any-left (is_error_of at) first (own ++ rest) (any-local at (faults_before item.ordinal fs) front)
-      | inr later ↦ any-right (is_error_of at) first (own ++ rest) (any-right (is_error_of at) own rest (read-error blocks at (faults_from item.ordinal fs) items later))
+      | inr later ↦ any-right (is_error_of at) first (own ++ rest)
+          (any-right (is_error_of at) own rest (read-error blocks at (faults_from item.ordinal fs) items later))
     ]
 
-uses-error : (blocks : List Reading) (at : ℕ) (fs : List ReadFault) (items : List ReadItem) (name : List ℕ) (code : Code) → Uses items name → use_fault blocks at name ≡ Some code
+uses-error : (blocks : List Reading) (at : ℕ) (fs : List ReadFault) (items : List ReadItem) (name : List ℕ) (code : Code) → Uses items name
+    → use_fault blocks at name ≡ Some code
     → list_any (is_error_of at) (item_faults blocks at fs items) ≡ true
 uses-error blocks at fs [] name code u e = absurd u
 uses-error blocks at fs (item ∷ items) name code u e =
@@ -125,7 +131,8 @@ uses-error blocks at fs (item ∷ items) name code u e =
 -- ---- the faults of a block
 
 kept-either : (fs : List ReadFault) → list_any (λ (f : ReadFault). is_error f.code) fs ≡ true
-    → (list_any (λ (f : ReadFault). is_error f.code) (filter (is_kept true) fs) ≡ true) ⊎ (list_any (λ (f : ReadFault). is_error f.code) (filter (is_kept false) fs) ≡ true)
+    → (list_any (λ (f : ReadFault). is_error f.code) (filter (is_kept true) fs) ≡ true)
+    ⊎ (list_any (λ (f : ReadFault). is_error f.code) (filter (is_kept false) fs) ≡ true)
 kept-either [] e = inl e
 kept-either (f ∷ fs) e =
     let bad = λ (g : ReadFault). is_error g.code in
@@ -159,9 +166,11 @@ by-header : (blocks : List Reading) (at : ℕ) (block : Reading) → list_any (i
     → list_any (is_error_of at) (block_faults blocks at block) ≡ true
 by-header blocks at block e =
     any-left (is_error_of at) (local_faults true at block.faults)
-    (name_faults blocks at block.names ++ (item_faults blocks at (filter (is_kept false) block.faults) block.items ++ entry_faults at block.names (state_of blocks block))) e
+    (name_faults blocks at block.names ++ (item_faults blocks at (filter (is_kept false) block.faults) block.items
+    ++ entry_faults at block.names (state_of blocks block))) e
 
-by-items : (blocks : List Reading) (at : ℕ) (block : Reading) → list_any (is_error_of at) (item_faults blocks at (filter (is_kept false) block.faults) block.items) ≡ true
+by-items : (blocks : List Reading) (at : ℕ) (block : Reading)
+    → list_any (is_error_of at) (item_faults blocks at (filter (is_kept false) block.faults) block.items) ≡ true
     → list_any (is_error_of at) (block_faults blocks at block) ≡ true
 by-items blocks at block e =
     let names = name_faults blocks at block.names in
@@ -170,7 +179,8 @@ by-items blocks at block e =
     any-right (is_error_of at) (local_faults true at block.faults) (names ++ (items ++ last))
     (any-right (is_error_of at) names (items ++ last) (any-left (is_error_of at) items last e))
 
-by-entry : (blocks : List Reading) (at : ℕ) (block : Reading) → state_of blocks block ≡ oversized → list_any (is_error_of at) (block_faults blocks at block) ≡ true
+by-entry : (blocks : List Reading) (at : ℕ) (block : Reading) → state_of blocks block ≡ oversized
+    → list_any (is_error_of at) (block_faults blocks at block) ≡ true
 by-entry blocks at block e =
     let names = name_faults blocks at block.names in
     let items = item_faults blocks at (filter (is_kept false) block.faults) block.items in
@@ -186,10 +196,12 @@ broken-error blocks at block broken = elim (kept-either block.faults broken) [
   | inr other ↦ by-items blocks at block (read-error blocks at (filter (is_kept false) block.faults) block.items other)
 ]
 
-with-use : (blocks : List Reading) (at : ℕ) (block : Reading) (name : List ℕ) (o : Option Code) → Uses block.items name → use_fault blocks at name ≡ o → IsSome o
+with-use : (blocks : List Reading) (at : ℕ) (block : Reading) (name : List ℕ) (o : Option Code) → Uses block.items name → use_fault blocks at name ≡ o
+    → IsSome o
     → list_any (is_error_of at) (block_faults blocks at block) ≡ true
 with-use blocks at block name None u e some = absurd (false≢true some)
-with-use blocks at block name (Some code) u e some = by-items blocks at block (uses-error blocks at (filter (is_kept false) block.faults) block.items name code u e)
+with-use blocks at block name (Some code) u e some =
+    by-items blocks at block (uses-error blocks at (filter (is_kept false) block.faults) block.items name code u e)
 
 -- ---- the block of a source
 
@@ -211,7 +223,8 @@ block-error law blocks at block here none = elim (missed block (expansion blocks
 ]
 
 -- the faults of a block are among those of the source
-among : (p : SourceFault → Bool) (blocks : List Reading) (start : ℕ) (rest : List Reading) (k at : ℕ) (block : Reading) → slice_get rest k ≡ Some block → start + k ≡ at
+among : (p : SourceFault → Bool) (blocks : List Reading) (start : ℕ) (rest : List Reading) (k at : ℕ) (block : Reading) → slice_get rest k ≡ Some block
+    → start + k ≡ at
     → list_any p (block_faults blocks at block) ≡ true → list_any p (faults_after blocks start rest) ≡ true
 among p blocks start [] k at block here same e = absurd (none-some block here)
 among p blocks start (b ∷ rest) zero at block here same e =
@@ -239,7 +252,8 @@ missed-find p (x ∷ xs) e = elim (cases_Bool (p x)) [
   | inr not ↦ or-right (p x) (list_any p xs) (missed-find p xs (subst IsSome (ap (λ (v : Bool). cond v (Some x) (find p xs)) not) e))
 ]
 
-own-local : (at s : ℕ) (fs : List ReadFault) → list_any (is_error_of at) (map (local_fault s) fs) ≡ true → (s ≡ at) × (list_any (λ (f : ReadFault). is_error f.code) fs ≡ true)
+own-local : (at s : ℕ) (fs : List ReadFault) → list_any (is_error_of at) (map (local_fault s) fs) ≡ true → (s ≡ at)
+    × (list_any (λ (f : ReadFault). is_error f.code) fs ≡ true)
 own-local at s [] e = absurd (false≢true e)
 own-local at s (f ∷ fs) e = elim (or_cases (is_error_of at (local_fault s f)) (list_any (is_error_of at) (map (local_fault s) fs)) e) [
   | inl here ↦
@@ -271,7 +285,8 @@ own-item blocks at s line (Some name) e =
     let found = own-use at s line name (use_fault blocks s name) e in
     (found.0, (name, refl, found.1))
 
-of-before : (n : ℕ) (fs : List ReadFault) → list_any (λ (f : ReadFault). is_error f.code) (faults_before n fs) ≡ true → list_any (λ (f : ReadFault). is_error f.code) fs ≡ true
+of-before : (n : ℕ) (fs : List ReadFault) → list_any (λ (f : ReadFault). is_error f.code) (faults_before n fs) ≡ true
+    → list_any (λ (f : ReadFault). is_error f.code) fs ≡ true
 of-before n [] e = e
 of-before n (f ∷ fs) e = elim (cases_Bool (nat_lt f.ordinal n)) [
   | inr behind ↦ absurd (false≢true (sym (ap (λ (v : Bool). list_any (λ (g : ReadFault). is_error g.code) (cond v (f ∷ faults_before n fs) [])) behind) ∙ e))
@@ -282,7 +297,8 @@ of-before n (f ∷ fs) e = elim (cases_Bool (nat_lt f.ordinal n)) [
       ]
 ]
 
-of-rest : (n : ℕ) (fs : List ReadFault) → list_any (λ (f : ReadFault). is_error f.code) (faults_from n fs) ≡ true → list_any (λ (f : ReadFault). is_error f.code) fs ≡ true
+of-rest : (n : ℕ) (fs : List ReadFault) → list_any (λ (f : ReadFault). is_error f.code) (faults_from n fs) ≡ true
+    → list_any (λ (f : ReadFault). is_error f.code) fs ≡ true
 of-rest n [] e = e
 of-rest n (f ∷ fs) e = elim (cases_Bool (nat_lt f.ordinal n)) [
   | inr behind ↦ sym (ap (λ (v : Bool). list_any (λ (g : ReadFault). is_error g.code) (cond v (faults_from n fs) (f ∷ fs))) behind) ∙ e
@@ -321,7 +337,8 @@ own-items blocks at s fs (item ∷ items) e =
       ]
     ]
 
-own-entry : (at s : ℕ) (names : List (List ℕ)) (state : EntryState) → list_any (is_error_of at) (entry_faults s names state) ≡ true → (s ≡ at) × (state ≡ oversized)
+own-entry : (at s : ℕ) (names : List (List ℕ)) (state : EntryState) → list_any (is_error_of at) (entry_faults s names state) ≡ true → (s ≡ at)
+    × (state ≡ oversized)
 own-entry at s names unresolved e = absurd (false≢true e)
 own-entry at s names oversized e = elim (or_cases (is_error_of at (record { block = s; line = 1; code = TooLarge; detail = slice_get names 0 })) false e) [
   | inl here ↦ (eqb-true s at (and_parts (nat_eq s at) true here).0, refl)
@@ -338,15 +355,18 @@ of-kept : (of_header : Bool) (fs : List ReadFault) → list_any (λ (f : ReadFau
 of-kept of_header [] e = e
 of-kept of_header (f ∷ fs) e = elim (cases_Bool (is_kept of_header f)) [
   | inl kept ↦ elim (or_cases (is_error f.code) (list_any (λ (g : ReadFault). is_error g.code) (filter (is_kept of_header) fs))
-      (sym (ap (λ (v : Bool). list_any (λ (g : ReadFault). is_error g.code) (cond v (f ∷ filter (is_kept of_header) fs) (filter (is_kept of_header) fs))) kept) ∙ e)) [
+      (sym (ap (λ (v : Bool). list_any (λ (g : ReadFault). is_error g.code) (cond v (f ∷ filter (is_kept of_header) fs) (filter (is_kept of_header) fs)))
+      kept) ∙ e)) [
         | inl here ↦ or-left (is_error f.code) (list_any (λ (g : ReadFault). is_error g.code) fs) here
         | inr later ↦ or-right (is_error f.code) (list_any (λ (g : ReadFault). is_error g.code) fs) (of-kept of_header fs later)
       ]
   | inr left ↦ or-right (is_error f.code) (list_any (λ (g : ReadFault). is_error g.code) fs)
-      (of-kept of_header fs (sym (ap (λ (v : Bool). list_any (λ (g : ReadFault). is_error g.code) (cond v (f ∷ filter (is_kept of_header) fs) (filter (is_kept of_header) fs))) left) ∙ e))
+      (of-kept of_header fs (sym (ap (λ (v : Bool). list_any (λ (g : ReadFault). is_error g.code)
+      (cond v (f ∷ filter (is_kept of_header) fs) (filter (is_kept of_header) fs))) left) ∙ e))
 ]
 
-own-block : (blocks : List Reading) (at s : ℕ) (block : Reading) → list_any (is_error_of at) (block_faults blocks s block) ≡ true → (s ≡ at) × Lacks blocks s block
+own-block : (blocks : List Reading) (at s : ℕ) (block : Reading) → list_any (is_error_of at) (block_faults blocks s block) ≡ true → (s ≡ at)
+    × Lacks blocks s block
 own-block blocks at s block e =
     let header = local_faults true s block.faults in
     let names = name_faults blocks s block.names in
@@ -402,11 +422,13 @@ none-lost : (block : Reading) (o : Option (List Mention)) → is_some o ≡ fals
 none-lost block None e = refl
 none-lost block (Some ms) e = absurd (false≢true (sym e))
 
-lacking : UnresolvedBlocksHaveACause → (blocks : List Reading) (at : ℕ) (block : Reading) → slice_get blocks at ≡ Some block → Lacks blocks at block → entry blocks block ≡ None
+lacking : UnresolvedBlocksHaveACause → (blocks : List Reading) (at : ℕ) (block : Reading) → slice_get blocks at ≡ Some block → Lacks blocks at block
+    → entry blocks block ≡ None
 lacking law blocks at block here (inl lost) = none-lost block (expansion blocks block) ((law blocks at block here).1 lost)
 lacking law blocks at block here (inr large) = none-large block (expansion blocks block) large
 
-error-lacks : UnresolvedBlocksHaveACause → (blocks : List Reading) (at : ℕ) (block : Reading) → slice_get blocks at ≡ Some block → IsSome (cause_of blocks at) → entry blocks block ≡ None
+error-lacks : UnresolvedBlocksHaveACause → (blocks : List Reading) (at : ℕ) (block : Reading) → slice_get blocks at ≡ Some block
+    → IsSome (cause_of blocks at) → entry blocks block ≡ None
 error-lacks law blocks at block here some =
     let found = own-source blocks at 0 blocks (missed-find (is_error_of at) (faults blocks) some) in
     let place : found.0 ≡ at = omega (arith, found.3) in
@@ -415,6 +437,7 @@ error-lacks law blocks at block here some =
 
 pub missing_entries_have_a_cause : UnresolvedBlocksHaveACause → MissingEntriesHaveACause
 missing_entries_have_a_cause law blocks at block here = (
-  λ none. found (is_error_of at) (faults blocks) (among (is_error_of at) blocks 0 blocks at at block here (omega arith) (block-error law blocks at block here none)),
+  λ none. found (is_error_of at) (faults blocks) (among (is_error_of at) blocks 0 blocks at at block here (omega arith)
+      (block-error law blocks at block here none)),
   error-lacks law blocks at block here,
 )

@@ -1,5 +1,6 @@
 -- The block that decides a capability: as it is looked for, and that it is the one.
-use Rattle.std.proofs.Common.{◌≡◌, ℕ, zero, suc, ◌+◌, ◌-◌, ◌<◌, List, [], ◌∷◌, ◌++◌, Option, Some, None, length, slice_get, refl, sym, ap, subst, ◌∙◌, add-one, arith}
+use Rattle.std.proofs.Common.{◌≡◌, ℕ, zero, suc, ◌+◌, ◌-◌, ◌<◌, List, [], ◌∷◌, ◌++◌, Option, Some, None, length, slice_get, refl, sym, ap, subst, ◌∙◌}
+use Rattle.std.proofs.Common.{add-one, arith}
 use Rattle.std.specs.Prelude.{option_and_then, option_map}
 use Rattle.std.specs.Option.{option_map_or}
 use Rattle.std.proofs.lemmas.Option.{none-some, same_Some}
@@ -8,23 +9,27 @@ use Rattle.ti_caps.specs.declared.capability.Kind.{Kind}
 use Rattle.ti_source.specs.Reading.{Reading, ReadItem}
 use Rattle.ti_layout.specs.Values.{Contents}
 use Rattle.base_meaning.specs.ValueTables.{HasTable}
-use Rattle.lsp_blocks.specs.Deciding.{Decides, OneBlockDecides, decides_it, hands_it_on, decider, decider_by, decider_in, first_say, inherited_below, inherited_one, items_of, said_by, say_at, say_before, say_of}
+use Rattle.lsp_blocks.specs.Deciding.{Decides, OneBlockDecides, decides_it, hands_it_on, decider, decider_by, decider_in, first_say, inherited_below}
+use Rattle.lsp_blocks.specs.Deciding.{inherited_one, items_of, said_by, say_at, say_before, say_of}
 use Rattle.lsp_blocks.specs.declared.deciding.Say.{Say}
 use Rattle.lsp_blocks.specs.declared.deciding.Say.TheVariants.{Silent, Decisive, HandsOn}
 
 -- ---- what a block says
 
-pub table_says : {T : Type 0} (says : T → Contents) (blocks : List Reading) (c : Capability) (at : ℕ) (block : Reading) (table : Option T) → IsCapability c → slice_get blocks at ≡ Some block
+pub table_says : {T : Type 0} (says : T → Contents) (blocks : List Reading) (c : Capability) (at : ℕ) (block : Reading) (table : Option T) → IsCapability c
+    → slice_get blocks at ≡ Some block
     → HasTable says blocks block table → option_and_then (λ (t : T). says t c) table ≡ said_by blocks c at
 table_says says blocks c at block None valid here h = rw (here, h) refl
 table_says says blocks c at block (Some table) valid here h = h.2 c valid ∙ sym (rw (here, h.1) refl)
 
 -- ---- the items of a block
 
-pub items_there : (blocks : List Reading) (at : ℕ) (items : List ReadItem) → option_map (λ (block : Reading). block.items) (slice_get blocks at) ≡ Some items → items_of blocks at ≡ items
+pub items_there : (blocks : List Reading) (at : ℕ) (items : List ReadItem) → option_map (λ (block : Reading). block.items) (slice_get blocks at)
+    ≡ Some items → items_of blocks at ≡ items
 items_there blocks at items e = by_block (slice_get blocks at) items e
   where
-    by_block : (found : Option Reading) (items : List ReadItem) → option_map (λ (block : Reading). block.items) found ≡ Some items → option_map_or (λ (block : Reading). block.items) found [] ≡ items
+    by_block : (found : Option Reading) (items : List ReadItem) → option_map (λ (block : Reading). block.items) found ≡ Some items
+        → option_map_or (λ (block : Reading). block.items) found [] ≡ items
     by_block None items e = absurd (none-some items e)
     by_block (Some block) items e = same_Some block.items items e
 
@@ -56,7 +61,8 @@ pub below_none : (blocks : List Reading) (at : ℕ) (kind : Kind) → inherited_
 unfolding inherited_below
 below_none blocks at kind = refl
 
-pub below_one : (blocks : List Reading) (at : ℕ) (kind : Kind) (n : ℕ) → inherited_below blocks at kind (n + 1) ≡ inherited_below blocks at kind n ++ inherited_one blocks at (capability kind n)
+pub below_one : (blocks : List Reading) (at : ℕ) (kind : Kind) (n : ℕ) → inherited_below blocks at kind (n + 1) ≡ inherited_below blocks at kind n
+    ++ inherited_one blocks at (capability kind n)
 unfolding inherited_below
 below_one blocks at kind n = rw (add-one n) refl
 
@@ -100,7 +106,8 @@ say_decides blocks c at by (HandsOn next) on says through e = hands_it_on says (
 in_decides : (blocks : List Reading) (c : Capability) (most at by : ℕ) → decider_in blocks c most at ≡ Some by → Decides blocks c at by
 unfolding decider_in
 in_decides blocks c zero at by e = absurd (none-some by e)
-in_decides blocks c (suc most) at by e = say_decides blocks c at by (say_at blocks c at) (decider_in blocks c most) refl (λ next f. in_decides blocks c most next by f) e
+in_decides blocks c (suc most) at by e =
+    say_decides blocks c at by (say_at blocks c at) (decider_in blocks c most) refl (λ next f. in_decides blocks c most next by f) e
 
 pub found_decides : (blocks : List Reading) (c : Capability) (at by : ℕ) → decider blocks c at ≡ Some by → Decides blocks c at by
 found_decides blocks c at by e =
@@ -111,7 +118,8 @@ pub in_here : (blocks : List Reading) (c : Capability) (most at : ℕ) → say_a
 unfolding decider_in
 in_here blocks c most at e = ap (λ (s : Say). decider_by s at (decider_in blocks c most)) e
 
-pub in_later : (blocks : List Reading) (c : Capability) (most at next : ℕ) → say_at blocks c at ≡ HandsOn next → decider_in blocks c (suc most) at ≡ decider_in blocks c most next
+pub in_later : (blocks : List Reading) (c : Capability) (most at next : ℕ) → say_at blocks c at ≡ HandsOn next
+    → decider_in blocks c (suc most) at ≡ decider_in blocks c most next
 unfolding decider_in
 in_later blocks c most at next e = ap (λ (s : Say). decider_by s at (decider_in blocks c most)) e
 

@@ -13,7 +13,8 @@ use Rattle.lsp_blocks.proofs.Outlines.{blocks_more}
 
 -- those of one more block
 pub source_next : (texts : List (List ℕ)) (at : ℕ) (inherited : List Inherited) (before now whole : List SourceSeen) → at < length texts
-    → before ++ sources_from texts inherited at (drop at texts) ≡ whole → now ≡ before ++ source_at texts inherited at (reading_of_text (text_at texts at)).names
+    → before ++ sources_from texts inherited at (drop at texts) ≡ whole
+    → now ≡ before ++ source_at texts inherited at (reading_of_text (text_at texts at)).names
     → now ++ sources_from texts inherited (at + 1) (drop (at + 1) texts) ≡ whole
 source_next texts at inherited before now whole within so e =
     let own = source_at texts inherited at (reading_of_text (text_at texts at)).names in
@@ -23,7 +24,8 @@ source_next texts at inherited before now whole within so e =
     ∙ ap (λ (t : List (List ℕ)). before ++ sources_from texts inherited at t) (sym (blocks_more texts at within)) ∙ so
 
 -- those of one more capability
-pub below_next : (blocks : List Reading) (at : ℕ) (kind : Kind) (n : ℕ) (c : Capability) (found : Option ℕ) (start before now : List Inherited) → c ≡ capability kind n → found ≡ other_decider blocks at c
+pub below_next : (blocks : List Reading) (at : ℕ) (kind : Kind) (n : ℕ) (c : Capability) (found : Option ℕ) (start before now : List Inherited)
+    → c ≡ capability kind n → found ≡ other_decider blocks at c
     → before ≡ start ++ inherited_below blocks at kind n → now ≡ before ++ inherited_from c found → now ≡ start ++ inherited_below blocks at kind (n + 1)
 below_next blocks at kind n c found start before now is decides so e =
     e ∙ ap (λ (o : Option ℕ). before ++ inherited_from c o) decides ∙ ap (λ (k : Capability). before ++ inherited_one blocks at k) is

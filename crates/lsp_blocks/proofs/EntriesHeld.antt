@@ -1,5 +1,6 @@
 -- What an entry holds, as it is counted.
-use Rattle.std.proofs.Common.{◌≡◌, ℕ, zero, suc, ◌<◌, All, Bool, true, false, cond, inl, inr, List, [], ◌+◌, get_or, length, add-one, Option, Some, None, slice_get, refl, sym, ap, subst, ◌∙◌, arith}
+use Rattle.std.proofs.Common.{◌≡◌, ℕ, zero, suc, ◌<◌, All, Bool, true, false, cond, inl, inr, List, [], ◌+◌, get_or, length, add-one, Option, Some, None}
+use Rattle.std.proofs.Common.{slice_get, refl, sym, ap, subst, ◌∙◌, arith}
 use Rattle.std.specs.Prelude.{option_and_then, option_map}
 use Rattle.std.proofs.lemmas.Bool.{cases_Bool}
 use Rattle.std.proofs.lemmas.Option.{none-some, same_Some, slice_get-get_or, slice_get-map}
@@ -30,7 +31,8 @@ unfolding count_there
 count_same f g zero same = refl
 count_same f g (suc n) same = rw (same n (omega arith), count_same f g n (λ i below. same i (omega (arith, below)))) refl
 
-kind_same : (c d : Contents) → ((k : Capability) → IsCapability k → c k ≡ d k) → (kind : Kind) → count_there (of_kind c kind) (count_of kind) ≡ count_there (of_kind d kind) (count_of kind)
+kind_same : (c d : Contents) → ((k : Capability) → IsCapability k → c k ≡ d k) → (kind : Kind)
+    → count_there (of_kind c kind) (count_of kind) ≡ count_there (of_kind d kind) (count_of kind)
 kind_same c d same kind = count_same (of_kind c kind) (of_kind d kind) (count_of kind) (λ i below. same (capability kind i) below)
 
 pub holding_same : (c d : Contents) (size : ℕ) → ((k : Capability) → IsCapability k → c k ≡ d k) → holding c size ≡ holding d size
@@ -40,7 +42,8 @@ pub count_none : (by_index : ByIndex) → count_there by_index 0 ≡ 0
 unfolding count_there
 count_none by_index = refl
 
-count_more : (by_index : ByIndex) (n : ℕ) (b : Bool) → is_there (by_index n) ≡ b → count_there by_index (suc n) ≡ cond b (suc (count_there by_index n)) (count_there by_index n)
+count_more : (by_index : ByIndex) (n : ℕ) (b : Bool) → is_there (by_index n) ≡ b → count_there by_index (suc n)
+    ≡ cond b (suc (count_there by_index n)) (count_there by_index n)
 unfolding count_there
 count_more by_index n b e = rw e refl
 
@@ -53,12 +56,14 @@ count_no by_index n count e so = so ∙ sym (ap (count_there by_index) (add-one 
 
 -- ---- whether a block has an entry
 
-none_with : (cause : Option Shown) (b : Reading) (o : Option (List Mention)) → option_and_then (meaning.entry_of b) o ≡ None → entry_faulty cause ≡ entry_with cause b o
+none_with : (cause : Option Shown) (b : Reading) (o : Option (List Mention)) → option_and_then (meaning.entry_of b) o ≡ None
+    → entry_faulty cause ≡ entry_with cause b o
 none_with cause b None e = refl
-none_with cause b (Some ms) e = elim (is_too_large b ms) as (λ v. cond v None (Some (image_of b ms)) ≡ None → entry_faulty cause ≡ cond v (entry_faulty cause) (entry_held (holding (values ms) (length (image_of b ms))))) [
-  | true ↦ λ is. refl
-  | false ↦ λ is. absurd (none-some (image_of b ms) (sym is))
-] e
+none_with cause b (Some ms) e = elim (is_too_large b ms) as (λ v. cond v None (Some (image_of b ms)) ≡ None
+    → entry_faulty cause ≡ cond v (entry_faulty cause) (entry_held (holding (values ms) (length (image_of b ms))))) [
+      | true ↦ λ is. refl
+      | false ↦ λ is. absurd (none-some (image_of b ms) (sym is))
+    ] e
 
 -- what the block says, whose entry these bytes are
 pub record IsEntryOf (b : Reading) (o : Option (List Mention)) (bytes : List ℕ) : Type 0 where
@@ -71,7 +76,13 @@ some_with : (b : Reading) (o : Option (List Mention)) (bytes : List ℕ) → opt
 some_with b None bytes e = absurd (none-some bytes e)
 some_with b (Some ms) bytes e = elim (cases_Bool (is_too_large b ms)) [
   | inl large ↦ absurd (none-some bytes (sym (ap (λ (v : Bool). cond v None (Some (image_of b ms))) large) ∙ e))
-  | inr small ↦ record { ms = ms; expands = refl; fits = small; whole = same_Some (image_of b ms) bytes (sym (ap (λ (v : Bool). cond v None (Some (image_of b ms))) small) ∙ e) }
+  | inr small ↦ record {
+    ms = ms;
+    expands = refl;
+    fits = small;
+    whole =
+        same_Some (image_of b ms) bytes (sym (ap (λ (v : Bool). cond v None (Some (image_of b ms))) small) ∙ e);
+  }
 ]
 
 -- ---- the block at a position
@@ -79,7 +90,8 @@ some_with b (Some ms) bytes e = elim (cases_Bool (is_too_large b ms)) [
 pub read_at : (texts : List (List ℕ)) (at : ℕ) (text : List ℕ) → slice_get texts at ≡ Some text → slice_get (readings texts) at ≡ Some (reading_of_text text)
 read_at texts at text e = slice_get-map reading_of_text texts at ∙ ap (option_map reading_of_text) e
 
-held_with : (cause : Option Shown) (b : Reading) (ms : List Mention) → is_too_large b ms ≡ false → entry_with cause b (Some ms) ≡ entry_held (holding (values ms) (length (image_of b ms)))
+held_with : (cause : Option Shown) (b : Reading) (ms : List Mention) → is_too_large b ms ≡ false
+    → entry_with cause b (Some ms) ≡ entry_held (holding (values ms) (length (image_of b ms)))
 held_with cause b ms small = ap (λ (v : Bool). cond v (entry_faulty cause) (entry_held (holding (values ms) (length (image_of b ms))))) small
 
 pub block_here : (texts : List (List ℕ)) (at : ℕ) → at < length texts → slice_get (readings texts) at ≡ Some (reading_of_text (get_or texts at []))

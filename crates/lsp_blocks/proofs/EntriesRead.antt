@@ -1,5 +1,6 @@
 -- The entry of a block is read as what the block says.
-use Rattle.std.proofs.Common.{◌≡◌, ◌≢◌, ℕ, zero, suc, ◌<◌, All, Bool, true, false, cond, List, [], ◌∷◌, ◌++◌, length, Option, Some, None, refl, subst, ◌∙◌, arith}
+use Rattle.std.proofs.Common.{◌≡◌, ◌≢◌, ℕ, zero, suc, ◌<◌, All, Bool, true, false, cond, List, [], ◌∷◌, ◌++◌, length, Option, Some, None, refl, subst, ◌∙◌}
+use Rattle.std.proofs.Common.{arith}
 use Rattle.std.specs.Prelude.{option_and_then}
 use Rattle.std.proofs.lemmas.Bool.{ltb-false}
 use Rattle.std.proofs.lemmas.List.Elements.{All-head, All-tail}
@@ -46,12 +47,14 @@ said_fits of_name h (said_import name) ms k e = h name ms e
 abbrev pub ItemSets : ReadItem → Type 0
 ItemSets item = SetsItsKind item.said
 
-items_fit : (of_name : Names) → NamesFit of_name → (items : List ReadItem) (ms : List Mention) → All ItemSets items → expand_items of_name items ≡ Some ms → MentionsFit ms
+items_fit : (of_name : Names) → NamesFit of_name → (items : List ReadItem) (ms : List Mention) → All ItemSets items → expand_items of_name items ≡ Some ms
+    → MentionsFit ms
 items_fit of_name h [] ms k e = subst MentionsFit (same_Some [] ms e) tt
 items_fit of_name h (i ∷ is) ms k e =
     let p = joined_parts (mentions_of of_name i.said) (expand_items of_name is) ms e in
     subst MentionsFit p.whole
-    (both_fit p.front p.back (said_fits of_name h i.said p.front (All-head ItemSets i is k) p.front_is) (items_fit of_name h is p.back (All-tail ItemSets i is k) p.back_is))
+    (both_fit p.front p.back (said_fits of_name h i.said p.front (All-head ItemSets i is k) p.front_is)
+    (items_fit of_name h is p.back (All-tail ItemSets i is k) p.back_is))
 
 abbrev pub OwnersSet : (List ℕ → Option Reading) → Type 0
 OwnersSet env = (name : List ℕ) (b : Reading) → env name ≡ Some b → All ItemSets b.items
@@ -67,7 +70,8 @@ unbroken : (b : Bool) (o : Option (List Mention)) (ms : List Mention) → cond b
 unbroken true o ms e = absurd (none-some ms e)
 unbroken false o ms e = (refl, e)
 
-block_fits : (env : List ℕ → Option Reading) → OwnersSet env → (depth : ℕ) (b : Reading) (ms : List Mention) → All ItemSets b.items → expand env depth b ≡ Some ms → MentionsFit ms
+block_fits : (env : List ℕ → Option Reading) → OwnersSet env → (depth : ℕ) (b : Reading) (ms : List Mention) → All ItemSets b.items
+    → expand env depth b ≡ Some ms → MentionsFit ms
 block_fits env sets zero b ms k e = absurd (none-some ms e)
 block_fits env sets (suc depth) b ms k e =
     let of_name : Names = λ name. option_and_then (expand env depth) (env name) in

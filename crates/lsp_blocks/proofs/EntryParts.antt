@@ -14,17 +14,21 @@ use Rattle.ti_layout.specs.declared.layout.Format.TheVariants.{Legacy}
 use Rattle.ti_layout.specs.declared.view.View.{View}
 
 flag_stored : (byte : ℕ) → shown_flag (stored_flag byte) ≡ is_there (stored_flag byte)
-flag_stored byte = elim (byte == 1) as (λ b. shown_flag (cond b (Some content_true) None) ≡ is_there (cond b (Some content_true) None)) [ true ↦ refl | false ↦ refl ]
+flag_stored byte =
+    elim (byte == 1) as (λ b. shown_flag (cond b (Some content_true) None) ≡ is_there (cond b (Some content_true) None)) [ true ↦ refl | false ↦ refl ]
 
-number_stored : (format : Format) (found : Option ℕ) → is_some (shown_number (option_and_then (stored_number format) found)) ≡ is_there (option_and_then (stored_number format) found)
+number_stored : (format : Format) (found : Option ℕ) → is_some (shown_number (option_and_then (stored_number format) found))
+    ≡ is_there (option_and_then (stored_number format) found)
 number_stored format None = refl
 number_stored format (Some n) = elim (nat_lt n (first_negative format))
     as (λ b. is_some (shown_number (cond b (Some (content_number n)) None)) ≡ is_there (cond b (Some (content_number n)) None)) [ true ↦ refl | false ↦ refl ]
 
-text_stored : (strings : List ℕ) (found : Option ℕ) → is_some (shown_text (option_and_then (stored_text strings) found)) ≡ is_there (option_and_then (stored_text strings) found)
+text_stored : (strings : List ℕ) (found : Option ℕ) → is_some (shown_text (option_and_then (stored_text strings) found))
+    ≡ is_there (option_and_then (stored_text strings) found)
 text_stored strings None = refl
 text_stored strings (Some n) = elim (nat_lt n (first_negative Legacy))
-    as (λ b. is_some (shown_text (cond b (Some (content_text (text_from strings n))) None)) ≡ is_there (cond b (Some (content_text (text_from strings n))) None)) [ true ↦ refl | false ↦ refl ]
+    as (λ b. is_some (shown_text (cond b (Some (content_text (text_from strings n))) None))
+    ≡ is_there (cond b (Some (content_text (text_from strings n))) None)) [ true ↦ refl | false ↦ refl ]
 
 pub flag_is : (v : View) (c : Capability) → c.kind ≡ Flag → shown_flag (view_contents v c) ≡ is_there (view_contents v c)
 flag_is v c e =

@@ -1,3 +1,4 @@
+pub mod BlocksInText
 pub mod CausesFound
 pub mod CausesTold
 pub mod Deciders
@@ -8,6 +9,7 @@ pub mod EntryParts
 pub mod Firsts
 pub mod Handing
 pub mod Outlines
+pub mod Placing
 pub mod SaidAlong
 pub mod Selections
 pub mod Sources

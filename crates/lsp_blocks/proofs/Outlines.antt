@@ -41,7 +41,8 @@ symbol_next blocks all symbol line at whole within is so =
 
 -- ---- the lookup names of a block
 
-pub names_read : (blocks : List (List ℕ)) (at : ℕ) (names : List (List ℕ)) → at < length blocks → option_map (λ (block : Reading). block.names) (slice_get (readings blocks) at) ≡ Some names
+pub names_read : (blocks : List (List ℕ)) (at : ℕ) (names : List (List ℕ)) → at < length blocks
+    → option_map (λ (block : Reading). block.names) (slice_get (readings blocks) at) ≡ Some names
     → (reading_of_text (text_at blocks at)).names ≡ names
 names_read blocks at names within e =
     let read : slice_get (readings blocks) at ≡ Some (reading_of_text (text_at blocks at)) =
@@ -49,17 +50,20 @@ names_read blocks at names within e =
     ∙ ap (option_map reading_of_text) (slice_get-get_or blocks at [] within ∙ ap (λ (t : List ℕ). Some t) (sym (text_got blocks at within))) in
     same_Some (reading_of_text (text_at blocks at)).names names (ap (option_map (λ (block : Reading). block.names)) (sym read) ∙ e)
 
-pub first_shown : (names : List (RcSlice ℕ Global)) (name : RcSlice ℕ Global) (field : List ℕ) → Some name ≡ slice_get names 0 → shown_name (map rc_slice_items names) field ≡ shown_detail (rc_slice_items name)
+pub first_shown : (names : List (RcSlice ℕ Global)) (name : RcSlice ℕ Global) (field : List ℕ) → Some name ≡ slice_get names 0
+    → shown_name (map rc_slice_items names) field ≡ shown_detail (rc_slice_items name)
 first_shown [] name field e = cc
 first_shown (other ∷ names) name field e = ap (λ (n : RcSlice ℕ Global). shown_detail (rc_slice_items n)) (sym (same_Some name other e))
 
-pub field_shown : (names : List (RcSlice ℕ Global)) (field : List ℕ) → None ≡ slice_get names 0 → shown_name (map rc_slice_items names) field ≡ shown_detail field
+pub field_shown : (names : List (RcSlice ℕ Global)) (field : List ℕ) → None ≡ slice_get names 0
+    → shown_name (map rc_slice_items names) field ≡ shown_detail field
 field_shown [] field e = refl
 field_shown (other ∷ names) field e = cc
 
 -- ---- the items of a block
 
-pub items_read : (blocks : List (List ℕ)) (at : ℕ) (items : List ReadItem) → at < length blocks → option_map (λ (block : Reading). block.items) (slice_get (readings blocks) at) ≡ Some items
+pub items_read : (blocks : List (List ℕ)) (at : ℕ) (items : List ReadItem) → at < length blocks
+    → option_map (λ (block : Reading). block.items) (slice_get (readings blocks) at) ≡ Some items
     → (reading_of_text (text_at blocks at)).items ≡ items
 items_read blocks at items within e =
     let read : slice_get (readings blocks) at ≡ Some (reading_of_text (text_at blocks at)) =

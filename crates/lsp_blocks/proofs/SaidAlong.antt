@@ -1,5 +1,6 @@
 -- A block says of a capability what the block says that decides it.
-use Rattle.std.proofs.Common.{◌≡◌, ℕ, zero, suc, ◌≤◌, Bool, true, false, cond, List, [], ◌∷◌, Option, Some, None, length, slice_get, refl, sym, ap, subst, ◌∙◌, arith}
+use Rattle.std.proofs.Common.{◌≡◌, ℕ, zero, suc, ◌≤◌, Bool, true, false, cond, List, [], ◌∷◌, Option, Some, None, length, slice_get, refl, sym, ap, subst}
+use Rattle.std.proofs.Common.{◌∙◌, arith}
 use Rattle.std.specs.Prelude.{is_some, option_and_then}
 use Rattle.std.specs.Option.{option_map_or, option_or}
 use Rattle.std.proofs.lemmas.Option.{none-some, same_Some}
@@ -11,7 +12,8 @@ use Rattle.base_meaning.specs.Owner.{owner, owner_block}
 use Rattle.base_meaning.proofs.Depth.{expand-le, joined_parts, mentions_of-more, names_at, names_at-le}
 use Rattle.base_meaning.proofs.MentionMerging.{said-append}
 use Rattle.base_meaning.proofs.Owning.{owning, somebody, nobody}
-use Rattle.lsp_blocks.specs.Deciding.{Decides, DecidersSayIt, SomeBlockDecides, decider, decider_in, decides_it, first_say, hands_it_on, items_of, said_by, said_of, say_at, say_before, say_of, say_of_mention, say_of_use}
+use Rattle.lsp_blocks.specs.Deciding.{Decides, DecidersSayIt, SomeBlockDecides, decider, decider_in, decides_it, first_say, hands_it_on, items_of, said_by}
+use Rattle.lsp_blocks.specs.Deciding.{said_of, say_at, say_before, say_of, say_of_mention, say_of_use}
 use Rattle.lsp_blocks.specs.declared.deciding.Say.{Say}
 use Rattle.lsp_blocks.specs.declared.deciding.Say.TheVariants.{Silent, Decisive, HandsOn}
 use Rattle.lsp_blocks.proofs.Deciders.{found_in, in_here, in_later, one_decides}
@@ -63,7 +65,8 @@ use_of blocks name ms e =
 
 mention_silent : (c other : Capability) (says : Content) → say_of_mention c other ≡ Silent → contents ((other, says) ∷ []) c ≡ None
 unfolding contents
-mention_silent c other says e = elim (same_capability other c) as (λ b. cond b Decisive Silent ≡ Silent → cond b (Some says) None ≡ None) [ true ↦ λ f. cc | false ↦ λ f. refl ] e
+mention_silent c other says e =
+    elim (same_capability other c) as (λ b. cond b Decisive Silent ≡ Silent → cond b (Some says) None ≡ None) [ true ↦ λ f. cc | false ↦ λ f. refl ] e
 
 mention_stays : (c other : Capability) (next : ℕ) → say_of_mention c other ≡ HandsOn next → ⊥
 mention_stays c other next e = elim (same_capability other c) as (λ b. cond b Decisive Silent ≡ HandsOn next → ⊥) [ true ↦ λ f. cc | false ↦ λ f. cc ] e
@@ -76,11 +79,15 @@ loud : (o : Option Content) (at next : ℕ) → cond (is_some o) (HandsOn at) Si
 loud None at next e = cc
 loud (Some v) at next e = (cc, (v, refl))
 
-item_silent : (blocks : List Reading) (c : Capability) (said : Said) (ms : List Mention) → say_of blocks c said ≡ Silent → mentions_of (of_name blocks) said ≡ Some ms → contents ms c ≡ None
+item_silent : (blocks : List Reading) (c : Capability) (said : Said) (ms : List Mention) → say_of blocks c said ≡ Silent
+    → mentions_of (of_name blocks) said ≡ Some ms → contents ms c ≡ None
 item_silent blocks c (said_flag other) ms s e = subst (λ (m : List Mention). contents m c ≡ None) (same_Some _ ms e) (mention_silent c other content_true s)
-item_silent blocks c (said_number other n) ms s e = subst (λ (m : List Mention). contents m c ≡ None) (same_Some _ ms e) (mention_silent c other (content_number n) s)
-item_silent blocks c (said_text other t) ms s e = subst (λ (m : List Mention). contents m c ≡ None) (same_Some _ ms e) (mention_silent c other (content_text t) s)
-item_silent blocks c (said_cancel other) ms s e = subst (λ (m : List Mention). contents m c ≡ None) (same_Some _ ms e) (mention_silent c other content_cancelled s)
+item_silent blocks c (said_number other n) ms s e =
+    subst (λ (m : List Mention). contents m c ≡ None) (same_Some _ ms e) (mention_silent c other (content_number n) s)
+item_silent blocks c (said_text other t) ms s e =
+    subst (λ (m : List Mention). contents m c ≡ None) (same_Some _ ms e) (mention_silent c other (content_text t) s)
+item_silent blocks c (said_cancel other) ms s e =
+    subst (λ (m : List Mention). contents m c ≡ None) (same_Some _ ms e) (mention_silent c other content_cancelled s)
 item_silent blocks c (said_import name) ms s e =
     let u = use_of blocks name ms e in
     sym (said_is blocks c u.at ms u.says) ∙ quiet (said_by blocks c u.at) u.at (ap (say_of_use blocks c) (sym u.owns) ∙ s)
@@ -91,7 +98,8 @@ record Handed (blocks : List Reading) (c : Capability) (next : ℕ) (ms : List M
   says : Says blocks next ms
   is : contents ms c ≡ Some value
 
-item_hands : (blocks : List Reading) (c : Capability) (said : Said) (next : ℕ) (ms : List Mention) → say_of blocks c said ≡ HandsOn next → mentions_of (of_name blocks) said ≡ Some ms → Handed blocks c next ms
+item_hands : (blocks : List Reading) (c : Capability) (said : Said) (next : ℕ) (ms : List Mention) → say_of blocks c said ≡ HandsOn next
+    → mentions_of (of_name blocks) said ≡ Some ms → Handed blocks c next ms
 item_hands blocks c (said_flag other) next ms s e = absurd (mention_stays c other next s)
 item_hands blocks c (said_number other n) next ms s e = absurd (mention_stays c other next s)
 item_hands blocks c (said_text other t) next ms s e = absurd (mention_stays c other next s)
@@ -124,7 +132,8 @@ data First (blocks : List Reading) (c : Capability) (depth : ℕ) (v : Content) 
   decisive : say ≡ Decisive → First blocks c depth v say
   handed : (next : ℕ) → say ≡ HandsOn next → Next blocks c depth next v → First blocks c depth v say
 
-first_as : (blocks : List Reading) (c : Capability) (depth : ℕ) (v : Content) (one other : Say) → one ≡ other → First blocks c depth v other → First blocks c depth v one
+first_as : (blocks : List Reading) (c : Capability) (depth : ℕ) (v : Content) (one other : Say) → one ≡ other → First blocks c depth v other
+    → First blocks c depth v one
 first_as blocks c depth v one other e (decisive d) = decisive (e ∙ d)
 first_as blocks c depth v one other e (handed next h n) = handed next (e ∙ h) n
 
@@ -162,7 +171,8 @@ first_of_items blocks c depth (item ∷ items) ms v le e is =
     let both : option_or (contents p.front c) (contents p.back c) ≡ Some v =
     sym (said-append p.front p.back c) ∙ ap (λ (m : List Mention). contents m c) p.whole ∙ is in
     let later = first_say blocks c items in
-    let deep = mentions_of-more (Shallow blocks depth) (of_name blocks) (names_at-le (owner_block blocks) depth (length blocks) le) item.said p.front p.front_is in
+    let deep =
+    mentions_of-more (Shallow blocks depth) (of_name blocks) (names_at-le (owner_block blocks) depth (length blocks) le) item.said p.front p.front_is in
     elim (say_of blocks c item.said)
     as (λ s. say_of blocks c item.said ≡ s → First blocks c depth v (say_before s later)) [
       | Silent ↦ λ s.
@@ -185,13 +195,15 @@ record Found (blocks : List Reading) (c : Capability) (depth at : ℕ) (v : Cont
 items_are : (blocks : List Reading) (at : ℕ) (block : Reading) → slice_get blocks at ≡ Some block → items_of blocks at ≡ block.items
 items_are blocks at block there = ap (λ (o : Option Reading). option_map_or (λ (b : Reading). b.items) o []) there
 
-says_there : (blocks : List Reading) (c : Capability) (depth at : ℕ) (block : Reading) (ms : List Mention) (v : Content) → depth ≤ suc (length blocks) → slice_get blocks at ≡ Some block
+says_there : (blocks : List Reading) (c : Capability) (depth at : ℕ) (block : Reading) (ms : List Mention) (v : Content) → depth ≤ suc (length blocks)
+    → slice_get blocks at ≡ Some block
     → expand (owner_block blocks) depth block ≡ Some ms → contents ms c ≡ Some v → said_by blocks c at ≡ Some v
 says_there blocks c depth at block ms v le there e is =
     let s : Says blocks at ms = record { block = block; there = there; expands = expand-le (owner_block blocks) depth (suc (length blocks)) block ms le e } in
     said_is blocks c at ms s ∙ is
 
-along : (blocks : List Reading) (c : Capability) (depth at : ℕ) (block : Reading) (ms : List Mention) (v : Content) → depth ≤ suc (length blocks) → slice_get blocks at ≡ Some block
+along : (blocks : List Reading) (c : Capability) (depth at : ℕ) (block : Reading) (ms : List Mention) (v : Content) → depth ≤ suc (length blocks)
+    → slice_get blocks at ≡ Some block
     → expand (owner_block blocks) depth block ≡ Some ms → contents ms c ≡ Some v → Found blocks c depth at v
 along blocks c zero at block ms v le there e is = absurd (none-some ms e)
 along blocks c (suc depth) at block ms v le there e is =
@@ -216,11 +228,13 @@ record Opened (blocks : List Reading) (c : Capability) (at : ℕ) (v : Content) 
   says : Says blocks at mentions
   is : contents mentions c ≡ Some v
 
-opened : (blocks : List Reading) (c : Capability) (at : ℕ) (v : Content) (found : Option Reading) → slice_get blocks at ≡ found → option_and_then (said_of blocks c) found ≡ Some v → Opened blocks c at v
+opened : (blocks : List Reading) (c : Capability) (at : ℕ) (v : Content) (found : Option Reading) → slice_get blocks at ≡ found
+    → option_and_then (said_of blocks c) found ≡ Some v → Opened blocks c at v
 opened blocks c at v None there e = absurd (none-some v e)
 opened blocks c at v (Some block) there e = by_mentions (expansion blocks block) refl e
   where
-    by_mentions : (o : Option (List Mention)) → expansion blocks block ≡ o → option_and_then (λ (m : List Mention). contents m c) o ≡ Some v → Opened blocks c at v
+    by_mentions : (o : Option (List Mention)) → expansion blocks block ≡ o → option_and_then (λ (m : List Mention). contents m c) o ≡ Some v
+        → Opened blocks c at v
     by_mentions None expands e = absurd (none-some v e)
     by_mentions (Some ms) expands e = record { mentions = ms; says = record { block = block; there = there; expands = expands }; is = e }
 
@@ -237,7 +251,8 @@ says_it blocks c at by said e decides =
     let f = there_is blocks c at said e in
     subst (λ (n : ℕ). said_by blocks c n ≡ Some said) (one_decides blocks c at f.by by f.decides decides) f.says
 
-pub decided_found : (blocks : List Reading) (c : Capability) (at by : ℕ) (said : Content) → said_by blocks c at ≡ Some said → Decides blocks c at by → decider blocks c at ≡ Some by
+pub decided_found : (blocks : List Reading) (c : Capability) (at by : ℕ) (said : Content) → said_by blocks c at ≡ Some said → Decides blocks c at by
+    → decider blocks c at ≡ Some by
 decided_found blocks c at by said e decides =
     let f = there_is blocks c at said e in
     found_in blocks c at ∙ f.found ∙ ap (λ (n : ℕ). Some n) (one_decides blocks c at f.by by f.decides decides)

@@ -1,5 +1,6 @@
 -- What is selected of a block is in the block.
-use Rattle.std.proofs.Common.{◌≡◌, ℕ, zero, suc, ◌+◌, ◌-◌, ◌<◌, ◌≤◌, ◌==◌, ◌||◌, ◌&&◌, ◌⊎◌, All, Bool, true, false, cond, inl, inr, List, [], ◌∷◌, length, refl, arith}
+use Rattle.std.proofs.Common.{◌≡◌, ℕ, zero, suc, ◌+◌, ◌-◌, ◌<◌, ◌≤◌, ◌==◌, ◌||◌, ◌&&◌, ◌⊎◌, All, Bool, true, false, cond, inl, inr, List, [], ◌∷◌, length}
+use Rattle.std.proofs.Common.{refl, arith}
 use Rattle.std.proofs.lemmas.Bool.{eq-eqb}
 use Rattle.std.proofs.lemmas.List.Elements.{All-cons, All-head, All-nil, All-tail}
 use Rattle.ti_text.specs.WhiteSpace.{is_white_space}
@@ -75,12 +76,14 @@ either_kept : (end : ℕ) (b : Bool) (x : PlacedByte) (one other : List PlacedBy
 either_kept end true x one other here p q = p
 either_kept end false x one other here p q = All-cons (IsKept end) x other (All-head (IsKept end) x [] here) q
 
-comments_kept : (end : ℕ) (comment : Bool) (before : ℕ) (text : List PlacedByte) → All (IsKept end) text → All (IsKept end) (without_comments comment before text)
+comments_kept : (end : ℕ) (comment : Bool) (before : ℕ) (text : List PlacedByte) → All (IsKept end) text
+    → All (IsKept end) (without_comments comment before text)
 comments_kept end comment before [] all = All-nil (IsKept end)
 comments_kept end comment before (x ∷ xs) all =
     let rest = All-tail (IsKept end) x xs all in
     either_kept end (in_comment comment before x.0) x (without_comments true x.0 xs) (without_comments false x.0 xs)
-    (All-cons (IsKept end) x [] (All-head (IsKept end) x xs all) (All-nil (IsKept end))) (comments_kept end true x.0 xs rest) (comments_kept end false x.0 xs rest)
+    (All-cons (IsKept end) x [] (All-head (IsKept end) x xs all) (All-nil (IsKept end))) (comments_kept end true x.0 xs rest)
+    (comments_kept end false x.0 xs rest)
 
 kept_early : (end : ℕ) (x : PlacedByte) (blank : Bool) → (x.0 == 10 || blank) ≡ false → IsKept end x → IsEarly end x
 kept_early end x blank e kept =
@@ -102,7 +105,8 @@ breaks_early end joining (x ∷ xs) all =
     either_early end (x.0 == 10 || blank) x blank (without_breaks true xs) (without_breaks false xs) refl (All-head (IsKept end) x xs all)
     (breaks_early end true xs rest) (breaks_early end false xs rest)
 
-front_early : (end : ℕ) (b : Bool) (x : PlacedByte) (other : List PlacedByte) → IsEarly end x → All (IsEarly end) other → All (IsEarly end) (cond b [] (x ∷ other))
+front_early : (end : ℕ) (b : Bool) (x : PlacedByte) (other : List PlacedByte) → IsEarly end x → All (IsEarly end) other
+    → All (IsEarly end) (cond b [] (x ∷ other))
 front_early end true x other here q = All-nil (IsEarly end)
 front_early end false x other here q = All-cons (IsEarly end) x other here q
 
@@ -125,7 +129,8 @@ head_early (byte ∷ bytes) last =
     let block = byte ∷ bytes in
     let end = length block in
     let kept = comments_kept end false 10 (bytes_at 0 block) (all_kept 0 block 0 end (omega arith) last) in
-    let early : (head_span block).end < end = span_early end (field_of (folded_of block)) (omega arith) (field_early end (folded_of block) (breaks_early end false _ kept)) in
+    let early : (head_span block).end < end =
+    span_early end (field_of (folded_of block)) (omega arith) (field_early end (folded_of block) (breaks_early end false _ kept)) in
     omega (arith, early)
 
 -- ---- each block

@@ -1,5 +1,6 @@
 -- A block that is told of owns the name by which it is.
-use Rattle.std.proofs.Common.{◌≡◌, ℕ, zero, suc, ◌+◌, ◌||◌, ◌⊎◌, All, Bool, true, false, cond, inl, inr, List, [], ◌∷◌, ◌++◌, nat_eq, Option, None, Some, slice_get, refl, sym, subst, ap, ◌∙◌, zero-add, arith}
+use Rattle.std.proofs.Common.{◌≡◌, ℕ, zero, suc, ◌+◌, ◌||◌, ◌⊎◌, All, Bool, true, false, cond, inl, inr, List, [], ◌∷◌, ◌++◌, nat_eq, Option, None, Some}
+use Rattle.std.proofs.Common.{slice_get, refl, sym, subst, ap, ◌∙◌, zero-add, arith}
 use Rattle.std.specs.Prelude.{option_and_then}
 use Rattle.std.specs.List.{find}
 use Rattle.std.specs.Option.{option_map, option_map_or}
@@ -16,7 +17,9 @@ use Rattle.ti_source.specs.Reading.{Reading, ReadItem, Said, said_flag, said_num
 use Rattle.ti_layout.specs.Image.{is_there}
 use Rattle.base_meaning.specs.Owner.{is_among, is_owner, owner, readings}
 use Rattle.base_meaning.specs.Report.{shown_detail}
-use Rattle.lsp_blocks.specs.Deciding.{Decides, decides_it, hands_it_on, IsSource, SourceSeen, SourcesOwnTheirNames, decided_by, decider, first_say, if_another, inherited_below, inherited_from, inherited_kind, inherited_of, inherited_one, items_of, other_decider, own_name, said_by, say_before, say_of, source_at, source_with, sources_from}
+use Rattle.lsp_blocks.specs.Deciding.{Decides, decides_it, hands_it_on, IsSource, SourceSeen, SourcesOwnTheirNames, decided_by, decider, first_say}
+use Rattle.lsp_blocks.specs.Deciding.{if_another, inherited_below, inherited_from, inherited_kind, inherited_of, inherited_one, items_of, other_decider}
+use Rattle.lsp_blocks.specs.Deciding.{own_name, said_by, say_before, say_of, source_at, source_with, sources_from}
 use Rattle.lsp_blocks.specs.declared.deciding.Inherited.{Inherited}
 use Rattle.lsp_blocks.specs.declared.deciding.Say.TheVariants.{Silent, Decisive, HandsOn}
 use Rattle.lsp_blocks.proofs.Deciders.{found_decides}
@@ -82,7 +85,8 @@ other_owns blocks at c by e =
 abbrev IsFromOwner : List Reading → Inherited → Type 0
 IsFromOwner blocks one = OwnsSome blocks one.by
 
-from_owner : (blocks : List Reading) (c : Capability) (found : Option ℕ) → ((by : ℕ) → found ≡ Some by → OwnsSome blocks by) → All (IsFromOwner blocks) (inherited_from c found)
+from_owner : (blocks : List Reading) (c : Capability) (found : Option ℕ) → ((by : ℕ) → found ≡ Some by → OwnsSome blocks by)
+    → All (IsFromOwner blocks) (inherited_from c found)
 from_owner blocks c None h = All-nil (IsFromOwner blocks)
 from_owner blocks c (Some by) h = All-cons (IsFromOwner blocks) (record { capability = c; by = by }) [] (h by refl) (All-nil (IsFromOwner blocks))
 
@@ -100,7 +104,8 @@ all_owned blocks at =
     All-append (IsFromOwner blocks) (inherited_kind blocks at Flag ++ inherited_kind blocks at Number) (inherited_kind blocks at Text)
     (All-append (IsFromOwner blocks) (inherited_kind blocks at Flag) (inherited_kind blocks at Number) (of_kind Flag) (of_kind Number)) (of_kind Text)
 
-decided_rest : (by : ℕ) (one : Inherited) (rest : List Inherited) (b : Bool) → nat_eq one.by by ≡ b → decided_by by (one ∷ rest) ≡ cond b (one.capability ∷ decided_by by rest) (decided_by by rest)
+decided_rest : (by : ℕ) (one : Inherited) (rest : List Inherited) (b : Bool) → nat_eq one.by by ≡ b
+    → decided_by by (one ∷ rest) ≡ cond b (one.capability ∷ decided_by by rest) (decided_by by rest)
 decided_rest by one rest true e = rw e refl
 decided_rest by one rest false e = rw e refl
 
@@ -126,7 +131,8 @@ owner_by : (block : Reading) (blocks : List Reading) (name : List ℕ) (b : Bool
 owner_by block blocks name b e = rw e refl
 
 -- the owner of a name has it
-has_name : (blocks : List Reading) (name : List ℕ) (at : ℕ) (there : Reading) → owner blocks name ≡ Some at → slice_get blocks at ≡ Some there → is_among name there.names ≡ true
+has_name : (blocks : List Reading) (name : List ℕ) (at : ℕ) (there : Reading) → owner blocks name ≡ Some at → slice_get blocks at ≡ Some there
+    → is_among name there.names ≡ true
 has_name [] name at there e s = absurd cc
 has_name (block ∷ blocks) name at there e s =
     elim (cases_Bool (is_among name block.names)) [
@@ -159,7 +165,8 @@ record IsFound (blocks : List Reading) (by : ℕ) (names : List (List ℕ)) : Ty
 find_by : (p : List ℕ → Bool) (x : List ℕ) (xs : List (List ℕ)) (b : Bool) → p x ≡ b → find p (x ∷ xs) ≡ cond b (Some x) (find p xs)
 find_by p x xs b e = rw e refl
 
-found_name : (blocks : List Reading) (by : ℕ) (name : List ℕ) (names : List (List ℕ)) → owner blocks name ≡ Some by → is_among name names ≡ true → IsFound blocks by names
+found_name : (blocks : List Reading) (by : ℕ) (name : List ℕ) (names : List (List ℕ)) → owner blocks name ≡ Some by → is_among name names ≡ true
+    → IsFound blocks by names
 found_name blocks by name [] owns e = absurd cc
 found_name blocks by name (x ∷ xs) owns e =
     let p = λ (n : List ℕ). is_owner blocks n by in
@@ -178,7 +185,8 @@ found_name blocks by name (x ∷ xs) owns e =
 
 -- ---- what is told
 
-with_owner : (texts : List (List ℕ)) (at by : ℕ) (text : List ℕ) (found : List Capability) → slice_get texts by ≡ Some text → decided_by by (inherited_of (readings texts) at) ≡ found
+with_owner : (texts : List (List ℕ)) (at by : ℕ) (text : List ℕ) (found : List Capability) → slice_get texts by ≡ Some text
+    → decided_by by (inherited_of (readings texts) at) ≡ found
     → All (IsSource texts at) (source_with (own_name texts by (reading_of_text text).names) found)
 with_owner texts at by text [] there e = All-nil (IsSource texts at)
 with_owner texts at by text (c ∷ cs) there e =

@@ -1,5 +1,6 @@
 -- The block that a line is in, and the lines before a block.
-use Rattle.std.proofs.Common.{◌≡◌, ℕ, suc, ◌+◌, ◌<◌, ◌≤◌, Bool, true, false, cond, inl, inr, List, [], ◌∷◌, Option, None, Some, drop, length, refl, sym, ap, ◌∙◌, add-one, arith}
+use Rattle.std.proofs.Common.{◌≡◌, ℕ, suc, ◌+◌, ◌<◌, ◌≤◌, Bool, true, false, cond, inl, inr, List, [], ◌∷◌, Option, None, Some, drop, length, refl, sym, ap}
+use Rattle.std.proofs.Common.{◌∙◌, add-one, arith}
 use Rattle.std.specs.Prelude.{IfSome, nat_lt, option_map}
 use Rattle.std.proofs.lemmas.Bool.{cases_Bool, le-ltb, lt-ltb}
 use Rattle.std.proofs.lemmas.List.{length-map}
@@ -39,7 +40,8 @@ spot_before blocks at start place found within less so =
     sym (spot_step blocks at start place within ∙ ap (λ (b : Bool). spot_by b here (spot_in blocks at start place) later) (lt-ltb place.line start less)) ∙ so
 
 pub spot_here : (blocks : List (List ℕ)) (at start offset : ℕ) (place : Position) (found : Option Spot) → at < length blocks → start ≤ place.line
-    → place.line < start + line_count (text_at blocks at) → offset ≡ offset_in start (text_at blocks at) place → spot_from at start place (drop at blocks) ≡ found
+    → place.line < start + line_count (text_at blocks at) → offset ≡ offset_in start (text_at blocks at) place
+    → spot_from at start place (drop at blocks) ≡ found
     → Some (record { at = at; line = start; offset = offset }) ≡ found
 spot_here blocks at start offset place found within past less is so =
     let spot = spot_in blocks at start place in
@@ -63,7 +65,8 @@ spot_later blocks at start place found within past over so =
 -- ---- the lines before a block
 
 pub lines_more : (blocks : List (List ℕ)) (k : ℕ) → k < length blocks → lines_before blocks (k + 1) ≡ lines_before blocks k + line_count (text_at blocks k)
-lines_more blocks k within = sum_by_more line_count blocks k [] within ∙ ap (λ (t : List ℕ). lines_before blocks k + line_count t) (sym (text_got blocks k within))
+lines_more blocks k within =
+    sum_by_more line_count blocks k [] within ∙ ap (λ (t : List ℕ). lines_before blocks k + line_count t) (sym (text_got blocks k within))
 
 -- ---- the owner of a name is a block
 
@@ -71,7 +74,8 @@ later_within : (n : ℕ) (found : Option ℕ) (at : ℕ) → ((k : ℕ) → foun
 later_within n None at below e = cc
 later_within n (Some k) at below e = let is = same_Some (suc k) at e in omega (arith, is, below k refl)
 
-owner_by : (block : Reading) (blocks : List Reading) (name : List ℕ) (b : Bool) → is_among name block.names ≡ b → owner (block ∷ blocks) name ≡ cond b (Some 0) (option_map (λ k. suc k) (owner blocks name))
+owner_by : (block : Reading) (blocks : List Reading) (name : List ℕ) (b : Bool) → is_among name block.names ≡ b
+    → owner (block ∷ blocks) name ≡ cond b (Some 0) (option_map (λ k. suc k) (owner blocks name))
 owner_by block blocks name b e = rw e
 
 pub owner_within : (blocks : List Reading) (name : List ℕ) (at : ℕ) → owner blocks name ≡ Some at → at < length blocks

@@ -1,13 +1,12 @@
 -- Why a block has no entry (own).
-use Rattle.std.specs.Prelude.{ℕ, ◌≡◌, ◌↔◌, nat_eq, List, Option, Some, None, IsSome, option_map, slice_get, Bool, ◌&&◌}
-use Rattle.std.specs.List.{find}
+use Rattle.std.specs.Prelude.{ℕ, ◌≡◌, ◌↔◌, nat_eq, List, Option, Some, None, IsSome, option_and_then, slice_get, Bool, ◌&&◌}
+use Rattle.std.specs.List.{find, position}
 use Rattle.ti_source.specs.Code.{is_error}
 use Rattle.ti_source.specs.Reading.{Reading}
 use Rattle.base_meaning.specs.Compiled.{entry}
 use Rattle.base_meaning.specs.Faults.{SourceFault, faults}
 use Rattle.base_meaning.specs.Owner.{readings}
-use Rattle.tools_sources.specs.Sources.{first_line}
-use Rattle.lsp_document.specs.Diagnostics.{Shown, fault_diagnostic}
+use Rattle.lsp_document.specs.Diagnostics.{Shown, diagnostics_of}
 use Rattle.lsp_document.specs.Documents.{held}
 
 -- whether a fault is an error of the block at that position
@@ -18,9 +17,9 @@ is_error_of at fault = nat_eq fault.block at && is_error fault.code
 abbrev pub cause_of : List Reading → ℕ → Option SourceFault
 cause_of blocks at = find (is_error_of at) (faults blocks)
 
--- the same in a text, as the diagnostic that is published for it
+-- the same in a text: the diagnostic that is published for it, at its place in the report
 abbrev pub cause_told : List ℕ → ℕ → Option Shown
-cause_told text at = option_map (fault_diagnostic (held text) (first_line text)) (cause_of (readings (held text)) at)
+cause_told text at = option_and_then (slice_get (diagnostics_of text)) (position (is_error_of at) (faults (readings (held text))))
 
 -- ---- law
 

@@ -1,7 +1,8 @@
 -- Which block decides what an entry has of a capability (own; terminfo(5), "Similar Terminals"):
 -- the first item of a block that says something of the capability. An item that gives it a value or
 -- a cancel decides it in that block; a use hands it on to the block that owns the name.
-use Rattle.std.specs.Prelude.{ℕ, zero, suc, ◌≡◌, ◌↔◌, nat_eq, is_some, All, List, [], ◌∷◌, ◌++◌, filter, map, Option, None, Some, if◌then◌else◌, length, option_and_then, slice_get}
+use Rattle.std.specs.Prelude.{ℕ, zero, suc, ◌≡◌, ◌↔◌, nat_eq, is_some, All, List, [], ◌∷◌, ◌++◌, filter, map, Option, None, Some, if◌then◌else◌, length}
+use Rattle.std.specs.Prelude.{option_and_then, slice_get}
 use Rattle.std.specs.List.{find}
 use Rattle.std.specs.Option.{option_map_or}
 use Rattle.std.specs.String.{string_bytes}

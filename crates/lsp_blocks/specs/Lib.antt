@@ -4,6 +4,7 @@ pub mod Counting
 pub mod Deciding
 pub mod Giving
 pub mod Holdings
+pub mod Places
 pub mod Spots
 pub mod Symbols
 pub mod inside

@@ -32,6 +32,8 @@ pub(crate) fn cause_told(
     ensures { IfOk result (λ cause. Some (diagnostic_seen cause) ≡ spec.cause_told document.now at) }
 {
     missing_entries_have_a_cause();
+    // A law, with no code: there is one diagnostic for each fault.
+    lsp_document::laws::diagnostics_are_the_faults();
     let faults = document.database().faults()?;
     let mut diagnostics = document.diagnostics(alloc)?;
     match first_error(&faults, at) {

@@ -10,9 +10,11 @@ use Rattle.lsp_descriptions.specs.Rows.{flag_rows, number_rows, text_rows_1, tex
 use Rattle.lsp_descriptions.specs.declared.descriptions.TheConstants.{FLAGS, NUMBERS, PART_1, PART_2, PART_3, PART_4, PART_5, PART_6}
 
 -- the row of a capability is what is said of it
-pub said_of : (c : Capability) (kind : Kind) (index : ℕ) (x : Described) → kind ≡ c.kind → index ≡ c.index → slice_get (rows kind) index ≡ Some x → x ≡ described c
+pub said_of : (c : Capability) (kind : Kind) (index : ℕ) (x : Described) → kind ≡ c.kind → index ≡ c.index → slice_get (rows kind) index ≡ Some x
+    → x ≡ described c
 said_of c kind index x k i h =
-    let at : slice_get (rows c.kind) c.index ≡ Some x = subst (λ (kind : Kind). slice_get (rows kind) c.index ≡ Some x) k (subst (λ (n : ℕ). slice_get (rows kind) n ≡ Some x) i h) in
+    let at : slice_get (rows c.kind) c.index ≡ Some x =
+    subst (λ (kind : Kind). slice_get (rows kind) c.index ≡ Some x) k (subst (λ (n : ℕ). slice_get (rows kind) n ≡ Some x) i h) in
     ap (λ (o : Option Described). unwrap_or o (told [] [] [])) (sym at)
 
 -- ---- the rows of the flags and of the numbers
@@ -28,7 +30,8 @@ numbers_are : map (λ r. told r.0.now r.1.now r.2.now) NUMBERS ≡ rows Number
 unfolding rows named_rows number_rows
 numbers_are = refl
 
-pub in_numbers : (index : ℕ) (x : Described) → slice_get (map (λ r. told r.0.now r.1.now r.2.now) NUMBERS) index ≡ Some x → slice_get (rows Number) index ≡ Some x
+pub in_numbers : (index : ℕ) (x : Described) → slice_get (map (λ r. told r.0.now r.1.now r.2.now) NUMBERS) index ≡ Some x
+    → slice_get (rows Number) index ≡ Some x
 in_numbers index x = subst (λ (rs : List Described). slice_get rs index ≡ Some x) numbers_are
 
 -- ---- the rows of the texts
@@ -100,7 +103,8 @@ sixth_is : sixth ≡ map said_in text_rows_6
 unfolding text_rows_6
 sixth_is = refl
 
-joined : {A B : Type 0} (f : A → B) (a b c d e g : List A) (s t u v w x : List B) → s ≡ map f a → t ≡ map f b → u ≡ map f c → v ≡ map f d → w ≡ map f e → x ≡ map f g
+joined : {A B : Type 0} (f : A → B) (a b c d e g : List A) (s t u v w x : List B) → s ≡ map f a → t ≡ map f b → u ≡ map f c → v ≡ map f d → w ≡ map f e
+    → x ≡ map f g
     → s ++ t ++ u ++ v ++ w ++ x ≡ map f (a ++ b ++ c ++ d ++ e ++ g)
 joined f a b c d e g s t u v w x h i j k l m = rw (h, i, j, k, l, m) (sym (simp map-append))
 
@@ -116,16 +120,24 @@ in_texts index x = subst (λ (rs : List Described). slice_get rs index ≡ Some 
 -- the row at a place of a part, past the parts before it
 
 pub in_part_1 : (index place : ℕ) (x : Described) → index ≡ place → slice_get first place ≡ Some x → slice_get (rows Text) index ≡ Some x
-in_part_1 index place x at h = in_texts index x (earlier first_five sixth index x (earlier first_four fifth index x (earlier first_three fourth index x (earlier first_two third index x (earlier first second index x (ap (λ (n : ℕ). slice_get first n) at ∙ h))))))
+in_part_1 index place x at h =
+    in_texts index x (earlier first_five sixth index x
+    (earlier first_four fifth index x
+    (earlier first_three fourth index x (earlier first_two third index x (earlier first second index x (ap (λ (n : ℕ). slice_get first n) at ∙ h))))))
 
 pub in_part_2 : (index place : ℕ) (x : Described) → index ≡ 69 + place → slice_get second place ≡ Some x → slice_get (rows Text) index ≡ Some x
-in_part_2 index place x at h = in_texts index x (earlier first_five sixth index x (earlier first_four fifth index x (earlier first_three fourth index x (earlier first_two third index x (later first second place index at ∙ h)))))
+in_part_2 index place x at h =
+    in_texts index x (earlier first_five sixth index x
+    (earlier first_four fifth index x (earlier first_three fourth index x (earlier first_two third index x (later first second place index at ∙ h)))))
 
 pub in_part_3 : (index place : ℕ) (x : Described) → index ≡ 138 + place → slice_get third place ≡ Some x → slice_get (rows Text) index ≡ Some x
-in_part_3 index place x at h = in_texts index x (earlier first_five sixth index x (earlier first_four fifth index x (earlier first_three fourth index x (later first_two third place index at ∙ h))))
+in_part_3 index place x at h =
+    in_texts index x (earlier first_five sixth index x
+    (earlier first_four fifth index x (earlier first_three fourth index x (later first_two third place index at ∙ h))))
 
 pub in_part_4 : (index place : ℕ) (x : Described) → index ≡ 207 + place → slice_get fourth place ≡ Some x → slice_get (rows Text) index ≡ Some x
-in_part_4 index place x at h = in_texts index x (earlier first_five sixth index x (earlier first_four fifth index x (later first_three fourth place index at ∙ h)))
+in_part_4 index place x at h =
+    in_texts index x (earlier first_five sixth index x (earlier first_four fifth index x (later first_three fourth place index at ∙ h)))
 
 pub in_part_5 : (index place : ℕ) (x : Described) → index ≡ 276 + place → slice_get fifth place ≡ Some x → slice_get (rows Text) index ≡ Some x
 in_part_5 index place x at h = in_texts index x (earlier first_five sixth index x (later first_four fifth place index at ∙ h))

@@ -34,7 +34,8 @@ taken_few [] taken = omega arith
 taken_few (block ∷ blocks) taken = omega (arith, taken_below (block ∷ blocks) (length blocks) taken (omega arith))
 
 -- short blocks are taken if they are no more than a list may have
-pub few_taken : (blocks : List (List ℕ)) → All OneBlock blocks → All (λ block. length block ≤ block_bytes_max) blocks → length blocks ≤ blocks_max → AreTaken blocks
+pub few_taken : (blocks : List (List ℕ)) → All OneBlock blocks → All (λ block. length block ≤ block_bytes_max) blocks → length blocks ≤ blocks_max
+    → AreTaken blocks
 few_taken blocks single short few front block back e =
     let n = ap length e ∙ length-append front (block ∷ back) in
     let is : get_or blocks (length front) [] ≡ block = ap (λ (bs : List (List ℕ)). get_or bs (length front) []) e ∙ get_or-append_seam front block back [] in
@@ -48,26 +49,31 @@ few_taken blocks single short few front block back e =
 -- so is a part of them
 pub part_short : (texts : List (Bor (List ℕ))) (front n : ℕ) → All IsShortBlock (map text_of texts) → All IsShortBlock (map text_of (take n (drop front texts)))
 part_short texts front n short =
-    let part : take n (drop front (map text_of texts)) ≡ map text_of (take n (drop front texts)) = ap (take n) (drop-map text_of front texts) ∙ take-map text_of n (drop front texts) in
+    let part : take n (drop front (map text_of texts)) ≡ map text_of (take n (drop front texts)) =
+    ap (take n) (drop-map text_of front texts) ∙ take-map text_of n (drop front texts) in
     subst (λ (texts : List (List ℕ)). All IsShortBlock texts) part
     (All-take IsShortBlock n (drop front (map text_of texts)) (All-drop IsShortBlock front (map text_of texts) short))
 
 -- each of them is one
-short_at : (texts : List (Bor (List ℕ))) (k : ℕ) (d : Bor (List ℕ)) → k < length texts → All IsShortBlock (map text_of texts) → IsShortBlock (get_or texts k d).now
+short_at : (texts : List (Bor (List ℕ))) (k : ℕ) (d : Bor (List ℕ)) → k < length texts → All IsShortBlock (map text_of texts)
+    → IsShortBlock (get_or texts k d).now
 short_at texts k d within short =
     subst IsShortBlock (get_or-map text_of texts k d d.now within) (short k d.now (omega (arith, within, length-map texts text_of)))
 
 -- an edit that nothing is wrong with is refused for memory alone
-pub memory_alone : (texts : List (List ℕ)) (change : Change) (error : EditError) (next : List (List ℕ)) → EditStep texts change (Refused error) next → IsSoundEdit texts change → error ≡ Memory
+pub memory_alone : (texts : List (List ℕ)) (change : Change) (error : EditError) (next : List (List ℕ)) → EditStep texts change (Refused error) next
+    → IsSoundEdit texts change → error ≡ Memory
 memory_alone texts change error next step sound = one_cause texts change error Memory step.0 sound
 
-pub replacement_sound : (before : List (List ℕ)) (texts : List (Bor (List ℕ))) (at k : ℕ) (d : Bor (List ℕ)) → k < length texts → at < length before → All IsShortBlock (map text_of texts)
+pub replacement_sound : (before : List (List ℕ)) (texts : List (Bor (List ℕ))) (at k : ℕ) (d : Bor (List ℕ)) → k < length texts → at < length before
+    → All IsShortBlock (map text_of texts)
     → IsSoundEdit before (replacement at (get_or texts k d).now)
 replacement_sound before texts at k d within place short =
     let one = short_at texts k d within short in
     record { in_place = place; short = one.0; block = one.1; room = tt }
 
-pub insertion_sound : (before : List (List ℕ)) (texts : List (Bor (List ℕ))) (at k : ℕ) (d : Bor (List ℕ)) → k < length texts → at ≤ length before → length before < blocks_max
+pub insertion_sound : (before : List (List ℕ)) (texts : List (Bor (List ℕ))) (at k : ℕ) (d : Bor (List ℕ)) → k < length texts → at ≤ length before
+    → length before < blocks_max
     → All IsShortBlock (map text_of texts) → IsSoundEdit before (insertion at (get_or texts k d).now)
 insertion_sound before texts at k d within place room short =
     let one = short_at texts k d within short in

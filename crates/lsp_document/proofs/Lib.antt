@@ -6,6 +6,7 @@ pub mod HeldTexts
 pub mod LineStarts
 pub mod ListEdits
 pub mod Measuring
+pub mod Onward
 pub mod PartsExchanged
 pub mod Places
 pub mod PublishedFaults

@@ -1,5 +1,6 @@
 -- A line begins at the first offset with so many newlines before it.
-use Rattle.std.proofs.Common.{◌≡◌, ℕ, suc, zero, ◌+◌, ◌<◌, ◌≤◌, ◌==◌, true, false, List, [], ◌∷◌, None, Some, drop, length, take, refl, sym, ap, subst, ◌∙◌, inl, inr, arith}
+use Rattle.std.proofs.Common.{◌≡◌, ℕ, suc, zero, ◌+◌, ◌<◌, ◌≤◌, ◌==◌, true, false, List, [], ◌∷◌, None, Some, drop, length, take, refl, sym, ap, subst, ◌∙◌}
+use Rattle.std.proofs.Common.{inl, inr, arith}
 use Rattle.std.proofs.lemmas.Bool.{cases_Bool, cases_lt, false_from_ne_true}
 use Rattle.memchr.specs.Find.{IsFirstByte, is_byte}
 use Rattle.ti_text.specs.Lines.{line_count}
@@ -28,7 +29,8 @@ few_newline byte bytes line start (suc earlier) newline rest before =
     let few = rest.first earlier (omega (arith, before)) in
     omega (arith, few, count_newline byte (take earlier bytes) newline)
 
-after_newline : (byte : ℕ) (bytes : List ℕ) (line start : ℕ) → (byte == 10) ≡ true → IsLineStart bytes line start → IsLineStart (byte ∷ bytes) (suc line) (suc start)
+after_newline : (byte : ℕ) (bytes : List ℕ) (line start : ℕ) → (byte == 10) ≡ true → IsLineStart bytes line start
+    → IsLineStart (byte ∷ bytes) (suc line) (suc start)
 after_newline byte bytes line start newline rest = record {
   number = count_newline byte (take start bytes) newline ∙ ap suc rest.number;
   first = λ earlier before. few_newline byte bytes line start earlier newline rest before;
@@ -41,7 +43,8 @@ few_plain byte bytes line start (suc earlier) plain rest before =
     let few = rest.first earlier (omega (arith, before)) in
     omega (arith, few, count_plain byte (take earlier bytes) plain)
 
-after_plain : (byte : ℕ) (bytes : List ℕ) (line start : ℕ) → (byte == 10) ≡ false → IsLineStart bytes (suc line) start → IsLineStart (byte ∷ bytes) (suc line) (suc start)
+after_plain : (byte : ℕ) (bytes : List ℕ) (line start : ℕ) → (byte == 10) ≡ false → IsLineStart bytes (suc line) start
+    → IsLineStart (byte ∷ bytes) (suc line) (suc start)
 after_plain byte bytes line start plain rest = record {
   number = count_plain byte (take start bytes) plain ∙ rest.number;
   first = λ earlier before. few_plain byte bytes line start earlier plain rest before;
@@ -86,7 +89,8 @@ past_lines (byte ∷ bytes) (suc line) past =
 -- ---- the next newline
 
 -- after the first newline there is a line less to be passed
-pub start-found : (text : List ℕ) (at line : ℕ) → IsFirstByte (is_byte 10) text (Some at) → line_start text (suc line) ≡ suc at + line_start (drop (suc at) text) line
+pub start-found : (text : List ℕ) (at line : ℕ) → IsFirstByte (is_byte 10) text (Some at) → line_start text (suc line)
+    ≡ suc at + line_start (drop (suc at) text) line
 start-found [] at line first = absurd (omega (arith, first.0.high))
 start-found (byte ∷ bytes) zero line first = let next = start-newline byte bytes line first.1 in omega (arith, next)
 start-found (byte ∷ bytes) (suc at) line first =

@@ -1,6 +1,8 @@
 -- Lists of blocks as edits change them, one by one.
-use Rattle.std.proofs.Common.{◌≡◌, ℕ, suc, zero, ◌+◌, ◌-◌, ◌<◌, ◌≤◌, List, [], ◌∷◌, ◌++◌, drop, get_or, length, take, insert, remove, slice_get, slice_set, Some, add-one, add-suc, add-zero, refl, sym, ap, ap₂, subst, ◌∙◌, arith}
-use Rattle.std.proofs.lemmas.List.{append_assoc, drop-drop, drop_at, drop_more, get_or-drop, length-append, length-drop, length-take-le, same_lists, set_at, take-append-drop, take_at}
+use Rattle.std.proofs.Common.{◌≡◌, ℕ, suc, zero, ◌+◌, ◌-◌, ◌<◌, ◌≤◌, List, [], ◌∷◌, ◌++◌, drop, get_or, length, take, insert, remove, slice_get, slice_set}
+use Rattle.std.proofs.Common.{Some, add-one, add-suc, add-zero, refl, sym, ap, ap₂, subst, ◌∙◌, arith}
+use Rattle.std.proofs.lemmas.List.{append_assoc, drop-drop, drop_at, drop_more, get_or-drop, length-append, length-drop, length-take-le, same_lists, set_at}
+use Rattle.std.proofs.lemmas.List.{take-append-drop, take_at}
 use Rattle.std.proofs.lemmas.Option.{same_Some, slice_get-get_or}
 use Rattle.std.proofs.Math.Seq.{take-add}
 use Rattle.base_meaning.specs.Edits.{Change, EditStep}
@@ -28,7 +30,8 @@ pub inserted : (old done : List (List ℕ)) (at k : ℕ) (text : List ℕ) → l
     → insert (take at old ++ done ++ drop at old) (at + k) text ≡ take at old ++ (done ++ text ∷ []) ++ drop at old
 inserted old done at k text n within =
     let front = length_front old done at k n within in
-    ap₂ (λ (a b : List (List ℕ)). a ++ text ∷ b) (take_at (take at old ++ done) (drop at old) (at + k) front) (drop_at (take at old ++ done) (drop at old) (at + k) front)
+    ap₂ (λ (a b : List (List ℕ)). a ++ text ∷ b) (take_at (take at old ++ done) (drop at old) (at + k) front)
+    (drop_at (take at old ++ done) (drop at old) (at + k) front)
     ∙ push_in (take at old) done text (drop at old)
 
 -- one more is taken out
@@ -47,23 +50,28 @@ removed old at k within =
     ap₂ (λ (a b : List (List ℕ)). a ++ b) (take_at (take at old) (drop (at + k) old) at front) (back ∙ ap (λ i. drop i old) more)
 
 -- one more edit leads on
-pub lead_more : (n : ℕ) (old before new : List (List ℕ)) (change : Change) → EditsLead n old before → EditStep before change Accepted new → EditsLead (n + 1) old new
+pub lead_more : (n : ℕ) (old before new : List (List ℕ)) (change : Change) → EditsLead n old before → EditStep before change Accepted new
+    → EditsLead (n + 1) old new
 lead_more n old before new change lead step = subst (λ (k : ℕ). EditsLead k old new) (sym (add-one n)) (change, before, lead, step)
 
 -- edits after edits
 pub edits_then : (m n : ℕ) (old mid new : List (List ℕ)) → EditsLead m old mid → EditsLead n mid new → EditsLead (m + n) old new
-edits_then m zero old mid new lead same = subst (λ (texts : List (List ℕ)). EditsLead (m + 0) old texts) (sym same) (subst (λ (k : ℕ). EditsLead k old mid) (sym (add-zero m)) lead)
-edits_then m (suc n) old mid new lead more = subst (λ (k : ℕ). EditsLead k old new) (sym (add-suc m n)) (more.0, more.1, edits_then m n old mid more.1 lead more.2, more.3)
+edits_then m zero old mid new lead same =
+    subst (λ (texts : List (List ℕ)). EditsLead (m + 0) old texts) (sym same) (subst (λ (k : ℕ). EditsLead k old mid) (sym (add-zero m)) lead)
+edits_then m (suc n) old mid new lead more =
+    subst (λ (k : ℕ). EditsLead k old new) (sym (add-suc m n)) (more.0, more.1, edits_then m n old mid more.1 lead more.2, more.3)
 
 -- ---- what is the same at both ends stays
 
-same_front : (n : ℕ) (old new : List (List ℕ)) → n ≤ length old → n ≤ length new → ((at : ℕ) → at < n → slice_get old at ≡ slice_get new at) → take n old ≡ take n new
+same_front : (n : ℕ) (old new : List (List ℕ)) → n ≤ length old → n ≤ length new → ((at : ℕ) → at < n → slice_get old at ≡ slice_get new at)
+    → take n old ≡ take n new
 same_front zero old new held there same = refl
 same_front (suc n) [] new held there same = absurd (omega (arith, held))
 same_front (suc n) (x ∷ xs) [] held there same = absurd (omega (arith, there))
 same_front (suc n) (x ∷ xs) (y ∷ ys) held there same =
     let first : Some x ≡ Some y = same 0 (omega arith) in
-    ap₂ (λ (b : List ℕ) (bs : List (List ℕ)). b ∷ bs) (same_Some x y first) (same_front n xs ys (omega (arith, held)) (omega (arith, there)) (λ at below. same (suc at) (omega (arith, below))))
+    ap₂ (λ (b : List ℕ) (bs : List (List ℕ)). b ∷ bs) (same_Some x y first)
+    (same_front n xs ys (omega (arith, held)) (omega (arith, there)) (λ at below. same (suc at) (omega (arith, below))))
 
 same_back : (n : ℕ) (old new : List (List ℕ)) → n ≤ length old → n ≤ length new
     → ((at : ℕ) → at < n → slice_get old (length old - 1 - at) ≡ slice_get new (length new - 1 - at)) → drop (length old - n) old ≡ drop (length new - n) new
@@ -74,7 +82,8 @@ same_back n old new held there same =
     let within : i < n = omega (arith, below, length-drop m old, held) in
     let one : length old - 1 - (n - 1 - i) ≡ m + i = omega (arith, within, held) in
     let other : length new - 1 - (n - 1 - i) ≡ k + i = omega (arith, within, there) in
-    let here : slice_get old (m + i) ≡ slice_get new (k + i) = ap (slice_get old) (sym one) ∙ same (n - 1 - i) (omega (arith, within)) ∙ ap (slice_get new) other in
+    let here : slice_get old (m + i) ≡ slice_get new (k + i) =
+    ap (slice_get old) (sym one) ∙ same (n - 1 - i) (omega (arith, within)) ∙ ap (slice_get new) other in
     let both : Some (get_or old (m + i) d) ≡ Some (get_or new (k + i) d) =
     sym (slice_get-get_or old (m + i) d (omega (arith, within, held))) ∙ here ∙ slice_get-get_or new (k + i) d (omega (arith, within, there)) in
     get_or-drop m old i d ∙ same_Some (get_or old (m + i) d) (get_or new (k + i) d) both ∙ sym (get_or-drop k new i d)
@@ -84,7 +93,8 @@ same_back n old new held there same =
 whole : (front n : ℕ) (texts : List (List ℕ)) → take front texts ++ take n (drop front texts) ++ drop (front + n) texts ≡ texts
 whole front n texts = ap (λ (b : List (List ℕ)). b ++ drop (front + n) texts) (sym (take-add front n texts)) ∙ take-append-drop (front + n) texts
 
-length_front_made : (old new : List (List ℕ)) (front n : ℕ) → front ≤ length old → front + n ≤ length new → length (take front old ++ take n (drop front new)) ≡ front + n
+length_front_made : (old new : List (List ℕ)) (front n : ℕ) → front ≤ length old → front + n ≤ length new
+    → length (take front old ++ take n (drop front new)) ≡ front + n
 length_front_made old new front n held there =
     length_front old (take n (drop front new)) front n (length-take-le n (drop front new) (omega (arith, length-drop front new, there))) held
 
@@ -119,7 +129,8 @@ made_longer old new mid last front back put out at_front at_back is_put is_out l
     let n : length q ≡ front + out = length_front_made old new front out at_front.held (omega (arith, is_put, less, at_back.there)) in
     let t : take (front + out) mid ≡ take (front + out) new =
     ap (take (front + out)) e ∙ take_at q r (front + out) n
-    ∙ ap (λ (a : List (List ℕ)). a ++ take out (drop front new)) (same_front front old new at_front.held at_front.there at_front.same) ∙ sym (take-add front out new) in
+    ∙ ap (λ (a : List (List ℕ)). a ++ take out (drop front new)) (same_front front old new at_front.held at_front.there at_front.same)
+    ∙ sym (take-add front out new) in
     let end_old : front + out ≡ length old - back = omega (arith, is_out, at_back.held) in
     let end_new : length new - back ≡ front + out + (put - out) = omega (arith, is_put, less, at_back.there) in
     let d : drop (front + out) mid ≡ drop (front + out + (put - out)) new =

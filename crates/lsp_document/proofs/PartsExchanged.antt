@@ -55,7 +55,8 @@ leads_on old mid last texts front first all within less lead more =
     (edits_then first (all - first) old mid last (subst (λ (n : ℕ). EditsLead n old mid) (length_part texts front first within) lead) more)
 
 pub leads_further : (old mid last : List (List ℕ)) (texts : List (Bor (List ℕ))) (front first all : ℕ) → front + all ≤ length texts → first ≤ all
-    → EditsLead (length (slice_range texts front (front + first))) old mid → EditsLead (length (slice_range texts (front + first) (front + all))) mid last → EditsLead all old last
+    → EditsLead (length (slice_range texts front (front + first))) old mid → EditsLead (length (slice_range texts (front + first) (front + all))) mid last
+    → EditsLead all old last
 leads_further old mid last texts front first all within less lead more =
     let end : front + all ≡ front + first + (all - first) = omega (arith, less) in
     let len : length (slice_range texts (front + first) (front + all)) ≡ all - first =

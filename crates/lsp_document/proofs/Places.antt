@@ -1,12 +1,14 @@
 -- That places and offsets are inverse at the start of a character, and how both are found step by
 -- step.
-use Rattle.std.proofs.Common.{◌≡◌, ◌⊎◌, ℕ, suc, zero, ◌+◌, ◌-◌, ◌<◌, ◌≤◌, ◌==◌, ◌&&◌, not, true, false, List, [], ◌∷◌, ◌++◌, drop, get_or, length, min, take, refl, sym, ap, subst, ◌∙◌, inl, inr, arith}
+use Rattle.std.proofs.Common.{◌≡◌, ◌⊎◌, ℕ, suc, zero, ◌+◌, ◌-◌, ◌<◌, ◌≤◌, ◌==◌, ◌&&◌, not, true, false, List, [], ◌∷◌, ◌++◌, drop, get_or, length, min}
+use Rattle.std.proofs.Common.{take, refl, sym, ap, subst, ◌∙◌, inl, inr, arith}
 use Rattle.std.specs.Prelude.{nat_lt}
 use Rattle.std.proofs.lemmas.Bool.{and_parts, cases_Bool, cases_lt, le-ltb, lt-ltb, ltb-true, ne_eqb, not-true}
 use Rattle.std.proofs.lemmas.List.{append_assoc, drop_all, drop_more, take_more}
 use Rattle.std.proofs.Math.Nat.{le-min}
 use Rattle.lsp_document.specs.LineTexts.{until_end}
-use Rattle.lsp_document.specs.Position.{PositionsAreInverse, begins_with_newline, column_offset, ends_line, is_start, line_start, lines_left, place_after, position_of, step_over, units}
+use Rattle.lsp_document.specs.Position.{PositionsAreInverse, begins_with_newline, column_offset, ends_line, is_start, line_start, lines_left, place_after}
+use Rattle.lsp_document.specs.Position.{position_of, step_over, units}
 use Rattle.lsp_types.specs.declared.places.Position.{Position}
 
 pub line_start-zero : (text : List ℕ) → line_start text 0 ≡ 0
@@ -89,8 +91,11 @@ after_newline byte bytes offset line place newline (inl here) =
     subst P (sym (line_start-zero bytes)) (omega (arith, plain))) in
     (omega (arith, here.0), ap (λ k. offset_later (byte ∷ bytes) k place.column) one ∙ later_newline byte bytes 0 place.column offset newline first)
 after_newline byte bytes offset line place newline (inr later) =
-    let more : place.line - line ≡ suc (place.line - (line + 1)) = omega (arith, later.0) in
-    (omega (arith, later.0), ap (λ k. offset_later (byte ∷ bytes) k place.column) more ∙ later_newline byte bytes (place.line - (line + 1)) place.column offset newline later.1)
+    let more : place.line - line ≡ suc (place.line - (line + 1)) = omega (arith, later.0) in (
+      omega (arith, later.0),
+      ap (λ k. offset_later (byte ∷ bytes) k place.column) more
+          ∙ later_newline byte bytes (place.line - (line + 1)) place.column offset newline later.1,
+    )
 
 -- after the CR of a CR LF too, since no character begins at the LF
 after_return : (byte : ℕ) (bytes : List ℕ) (offset line column : ℕ) (place : Position) → (byte == 10) ≡ false → (byte == 13 && begins_with_newline bytes) ≡ true
@@ -114,10 +119,12 @@ after_plain byte bytes offset line column place plain inside (inr later) =
 pub step_newline : (byte : ℕ) (bytes : List ℕ) (line column : ℕ) → (byte == 10) ≡ true → step_over (byte ∷ bytes) (at line column) ≡ at (line + 1) 0
 step_newline byte bytes line column newline = rw newline
 
-pub step_return : (byte : ℕ) (bytes : List ℕ) (line column : ℕ) → (byte == 10) ≡ false → (byte == 13 && begins_with_newline bytes) ≡ true → step_over (byte ∷ bytes) (at line column) ≡ at line column
+pub step_return : (byte : ℕ) (bytes : List ℕ) (line column : ℕ) → (byte == 10) ≡ false → (byte == 13 && begins_with_newline bytes) ≡ true
+    → step_over (byte ∷ bytes) (at line column) ≡ at line column
 step_return byte bytes line column plain return = rw (plain, return)
 
-pub step_plain : (byte : ℕ) (bytes : List ℕ) (line column : ℕ) → (byte == 10) ≡ false → (byte == 13 && begins_with_newline bytes) ≡ false → step_over (byte ∷ bytes) (at line column) ≡ at line (column + units byte)
+pub step_plain : (byte : ℕ) (bytes : List ℕ) (line column : ℕ) → (byte == 10) ≡ false → (byte == 13 && begins_with_newline bytes) ≡ false
+    → step_over (byte ∷ bytes) (at line column) ≡ at line (column + units byte)
 step_plain byte bytes line column plain inside = rw (plain, inside)
 
 -- the place of an offset after the first byte, if those of the bytes after it are as they should be
@@ -127,10 +134,14 @@ found_next : (byte : ℕ) (bytes : List ℕ) (offset line column : ℕ) → is_s
 found_next byte bytes offset line column start rest =
     let P : Position → Type 0 = λ p. Finds (byte ∷ bytes) (suc offset) line column (place_after p bytes offset) in
     elim (cases_Bool (byte == 10)) [
-      | inl newline ↦ subst P (sym (step_newline byte bytes line column newline)) (inr (after_newline byte bytes offset line (place_after (at (line + 1) 0) bytes offset) newline (rest (line + 1) 0)))
+      | inl newline ↦ subst P (sym (step_newline byte bytes line column newline))
+          (inr (after_newline byte bytes offset line (place_after (at (line + 1) 0) bytes offset) newline (rest (line + 1) 0)))
       | inr plain ↦ elim (cases_Bool (byte == 13 && begins_with_newline bytes)) [
-        | inl return ↦ subst P (sym (step_return byte bytes line column plain return)) (inr (after_return byte bytes offset line column (place_after (at line column) bytes offset) plain return start (rest line column)))
-        | inr inside ↦ subst P (sym (step_plain byte bytes line column plain inside)) (after_plain byte bytes offset line column (place_after (at line (column + units byte)) bytes offset) plain inside (rest line (column + units byte)))
+        | inl return ↦ subst P (sym (step_return byte bytes line column plain return))
+            (inr (after_return byte bytes offset line column (place_after (at line column) bytes offset) plain return start (rest line column)))
+        | inr inside ↦ subst P (sym (step_plain byte bytes line column plain inside))
+            (after_plain byte bytes offset line column (place_after (at line (column + units byte)) bytes offset) plain inside
+            (rest line (column + units byte)))
       ]
     ]
 

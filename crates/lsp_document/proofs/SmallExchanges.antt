@@ -1,5 +1,6 @@
 -- How few edits a small change takes.
-use Rattle.std.proofs.Common.{◌≡◌, inl, inr, ℕ, ◌+◌, ◌-◌, ◌<◌, ◌≤◌, List, [], get_or, insert, length, max, remove, slice_get, slice_set, Some, refl, sym, ap, ◌∙◌, arith}
+use Rattle.std.proofs.Common.{◌≡◌, inl, inr, ℕ, ◌+◌, ◌-◌, ◌<◌, ◌≤◌, List, [], get_or, insert, length, max, remove, slice_get, slice_set, Some, refl, sym}
+use Rattle.std.proofs.Common.{ap, ◌∙◌, arith}
 use Rattle.std.proofs.lemmas.Bool.{cases_eq, cases_lt}
 use Rattle.std.proofs.lemmas.List.{length-set}
 use Rattle.std.proofs.lemmas.List.Edits.{get_or-insert_above, get_or-insert_below, get_or-remove_above, get_or-remove_below, length-insert, length-remove}
@@ -35,7 +36,8 @@ changed_front old at text front at_front less =
       | inr apart ↦ absurd (at_front.most less (omega (arith, less, length-set old at text)) (sym (get-set_other old at front text apart)))
     ]
 
-changed_back : (old : List (List ℕ)) (at : ℕ) (text : List ℕ) (front back : ℕ) → AtBack old (slice_set old at text) front back → front + back < length old → length old - 1 - back ≡ at
+changed_back : (old : List (List ℕ)) (at : ℕ) (text : List ℕ) (front back : ℕ) → AtBack old (slice_set old at text) front back → front + back < length old
+    → length old - 1 - back ≡ at
 changed_back old at text front back at_back less =
     let new = slice_set old at text in
     let len : length new ≡ length old = length-set old at text in
@@ -45,7 +47,8 @@ changed_back old at text front back at_back less =
           (sym (get-set_other old at (length old - 1 - back) text apart) ∙ ap (λ (n : ℕ). slice_get new (n - 1 - back)) (sym len)))
     ]
 
-changed_differ : (old : List (List ℕ)) (at : ℕ) (text : List ℕ) (front back : ℕ) → AtFront old (slice_set old at text) front → AtBack old (slice_set old at text) front back
+changed_differ : (old : List (List ℕ)) (at : ℕ) (text : List ℕ) (front back : ℕ) → AtFront old (slice_set old at text) front
+    → AtBack old (slice_set old at text) front back
     → max (length old) (length (slice_set old at text)) - front - back ≤ 1
 changed_differ old at text front back at_front at_back =
     let len : length (slice_set old at text) ≡ length old = length-set old at text in
@@ -64,7 +67,8 @@ one_changed old at text edits x =
 
 -- ---- one block is put in
 
-inserted_front : (old : List (List ℕ)) (at : ℕ) (text : List ℕ) (front : ℕ) → at ≤ length old → AtFront old (insert old at text) front → front < length old → at ≤ front
+inserted_front : (old : List (List ℕ)) (at : ℕ) (text : List ℕ) (front : ℕ) → at ≤ length old → AtFront old (insert old at text) front → front < length old
+    → at ≤ front
 inserted_front old at text front place at_front less =
     let new = insert old at text in
     let more : front < length new = omega (arith, less, length-insert old at text place) in
@@ -73,7 +77,8 @@ inserted_front old at text front place at_front less =
       | inr after ↦ after
     ]
 
-inserted_back : (old : List (List ℕ)) (at : ℕ) (text : List ℕ) (front back : ℕ) → at ≤ length old → at ≤ front → AtBack old (insert old at text) front back → front + back < length old → ⊥
+inserted_back : (old : List (List ℕ)) (at : ℕ) (text : List ℕ) (front back : ℕ) → at ≤ length old → at ≤ front → AtBack old (insert old at text) front back
+    → front + back < length old → ⊥
 inserted_back old at text front back place after at_back less =
     let new = insert old at text in
     let len : length new ≡ length old + 1 = length-insert old at text place in
@@ -84,7 +89,8 @@ inserted_back old at text front back place after at_back less =
     at_back.most less (omega (arith, less, len))
     (get_same old new j (j + 1) here (omega (arith, here, len)) (sym (get_or-insert_above old at text [] j above place)) ∙ ap (slice_get new) next)
 
-inserted_differ : (old : List (List ℕ)) (at : ℕ) (text : List ℕ) (front back : ℕ) → at ≤ length old → AtFront old (insert old at text) front → AtBack old (insert old at text) front back
+inserted_differ : (old : List (List ℕ)) (at : ℕ) (text : List ℕ) (front back : ℕ) → at ≤ length old → AtFront old (insert old at text) front
+    → AtBack old (insert old at text) front back
     → max (length old) (length (insert old at text)) - front - back ≡ 1
 inserted_differ old at text front back place at_front at_back =
     let len : length (insert old at text) ≡ length old + 1 = length-insert old at text place in
@@ -111,7 +117,8 @@ removed_front old at front place at_front less =
       | inr after ↦ after
     ]
 
-removed_back : (old : List (List ℕ)) (at front back : ℕ) → at < length old → at ≤ front → AtBack old (remove old at) front back → front + back < length (remove old at) → ⊥
+removed_back : (old : List (List ℕ)) (at front back : ℕ) → at < length old → at ≤ front → AtBack old (remove old at) front back
+    → front + back < length (remove old at) → ⊥
 removed_back old at front back place after at_back less =
     let new = remove old at in
     let len : length new + 1 ≡ length old = length-remove old at place in

@@ -1,5 +1,6 @@
 -- Lists of texts that lie in memory.
-use Rattle.std.proofs.Common.{◌≡◌, ℕ, ◌+◌, ◌-◌, ◌<◌, ◌≤◌, Bor, List, [], ◌∷◌, ◌++◌, Some, drop, get_or, length, map, slice_get, slice_set, insert, max, refl, subst, take, sym, ap, ◌∙◌, arith}
+use Rattle.std.proofs.Common.{◌≡◌, ℕ, ◌+◌, ◌-◌, ◌<◌, ◌≤◌, Bor, List, [], ◌∷◌, ◌++◌, Some, drop, get_or, length, map, slice_get, slice_set, insert, max}
+use Rattle.std.proofs.Common.{refl, subst, take, sym, ap, ◌∙◌, arith}
 use Rattle.std.specs.List.{slice_range}
 use Rattle.std.specs.Prelude.{option_map}
 use Rattle.std.proofs.lemmas.List.{append_assoc, drop-map, length-append, length-drop, length-map, length-take-le, map-append, take-map, take_more}
@@ -23,7 +24,8 @@ more_taken texts k other within = ap (map text_of) (take_more texts k other with
 length_taken : (texts : List (Bor (List ℕ))) (k : ℕ) → k ≤ length texts → length (map text_of (take k texts)) ≡ k
 length_taken texts k within = length-map (take k texts) text_of ∙ length-take-le k texts within
 
-pub replace_next : (old before new : List (List ℕ)) (texts : List (Bor (List ℕ))) (at k : ℕ) (other : Bor (List ℕ)) → k < length texts → at + length texts ≤ length old
+pub replace_next : (old before new : List (List ℕ)) (texts : List (Bor (List ℕ))) (at k : ℕ) (other : Bor (List ℕ)) → k < length texts
+    → at + length texts ≤ length old
     → before ≡ take at old ++ map text_of (take k texts) ++ drop (at + k) old → new ≡ slice_set before (at + k) (get_or texts k other).now
     → new ≡ take at old ++ map text_of (take (k + 1) texts) ++ drop (at + (k + 1)) old
 replace_next old before new texts at k other within room e f =
@@ -58,7 +60,14 @@ pub length_inserting : (old before : List (List ℕ)) (texts : List (Bor (List �
     → before ≡ take at old ++ map text_of (take k texts) ++ drop at old → length before ≡ length old + k
 length_inserting old before texts at k within room e =
     let done = map text_of (take k texts) in
-    omega (arith, ap length e, length-append (take at old ++ done) (drop at old), length_front old done at k (length_taken texts k within) room, length-drop at old, room)
+    omega (
+      arith,
+      ap length e,
+      length-append (take at old ++ done) (drop at old),
+      length_front old done at k (length_taken texts k within) room,
+      length-drop at old,
+      room,
+    )
 
 pub length_removing : (old before : List (List ℕ)) (at k : ℕ) → at + k ≤ length old → before ≡ take at old ++ drop (at + k) old → length before ≡ length old - k
 length_removing old before at k room e =
@@ -76,14 +85,16 @@ length_part texts front n within =
     ap (λ k. length (take k (drop front texts))) len ∙ length-take-le n (drop front texts) (omega (arith, length-drop front texts, within))
 
 -- one more text of a list is read
-pub one_more_read : (all : List (List ℕ)) (texts : List (Bor (List ℕ))) (text : Bor (List ℕ)) (at : ℕ) → at < length all → map text_of texts ≡ take at all → slice_get all at ≡ Some text.now
+pub one_more_read : (all : List (List ℕ)) (texts : List (Bor (List ℕ))) (text : Bor (List ℕ)) (at : ℕ) → at < length all → map text_of texts ≡ take at all
+    → slice_get all at ≡ Some text.now
     → map text_of (texts ++ text ∷ []) ≡ take (at + 1) all
 one_more_read all texts text at within e is =
     map-append text_of texts (text ∷ []) ∙ ap (λ (front : List (List ℕ)). front ++ text.now ∷ []) e
     ∙ ap (λ (t : List ℕ). take at all ++ t ∷ []) (sym (get_or_from_slice_get all at text.now [] is)) ∙ sym (take_more all at [] within)
 
 -- one more text is cut off
-pub one_more_cut : (texts : List (Bor (List ℕ))) (text : Bor (List ℕ)) (rest all : List (List ℕ)) → map text_of texts ++ text.now ∷ rest ≡ all → map text_of (texts ++ text ∷ []) ++ rest ≡ all
+pub one_more_cut : (texts : List (Bor (List ℕ))) (text : Bor (List ℕ)) (rest all : List (List ℕ)) → map text_of texts ++ text.now ∷ rest ≡ all
+    → map text_of (texts ++ text ∷ []) ++ rest ≡ all
 one_more_cut texts text rest all e =
     ap (λ (front : List (List ℕ)). front ++ rest) (map-append text_of texts (text ∷ [])) ∙ append_assoc (map text_of texts) (text.now ∷ []) rest ∙ e
 
@@ -94,7 +105,8 @@ differing_same old texts = ap (max (length old)) (length-map texts text_of)
 
 -- too many differ
 pub exchanged_anew : (old : List (List ℕ)) (texts : List (Bor (List ℕ))) (new : List (List ℕ)) (front back : ℕ) → map text_of texts ≡ new
-    → AtFront old (map text_of texts) front → AtBack old (map text_of texts) front back → edits_max < max (length old) (length texts) - front - back → Exchanged old new 0
+    → AtFront old (map text_of texts) front → AtBack old (map text_of texts) front back → edits_max < max (length old) (length texts) - front - back
+    → Exchanged old new 0
 exchanged_anew old texts new front back same at_front at_back over = subst (λ (blocks : List (List ℕ)). Exchanged old blocks 0) same (record {
   front = front;
   back = back;
@@ -108,11 +120,12 @@ exchanged_anew old texts new front back same at_front at_back over = subst (λ (
 pub exchanged_each : (old : List (List ℕ)) (texts : List (Bor (List ℕ))) (now new : List (List ℕ)) (front back edits : ℕ) → map text_of texts ≡ new
     → AtFront old (map text_of texts) front → AtBack old (map text_of texts) front back → max (length old) (length texts) - front - back ≤ edits_max
     → edits ≡ max (length old) (length texts) - front - back → now ≡ map text_of texts → EditsLead edits old now → Exchanged old new edits
-exchanged_each old texts now new front back edits same at_front at_back few is made lead = subst (λ (blocks : List (List ℕ)). Exchanged old blocks edits) same (record {
-  front = front;
-  back = back;
-  at_front = at_front;
-  at_back = at_back;
-  few = λ less. (omega (arith, is, differing_same old texts), subst (EditsLead edits old) made lead);
-  many = λ more. absurd (omega (arith, more, few, differing_same old texts));
-})
+exchanged_each old texts now new front back edits same at_front at_back few is made lead =
+    subst (λ (blocks : List (List ℕ)). Exchanged old blocks edits) same (record {
+      front = front;
+      back = back;
+      at_front = at_front;
+      at_back = at_back;
+      few = λ less. (omega (arith, is, differing_same old texts), subst (EditsLead edits old) made lead);
+      many = λ more. absurd (omega (arith, more, few, differing_same old texts));
+    })

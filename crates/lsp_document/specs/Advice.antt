@@ -8,7 +8,7 @@ use Rattle.ti_source.specs.declared.code.Code.TheVariants.{TooLarge, UnknownCapa
 abbrev pub advice : Code → List ℕ
 advice BadHeader = codes "The line of names is not in order. Correct the name that is empty or has a space, a slash or a byte that is not visible ASCII."
 advice NamesTooLong = codes "The names are over 127 bytes up to the first comma. Shorten them, or put in the comma that is missing."
-advice BadNumber = codes "This is no number. Write it in decimal, in octal after 0, or in hexadecimal after 0x."
+advice BadNumber = codes "This is not a number. Write it in decimal, in octal after 0, or in hexadecimal after 0x."
 advice NumberTooLarge = codes "The number is over 2147483647. Write a smaller one."
 advice BadString = codes "The string cannot be read. Write octal escapes up to \\377, and \\^ for a caret that means itself."
 advice MissingUse = codes "No block has this name. Correct it, or put the block in: installed entries are not looked at."
@@ -17,7 +17,7 @@ advice Unresolved = codes "The block of this name has an error, or leads to one.
 advice TooLarge = codes "The entry is over 4096 bytes, or over 32768 with a number over 32767. Cancel what is not needed."
 advice UnknownCapability = codes "No capability has this name, so it is ignored. Upper and lower case differ, and a comma in a string is written \\,."
 advice WrongKind = codes "The capability is of another kind, so it is ignored. Booleans have no sign, numbers #, and strings =."
-advice UnknownEscape = codes "This backslash makes no escape. Leave it out, or double it."
+advice UnknownEscape = codes "This backslash does not begin an escape. Leave it out, or double it."
 advice DuplicateName = codes "An earlier block has this name. Take it out of one of the two."
 
 -- of a block that is too long

@@ -1,9 +1,9 @@
 -- What is wrong with a source, as an editor shows it (own; Language Server Protocol 3.17,
--- "Diagnostic"): the faults of its report, each with its line, what of it is shown as faulty, its
--- code and a message.
+-- "Diagnostic"): the faults of its report, each with what is shown as faulty on its line, its code
+-- and a message.
+pub use Rattle.lsp_document.specs.Marking.{text_at}
 use Rattle.std.specs.Fmt.{decimal}
-use Rattle.std.specs.Prelude.{◌≡◌, ℕ, ◌-◌, List, [], ◌∷◌, ◌++◌, codes, length, map, Option, Some, None, slice_get, if◌then◌else◌}
-use Rattle.std.specs.Option.{option_map_or}
+use Rattle.std.specs.Prelude.{◌≡◌, ℕ, ◌-◌, List, [], ◌∷◌, ◌++◌, codes, length, Option, Some, None, slice_get, if◌then◌else◌}
 use Rattle.std.specs.String.{string_bytes}
 use Rattle.ti_text.specs.Ascii as ascii
 use Rattle.ti_source.specs.declared.code.Code.{Code}
@@ -15,7 +15,10 @@ use Rattle.tools_sources.specs.Sources.{first_line, source_refusal, source_texts
 use Rattle.tools_sources.specs.declared.source_error.SourceError.{SourceError}
 use Rattle.tools_sources.specs.declared.source_error.SourceError.TheVariants as refusal
 use Rattle.lsp_document.specs.Advice.{advice, block_too_long, too_many_blocks}
-use Rattle.lsp_document.specs.LineTexts.{indent, line_of, width}
+use Rattle.lsp_document.specs.LineTexts.{line_of}
+use Rattle.lsp_document.specs.Marking.{found_for, marked, marked_for}
+use Rattle.lsp_spans.specs.Faulty.{Search}
+use Rattle.lsp_spans.specs.declared.parts.Part.{Part}
 use Rattle.lsp_document.specs.declared.diagnostics.Diagnostic.{Diagnostic}
 use Rattle.lsp_document.specs.declared.diagnostics.Problem.{Problem}
 use Rattle.lsp_document.specs.declared.diagnostics.Problem.TheVariants.{Fault, BlockTooLong, TooManyBlocks}
@@ -46,13 +49,6 @@ pub record Shown : Type 0 where
 abbrev pub diagnostic_seen : Diagnostic → Shown
 diagnostic_seen d = record { range = d.range; problem = d.problem; message = string_bytes d.message }
 
--- a line of that number from its first byte that is no white space to its end
-abbrev pub marked : ℕ → List ℕ → Range
-marked number line = record {
-  start = record { line = number; column = indent line };
-  end = record { line = number; column = width line };
-}
-
 -- what is shown on a line of that number
 abbrev pub shown_on : ℕ → List ℕ → Problem → List ℕ → Shown
 shown_on number line problem message = record { range = marked number line; problem = problem; message = message }
@@ -62,15 +58,22 @@ shown_on number line problem message = record { range = marked number line; prob
 abbrev pub fault_message : Code → Option (List ℕ) → List ℕ
 fault_message code detail = code_name code ++ detail_text detail ++ codes ": " ++ advice code
 
--- the text of the block at that position
-abbrev pub text_at : List (List ℕ) → ℕ → List ℕ
-text_at texts at = option_map_or (λ text. text) (slice_get texts at) []
+-- the diagnostic of a fault that is of a part of its block, in a source whose first block begins on
+-- the line of that number, counted from 1
+abbrev pub fault_diagnostic : List (List ℕ) → ℕ → Option Part → SourceFault → Shown
+fault_diagnostic texts first part fault = record {
+  range = marked_for (line_number texts first fault - 1) (text_at texts fault.block) (fault.line - 1) part;
+  problem = Fault fault.code;
+  message = fault_message fault.code fault.detail;
+}
 
--- the diagnostic of a fault of a source whose first block begins on the line of that number,
--- counted from 1
-abbrev pub fault_diagnostic : List (List ℕ) → ℕ → SourceFault → Shown
-fault_diagnostic texts first fault =
-    shown_on (line_number texts first fault - 1) (line_of (text_at texts fault.block) (fault.line - 1)) (Fault fault.code) (fault_message fault.code fault.detail)
+-- the diagnostics of faults, one by one, each with the part that it is of; `last` is the block of the
+-- fault before them with what the search for its part left
+abbrev pub fault_diagnostics : List (List ℕ) → ℕ → Option (ℕ × Search) → List SourceFault → List Shown
+fault_diagnostics texts first last [] = []
+fault_diagnostics texts first last (fault ∷ faults) =
+    fault_diagnostic texts first (found_for texts last fault).0 fault
+    ∷ fault_diagnostics texts first (Some (fault.block, (found_for texts last fault).1)) faults
 
 -- the diagnostic of a source that is refused, on the line on which the block begins for which it is
 abbrev pub refusal_diagnostic : List ℕ → SourceError → Shown
@@ -79,7 +82,7 @@ refusal_diagnostic text (refusal.TooManyBlocks line) = shown_on (line - 1) (line
 
 -- the diagnostics of a source, by its refusal if it has one
 abbrev pub diagnostics_unless : List ℕ → Option SourceError → List Shown
-diagnostics_unless text None = map (fault_diagnostic (source_texts text) (first_line text)) (faults (readings (source_texts text)))
+diagnostics_unless text None = fault_diagnostics (source_texts text) (first_line text) None (faults (readings (source_texts text)))
 diagnostics_unless text (Some error) = refusal_diagnostic text error ∷ []
 
 -- the diagnostics of a source

@@ -3,6 +3,7 @@ pub mod Position
 pub mod Splicing
 pub mod LineStarts
 pub mod LineTexts
+pub mod Marking
 pub mod Columns
 pub mod Exchanges
 pub mod Documents

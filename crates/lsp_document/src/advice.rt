@@ -14,7 +14,7 @@ pub(crate) fn advice(code: Code) -> &'static str
         Code::NamesTooLong =>
             "The names are over 127 bytes up to the first comma. Shorten them, or put in the comma that is missing.",
         Code::BadNumber =>
-            "This is no number. Write it in decimal, in octal after 0, or in hexadecimal after 0x.",
+            "This is not a number. Write it in decimal, in octal after 0, or in hexadecimal after 0x.",
         Code::NumberTooLarge => "The number is over 2147483647. Write a smaller one.",
         Code::BadString =>
             "The string cannot be read. Write octal escapes up to \\377, and \\^ for a caret that means itself.",
@@ -29,7 +29,8 @@ pub(crate) fn advice(code: Code) -> &'static str
             "No capability has this name, so it is ignored. Upper and lower case differ, and a comma in a string is written \\,.",
         Code::WrongKind =>
             "The capability is of another kind, so it is ignored. Booleans have no sign, numbers #, and strings =.",
-        Code::UnknownEscape => "This backslash makes no escape. Leave it out, or double it.",
+        Code::UnknownEscape =>
+            "This backslash does not begin an escape. Leave it out, or double it.",
         Code::DuplicateName => "An earlier block has this name. Take it out of one of the two.",
     }
 }

@@ -1,20 +1,20 @@
 //! The faults of a document, with their places.
-ghost use Rattle.std.specs.Prelude.{◌≡◌, ◌≤◌, ◌++◌, ◌∷◌, ◌+◌, ◌-◌, ◌^◌, [], length, map, option_map, IfOk, OnOk};
+ghost use Rattle.std.specs.Prelude.{◌≡◌, ◌≤◌, ◌++◌, ◌∷◌, ◌-◌, ◌^◌, [], None, map, option_map, IfOk, OnOk};
 ghost use Rattle.std.specs.Rc.{rc_slice_items};
 ghost use Rattle.std.specs.String.{string_bytes};
 ghost use Rattle.base_meaning.specs.Faults.{fault_seen, faults};
 ghost use Rattle.base_meaning.specs.Owner.{readings};
 ghost use Rattle.base_meaning.specs.Report as report;
-ghost use Rattle.base_meaning.specs.Usable.{IsPlaced};
 ghost use Rattle.tools_sources.specs.Sources.{source_refusal};
 ghost use Rattle.lsp_document.specs.Diagnostics as spec;
-ghost use Rattle.lsp_document.specs.Diagnostics.{diagnostic_seen, diagnostics_of, fault_diagnostic, fault_message, text_at};
+ghost use Rattle.lsp_document.specs.Diagnostics.{diagnostic_seen, diagnostics_of, fault_message};
 ghost use Rattle.lsp_document.specs.Documents.{held};
 ghost use Rattle.lsp_document.specs.LineTexts.{line_of};
 
 use crate::advice::{BLOCK_TOO_LONG, TOO_MANY_BLOCKS, advice};
-use crate::lines::{indent, line_of, width};
-use lsp_types::{Position, Range, Severity};
+use crate::lines::line_of;
+use crate::marking::{mark, marked};
+use lsp_types::{Range, Severity};
 use std::alloc::{AllocError, Global};
 use std::rc::RcSlice;
 use ti_base::{Database, Fault, write_detail};
@@ -58,8 +58,8 @@ impl Problem {
 /// One thing that is wrong with a document, and where.
 #[derive(Debug, Drop)]
 pub struct Diagnostic {
-    /// The part of its line that is shown as faulty, from the first byte that is no white space to
-    /// the end.
+    /// What is shown as faulty: of a fault the item, the name or the names field that it is of, as
+    /// far as that is on its line; else its line, from the first byte that is no white space.
     pub range: Range,
     /// What is wrong.
     pub problem: Problem,
@@ -112,22 +112,6 @@ fn message_of(alloc: Global, fault: &Fault) -> Result<String, AllocError>
     Ok(message)
 }
 
-// The part of a line of that number that is shown as faulty.
-fn marked(number: usize, line: &[u8]) -> Range
-    ensures { result ≡ spec.marked number line.now }
-{
-    Range {
-        start: Position {
-            line: number,
-            column: indent(line),
-        },
-        end: Position {
-            line: number,
-            column: width(line),
-        },
-    }
-}
-
 // The diagnostic of a problem that is shown on a line, of that number.
 fn shown_on(number: usize, line: &[u8], problem: Problem, message: String) -> Diagnostic
     ensures { diagnostic_seen result ≡ spec.shown_on number line.now problem (string_bytes message) }
@@ -139,23 +123,19 @@ fn shown_on(number: usize, line: &[u8], problem: Problem, message: String) -> Di
     }
 }
 
-// The diagnostic of a fault, if so many lines are before its block in the source.
-fn diagnostic_of(
-    alloc: Global,
-    database: &Database,
-    before: usize,
-    fault: &Fault,
-) -> Result<Diagnostic, AllocError>
-    requires placed { IsPlaced (length database.now) (fault_seen fault.now) }
-    requires room { before ≤ 2 ^ 63 + 2 ^ 40 }
-    ensures { IfOk result (λ diagnostic. diagnostic_seen diagnostic
-        ≡ spec.shown_on (before + (fault.now.line - 1)) (line_of (text_at database.now fault.now.block) (fault.now.line - 1))
-        (Problem.Fault fault.now.code) (fault_message fault.now.code (option_map rc_slice_items fault.now.detail))) }
+// The diagnostic of a fault that is shown there.
+fn diagnostic_of(alloc: Global, range: Range, fault: &Fault) -> Result<Diagnostic, AllocError>
+    ensures { IfOk result (λ diagnostic. diagnostic_seen diagnostic ≡ record {
+      range = range;
+      problem = Problem.Fault fault.now.code;
+      message = fault_message fault.now.code (option_map rc_slice_items fault.now.detail);
+    }) }
 {
-    let row = fault.line - 1;
-    let line = line_of(database.text(fault.block), row);
-    let message = message_of(alloc, fault)?;
-    Ok(shown_on(before + row, line, Problem::Fault(fault.code), message))
+    Ok(Diagnostic {
+        range,
+        problem: Problem::Fault(fault.code),
+        message: message_of(alloc, fault)?,
+    })
 }
 
 // The diagnostics of all faults, if the first block begins on the line of that number, counted from
@@ -167,14 +147,17 @@ fn fault_diagnostics(
 ) -> Result<Vec<Diagnostic>, AllocError>
     requires first { 1 ≤ first }
     requires room { first ≤ 2 ^ 63 }
-    ensures { IfOk result (λ all. map diagnostic_seen all.items ≡ map (fault_diagnostic database.now first) (faults (readings database.now))) }
+    ensures { IfOk result (λ all. map diagnostic_seen all.items ≡ spec.fault_diagnostics database.now first None (faults (readings database.now))) }
 {
     let faults = database.faults()?;
     let starts = database.line_starts()?;
     let mut all = Vec::with_capacity(alloc, faults.len())?;
+    let mut last = None;
     for fault in &faults {
         let before = first - 1 + starts[fault.block] as usize;
-        all.push(diagnostic_of(alloc, database, before, fault)?)?;
+        let (range, search) = mark(alloc, database, last, before, fault)?;
+        last = Some(search);
+        all.push(diagnostic_of(alloc, range, fault)?)?;
     }
     Ok(all)
 }

@@ -3,7 +3,9 @@
 //!
 //! - `position`: places in a text by lines and UTF-16 columns
 //! - `splicing`: a text with a part of it exchanged
-//! - `lines`: a line of a text, what of it is shown as faulty, and laws of lines and columns
+//! - `lines`: a line of a text, and laws of lines and columns
+//! - `walking`: the places of offsets, one after another
+//! - `marking`: what of a block is shown as faulty
 //! - `cut`: what two lists of blocks have in common at their ends
 //! - `taking`: whether the blocks of a source are taken, once they are cut
 //! - `exchanging`: the edits that make the blocks of one text those of another
@@ -19,9 +21,11 @@ mod document;
 mod exchanging;
 pub mod laws;
 mod lines;
+mod marking;
 mod position;
 mod splicing;
 mod taking;
+mod walking;
 
 pub use diagnostics::{Diagnostic, Problem, shown_detail};
 pub use document::Document;

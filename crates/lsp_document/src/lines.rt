@@ -1,4 +1,4 @@
-//! A line of a text, and what of it is shown as faulty.
+//! A line of a text.
 ghost use Rattle.std.specs.Prelude.{◌≡◌, ◌≤◌, ◌+◌, length};
 ghost use Rattle.lsp_document.specs.Columns.{ColumnsAreFound, ColumnsHaveOneOffset, PlacesAreMeasured, WidthsAreUtf16};
 ghost use Rattle.lsp_document.specs.LineStarts.{LinesAreFound, LinesHaveOneStart, OtherLinesAreTheEnd};
@@ -7,8 +7,8 @@ ghost use Rattle.lsp_document.specs.LineTexts as spec;
 use crate::position::{ends_line, line_start, units};
 use ti_text::is_white_space;
 
-// The bytes of the line at the beginning of a text, without its end.
-fn first_of(text: &[u8]) -> &[u8]
+/// The bytes of the line at the beginning of a text, without its end.
+pub(crate) fn first_of(text: &[u8]) -> &[u8]
     ensures { result.now ≡ spec.until_end text.now }
 {
     for at in 0..text.len() {

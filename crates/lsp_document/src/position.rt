@@ -72,8 +72,8 @@ pub fn offset_of(text: &[u8], position: Position) -> usize
     start + column_offset(&text[start..], position.column)
 }
 
-// The place after the first byte of a text that begins so far into one, from the place before it.
-fn step_over(text: &[u8], at: usize, place: Position) -> Position
+/// The place after the first byte of a text that begins so far into one, from the place before it.
+pub(crate) fn step_over(text: &[u8], at: usize, place: Position) -> Position
     requires line { place.line ≤ at }
     requires column { place.column ≤ 2 * at }
     requires room { at + 1 < 2 ^ 63 }

@@ -1,5 +1,7 @@
 -- What a completion replaces is a part of the cursor's line.
-use Rattle.std.proofs.Common.{◌≡◌, ℕ, zero, suc, ◌+◌, ◌-◌, ◌<◌, ◌≤◌, ◌==◌, ◌||◌, Bool, true, false, cond, inl, inr, List, [], ◌∷◌, ◌++◌, add-one, drop, get_or, length, map, max, take, Option, None, Some, codes, option_and_then, option_map, refl, sym, subst, ap, ◌∙◌, zero-add, arith}
+use Rattle.std.proofs.Common.{◌≡◌, ℕ, zero, suc, ◌+◌, ◌-◌, ◌<◌, ◌≤◌, ◌==◌, ◌||◌, Bool, true, false, cond, inl, inr, List, [], ◌∷◌, ◌++◌, add-one, drop}
+use Rattle.std.proofs.Common.{get_or, length, map, max, take, Option, None, Some, codes, option_and_then, option_map, refl, sym, subst, ap, ◌∙◌, zero-add}
+use Rattle.std.proofs.Common.{arith}
 use Rattle.std.specs.Prelude.{nat_lt}
 use Rattle.std.specs.List.{list_any}
 use Rattle.std.proofs.lemmas.Bool.{cases_Bool, ltb-false, ltb-true, ne_eqb}
@@ -22,7 +24,8 @@ use Rattle.lsp_blocks.specs.Symbols.{IsUpTo}
 use Rattle.lsp_blocks.specs.declared.spots.Spot.{Spot}
 use Rattle.lsp_blocks.proofs.Selections.{rises_in}
 use Rattle.lsp_features.specs.Completions.{CompletionSeen, CompletionsStayInTheLine, completion_for, completion_in, is_break, last_word}
-use Rattle.lsp_features.proofs.Following.{PartsRise, Rise, drop_rises, front_rises, fronts_rise, halves, items_rise, lines_more, rise_folded, rise_higher, rise_lower, rise_up}
+use Rattle.lsp_features.proofs.Following.{PartsRise, Rise, drop_rises, front_rises, fronts_rise, halves, items_rise, lines_more, rise_folded, rise_higher}
+use Rattle.lsp_features.proofs.Following.{rise_lower, rise_up}
 
 or_no : (a b : Bool) → (a || b) ≡ false → (a ≡ false) × (b ≡ false)
 or_no true b e = absurd cc
@@ -37,7 +40,7 @@ unbroken (byte ∷ bytes) e = rw e refl
 word_by : (byte : ℕ) (bytes : List ℕ) (b : Bool) → list_any is_break (byte ∷ bytes) ≡ b → last_word (byte ∷ bytes) ≡ cond b (suc (last_word bytes)) 0
 word_by byte bytes b e = rw e refl
 
-none_left : (text : List ℕ) → last_word text ≤ 0 → list_any is_break text ≡ false
+pub none_left : (text : List ℕ) → last_word text ≤ 0 → list_any is_break text ≡ false
 none_left [] le = refl
 none_left (byte ∷ bytes) le =
     elim (cases_Bool (list_any is_break (byte ∷ bytes))) [
@@ -45,14 +48,14 @@ none_left (byte ∷ bytes) le =
       | inr whole ↦ whole
     ]
 
-shorter : (byte : ℕ) (bytes : List ℕ) (n : ℕ) → last_word (byte ∷ bytes) ≤ suc n → last_word bytes ≤ n
+pub shorter : (byte : ℕ) (bytes : List ℕ) (n : ℕ) → last_word (byte ∷ bytes) ≤ suc n → last_word bytes ≤ n
 shorter byte bytes n le =
     elim (cases_Bool (list_any is_break (byte ∷ bytes))) [
       | inl broken ↦ let is = word_by byte bytes true broken in omega arith
       | inr whole ↦ let is = unbroken bytes (or_no (is_break byte) (list_any is_break bytes) whole).1 in omega arith
     ]
 
-word_within : (text : List ℕ) → last_word text ≤ length text
+pub word_within : (text : List ℕ) → last_word text ≤ length text
 word_within [] = omega arith
 word_within (byte ∷ bytes) =
     let more = word_within bytes in
@@ -74,10 +77,12 @@ or_more false b c = refl
 
 any-append : (text : List ℕ) (last : ℕ) → list_any is_break (text ++ last ∷ []) ≡ cond (is_break last) true (list_any is_break text)
 any-append [] last = or_unit (is_break last)
-any-append (byte ∷ bytes) last = ap (λ (b : Bool). is_break byte || b) (any-append bytes last) ∙ or_more (is_break byte) (list_any is_break bytes) (is_break last)
+any-append (byte ∷ bytes) last =
+    ap (λ (b : Bool). is_break byte || b) (any-append bytes last) ∙ or_more (is_break byte) (list_any is_break bytes) (is_break last)
 
 more_by : (byte : ℕ) (bytes : List ℕ) (last : ℕ) (now : ℕ) (old broken : Bool) → list_any is_break (byte ∷ bytes) ≡ old
-    → now ≡ cond broken (suc (length bytes)) (last_word bytes) → cond (cond broken true old) (suc now) 0 ≡ cond broken (suc (suc (length bytes))) (last_word (byte ∷ bytes))
+    → now ≡ cond broken (suc (length bytes)) (last_word bytes) → cond (cond broken true old) (suc now) 0
+    ≡ cond broken (suc (suc (length bytes))) (last_word (byte ∷ bytes))
 more_by byte bytes last now old true p e = ap (λ (n : ℕ). suc n) e
 more_by byte bytes last now true false p e = ap (λ (n : ℕ). suc n) e ∙ sym (word_by byte bytes true p)
 more_by byte bytes last now false false p e = sym (word_by byte bytes false p)
@@ -93,7 +98,8 @@ word_more (byte ∷ bytes) last =
 -- ---- lines
 
 step_line : (newline ends : Bool) (place : Position) (n : ℕ)
-    → (cond newline (record { line = place.line + 1; column = 0 }) (cond ends place (record { line = place.line; column = place.column + n }))).line ≡ place.line + cond newline 1 0
+    → (cond newline (record { line = place.line + 1; column = 0 }) (cond ends place (record { line = place.line; column = place.column + n }))).line
+    ≡ place.line + cond newline 1 0
 step_line true ends place n = refl
 step_line false true place n = omega arith
 step_line false false place n = omega arith
@@ -122,7 +128,8 @@ word_line place (byte ∷ bytes) (suc start) (suc offset) le up =
 
 -- ---- the line of a place
 
-column_by : (place : Position) (byte : ℕ) (bytes : List ℕ) (more : ℕ) (b : Bool) → (place_after (step_over (byte ∷ bytes) place) bytes more).line ≡ (step_over (byte ∷ bytes) place).line
+column_by : (place : Position) (byte : ℕ) (bytes : List ℕ) (more : ℕ) (b : Bool) → (place_after (step_over (byte ∷ bytes) place) bytes more).line
+    ≡ (step_over (byte ∷ bytes) place).line
     → (b ≡ false → (byte == 10) ≡ false) → (place_after place (byte ∷ bytes) (cond b 0 (suc more))).line ≡ place.line
 column_by place byte bytes more true e h = refl
 column_by place byte bytes more false e h = let step = step_by byte bytes place false (h refl) in omega (arith, step, e)
@@ -139,7 +146,8 @@ abbrev in_line : List ℕ → ℕ → ℕ → ℕ
 in_line text start column = start + column_offset (drop start text) column
 
 next_by : (place : Position) (byte : ℕ) (bytes : List ℕ) (start column line : ℕ)
-    → (place_after (step_over (byte ∷ bytes) place) bytes (in_line bytes start column)).line ≡ line → (place_after place (byte ∷ bytes) (in_line (byte ∷ bytes) (suc start) column)).line ≡ line
+    → (place_after (step_over (byte ∷ bytes) place) bytes (in_line bytes start column)).line ≡ line
+    → (place_after place (byte ∷ bytes) (in_line (byte ∷ bytes) (suc start) column)).line ≡ line
 next_by place byte bytes start column line e =
     let one : suc start + column_offset (drop start bytes) column ≡ suc (in_line bytes start column) = omega arith in
     ap (λ (n : ℕ). (place_after place (byte ∷ bytes) n).line) one ∙ e
@@ -161,13 +169,15 @@ start_line place (byte ∷ bytes) (suc line) column less =
           let more = lines_more byte bytes ∙ ap (λ (b : Bool). cond b 1 0 + line_count bytes) newline in
           let step = step_by byte bytes place true newline in
           let later = start_line (step_over (byte ∷ bytes) place) bytes line column (omega (arith, less, more)) in
-          ap (λ (n : ℕ). (place_after (step_over (byte ∷ bytes) place) bytes (in_line bytes (line_start bytes n) column)).line) left ∙ omega (arith, step, later)
+          ap (λ (n : ℕ). (place_after (step_over (byte ∷ bytes) place) bytes (in_line bytes (line_start bytes n) column)).line) left
+          ∙ omega (arith, step, later)
       | inr plain ↦
           let left : lines_left (suc line) byte ≡ suc line = ap (λ (b : Bool). cond b (suc line - 1) (suc line)) plain in
           let more = lines_more byte bytes ∙ ap (λ (b : Bool). cond b 1 0 + line_count bytes) plain in
           let step = step_by byte bytes place false plain in
           let later = start_line (step_over (byte ∷ bytes) place) bytes (suc line) column (omega (arith, less, more)) in
-          ap (λ (n : ℕ). (place_after (step_over (byte ∷ bytes) place) bytes (in_line bytes (line_start bytes n) column)).line) left ∙ omega (arith, step, later)
+          ap (λ (n : ℕ). (place_after (step_over (byte ∷ bytes) place) bytes (in_line bytes (line_start bytes n) column)).line) left
+          ∙ omega (arith, step, later)
     ])
 
 offset_line : (text : List ℕ) (place : Position) → place.line < line_count text → (position_of text (offset_of text place)).line ≡ place.line
@@ -184,7 +194,8 @@ record IsIn (blocks : List (List ℕ)) (place : Position) (spot : Spot) : Type 0
   offset : spot.offset ≡ offset_in spot.line (text_at blocks spot.at) place
 
 spot_by : (blocks : List (List ℕ)) (at first : ℕ) (place : Position) (block : List ℕ) (later : Option Spot) (spot : Spot) (before here : Bool)
-    → nat_lt place.line first ≡ before → nat_lt place.line (first + line_count block) ≡ here → text_at blocks at ≡ block → (later ≡ Some spot → IsIn blocks place spot)
+    → nat_lt place.line first ≡ before → nat_lt place.line (first + line_count block) ≡ here → text_at blocks at ≡ block
+    → (later ≡ Some spot → IsIn blocks place spot)
     → cond before None (cond here (Some (record { at = at; line = first; offset = offset_in first block place })) later) ≡ Some spot → IsIn blocks place spot
 spot_by blocks at first place block later spot true here p q is more e = absurd cc
 spot_by blocks at first place block later spot false true p q is more e =
@@ -211,14 +222,16 @@ spot_in blocks place spot at first (block ∷ rest) same e =
 last_rises : (low high : ℕ) (parts : List (List PlacedByte)) → PartsRise low high parts → Rise low high (last_of parts)
 last_rises low high [] r = r
 last_rises low high (part ∷ []) r = rise_higher low r.0 high part r.2 r.1
-last_rises low high (part ∷ (other ∷ parts)) r = rise_lower low r.0 high (last_of (other ∷ parts)) (rise_up low r.0 part r.1) (last_rises r.0 high (other ∷ parts) r.2)
+last_rises low high (part ∷ (other ∷ parts)) r =
+    rise_lower low r.0 high (last_of (other ∷ parts)) (rise_up low r.0 part r.1) (last_rises r.0 high (other ∷ parts) r.2)
 
 start_up : (low end : ℕ) (part : List PlacedByte) → Rise low end part → start_of end part ≤ end
 start_up low end [] r = omega arith
 start_up low end (x ∷ xs) r = let more = rise_up (suc x.1) end xs r.1 in omega arith
 
 word_up : (low end : ℕ) (item : List PlacedByte) (used marked : Bool) (word : Word) → Rise low end item
-    → cond used (Some (record { start = start_of end (without_front (drop 4 item)); used = true })) (cond marked None (Some (record { start = start_of end item; used = false }))) ≡ Some word
+    → cond used (Some (record { start = start_of end (without_front (drop 4 item)); used = true }))
+    (cond marked None (Some (record { start = start_of end item; used = false }))) ≡ Some word
     → word.start ≤ end
 word_up low end item true marked word r e =
     let up = start_up low end (without_front (drop 4 item)) (front_rises low end (drop 4 item) (drop_rises 4 low end item r)) in
@@ -244,11 +257,12 @@ if_some : (b : Bool) (found : Option Word) (word : Word) → cond b found None �
 if_some true found word e = e
 if_some false found word e = absurd cc
 
-word_starts : (text : List ℕ) (word : Word) → word_at_end text ≡ Some word → word.start ≤ length text
+pub word_starts : (text : List ℕ) (word : Word) → word_at_end text ≡ Some word → word.start ≤ length text
 word_starts text word e =
     let up = items_up text in
     let open_line = if_some (is_open false 10 text) (word_of (length text) (folded_of text)) word e in
-    let in_item = if_some (nat_lt (length (field_of (folded_of text))) (length (folded_of text))) (word_in (length text) (last_of (items_of (folded_of text)))) word open_line in
+    let in_item = if_some (nat_lt (length (field_of (folded_of text))) (length (folded_of text)))
+    (word_in (length text) (last_of (items_of (folded_of text)))) word open_line in
     item_word up.0 (length text) (last_of (items_of (folded_of text))) word up.1 in_item
 
 -- ---- what is replaced
@@ -284,7 +298,8 @@ in_the_line blocks place spot word completion is found e =
     (same ∙ end_line, end_line, up)
 
 of_word : (blocks : List (List ℕ)) (place : Position) (spot : Spot) (found : Option Word) (completion : CompletionSeen) → IsIn blocks place spot
-    → word_before (text_at blocks spot.at) spot.offset ≡ found → option_map (completion_for blocks spot.line (text_at blocks spot.at) spot.offset) found ≡ Some completion
+    → word_before (text_at blocks spot.at) spot.offset ≡ found → option_map (completion_for blocks spot.line (text_at blocks spot.at) spot.offset) found
+    ≡ Some completion
     → (completion.range.start.line ≡ place.line) × (completion.range.end.line ≡ place.line) × (completion.range.start.column ≤ completion.range.end.column)
 of_word blocks place spot None completion is p e = absurd cc
 of_word blocks place spot (Some word) completion is p e = in_the_line blocks place spot word completion is p (same_Some _ completion e)

@@ -1,5 +1,6 @@
 -- What is renamed is in the order of the text, and no part of it overlaps another.
-use Rattle.std.proofs.Common.{◌≡◌, ℕ, zero, suc, ◌+◌, ◌-◌, ◌≤◌, ◌==◌, ◌||◌, ◌&&◌, All, Bool, true, false, cond, inl, inr, List, [], ◌∷◌, ◌++◌, drop, filter, flat_map, length, map, take, Option, None, Some, refl, sym, subst, arith}
+use Rattle.std.proofs.Common.{◌≡◌, ℕ, zero, suc, ◌+◌, ◌-◌, ◌≤◌, ◌==◌, ◌||◌, ◌&&◌, All, Bool, true, false, cond, inl, inr, List, [], ◌∷◌, ◌++◌, drop, filter}
+use Rattle.std.proofs.Common.{flat_map, length, map, take, Option, None, Some, refl, sym, subst, arith}
 use Rattle.std.specs.Option.{option_map_or, option_to_list}
 use Rattle.std.specs.Str.{bytes_eq}
 use Rattle.std.specs.List.{list_all}
@@ -53,10 +54,14 @@ rise_either low high false x one other le p q = (le, q)
 
 rise_bytes : (low : ℕ) (text : List ℕ) → Rise low (low + length text) (bytes_at low text)
 rise_bytes low [] = omega arith
-rise_bytes low (byte ∷ bytes) =
-    (omega arith, rise_higher (suc low) (suc low + length bytes) (low + length (byte ∷ bytes)) (bytes_at (suc low) bytes) (omega arith) (rise_bytes (suc low) bytes))
+rise_bytes low (byte ∷ bytes) = (
+  omega arith,
+  rise_higher (suc low) (suc low + length bytes) (low + length (byte ∷ bytes)) (bytes_at (suc low) bytes) (omega arith)
+      (rise_bytes (suc low) bytes),
+)
 
-rise_comments : (low high : ℕ) (comment : Bool) (before : ℕ) (text : List PlacedByte) → Rise low high text → Rise low high (without_comments comment before text)
+rise_comments : (low high : ℕ) (comment : Bool) (before : ℕ) (text : List PlacedByte) → Rise low high text
+    → Rise low high (without_comments comment before text)
 rise_comments low high comment before [] r = r
 rise_comments low high comment before (x ∷ xs) r =
     rise_either low high (in_comment comment before x.0) x (without_comments true x.0 xs) (without_comments false x.0 xs) r.0
@@ -78,7 +83,8 @@ rise_folded block =
 abbrev pub Halves : ℕ → ℕ → List PlacedByte → List PlacedByte → Type 0
 Halves low high front back = (middle : ℕ) × (Rise low middle front) × (Rise middle high back)
 
-halves_by : (low high : ℕ) (b : Bool) (x : PlacedByte) (xs : List PlacedByte) → low ≤ x.1 → Rise (suc x.1) high xs → Halves (suc x.1) high (field_of xs) (rest_of xs)
+halves_by : (low high : ℕ) (b : Bool) (x : PlacedByte) (xs : List PlacedByte) → low ≤ x.1 → Rise (suc x.1) high xs
+    → Halves (suc x.1) high (field_of xs) (rest_of xs)
     → Halves low high (cond b [] (x ∷ field_of xs)) (cond b xs (rest_of xs))
 halves_by low high true x xs le r h = (suc x.1, omega arith, r)
 halves_by low high false x xs le r h = (h.0, (le, h.1), h.2)
@@ -110,7 +116,8 @@ looked_up : (low high : ℕ) (b : Bool) (n : ℕ) (parts : List (List PlacedByte
 looked_up low high true n parts r = r
 looked_up low high false n parts r = parts_take n low high parts r
 
-with_first_rises : (low high : ℕ) (x : PlacedByte) (parts : List (List PlacedByte)) → low ≤ x.1 → PartsRise (suc x.1) high parts → PartsRise low high (with_first x parts)
+with_first_rises : (low high : ℕ) (x : PlacedByte) (parts : List (List PlacedByte)) → low ≤ x.1 → PartsRise (suc x.1) high parts
+    → PartsRise low high (with_first x parts)
 with_first_rises low high x [] le r = (suc x.1, (le, omega arith), r)
 with_first_rises low high x (part ∷ parts) le r = (r.0, (le, r.1), r.2)
 
@@ -131,7 +138,8 @@ items_by : (low high : ℕ) (ends takes : Bool) (x y : PlacedByte) (rest pair on
     → PartsRise (suc x.1) high rest → PartsRise (suc y.1) high pair → PartsRise (suc x.1) high one
     → PartsRise low high (cond ends ([] ∷ rest) (cond takes (with_first x (with_first y pair)) (with_first x one)))
 items_by low high true takes x y rest pair one le less p q r = (suc x.1, omega arith, p)
-items_by low high false true x y rest pair one le less p q r = with_first_rises low high x (with_first y pair) le (with_first_rises (suc x.1) high y pair less q)
+items_by low high false true x y rest pair one le less p q r =
+    with_first_rises low high x (with_first y pair) le (with_first_rises (suc x.1) high y pair less q)
 items_by low high false false x y rest pair one le less p q r = with_first_rises low high x one le r
 
 pub items_rise : (low high before : ℕ) (text : List PlacedByte) → Rise low high text → PartsRise low high (items_after before text)
@@ -143,7 +151,8 @@ items_rise low high before (x ∷ (y ∷ ys)) r =
 
 -- ---- parts of parts
 
-front_by : (low high : ℕ) (b : Bool) (x : PlacedByte) (xs rest : List PlacedByte) → Rise low high (x ∷ xs) → Rise low high rest → Rise low high (cond b rest (x ∷ xs))
+front_by : (low high : ℕ) (b : Bool) (x : PlacedByte) (xs rest : List PlacedByte) → Rise low high (x ∷ xs) → Rise low high rest
+    → Rise low high (cond b rest (x ∷ xs))
 front_by low high true x xs rest r h = h
 front_by low high false x xs rest r h = r
 
@@ -174,7 +183,7 @@ fronts_rise low high (part ∷ parts) r = (r.0, front_rises low r.0 part r.1, fr
 
 -- ---- spans that rise
 
-abbrev SpansRise : ℕ → ℕ → List Part → Type 0
+abbrev pub SpansRise : ℕ → ℕ → List Part → Type 0
 SpansRise low high [] = low ≤ high
 SpansRise low high (span ∷ spans) = (low ≤ span.start) × (span.start ≤ span.end) × (SpansRise span.end high spans)
 
@@ -219,7 +228,8 @@ use_by low high false name r = rise_up low high name r
 item_rises : (low high : ℕ) (item : List PlacedByte) → Rise low high item → SpansRise low high (places_of (use_in (used_name item)))
 item_rises low high item r =
     let value = without_front (drop 4 item) in
-    use_by low high (begins_with (codes "use=") item) (without_end value) (end_rises low high value (front_rises low high (drop 4 item) (drop_rises 4 low high item r)))
+    use_by low high (begins_with (codes "use=") item) (without_end value)
+    (end_rises low high value (front_rises low high (drop 4 item) (drop_rises 4 low high item r)))
 
 uses_rise : (low high : ℕ) (items : List (List PlacedByte)) → PartsRise low high items
     → SpansRise low high (places_of (flat_map (λ item. use_in (used_name item)) items))
@@ -235,21 +245,23 @@ kept_by : (low high : ℕ) (b : Bool) (found : UseSeen) (rest : List UseSeen) �
 kept_by low high true found rest le less r = (le, less, r)
 kept_by low high false found rest le less r = spans_lower low found.span.end high (places_of rest) (omega arith) r
 
-kept_rise : (low high : ℕ) (test : UseSeen → Bool) (uses : List UseSeen) → SpansRise low high (places_of uses) → SpansRise low high (places_of (filter test uses))
+kept_rise : (low high : ℕ) (test : UseSeen → Bool) (uses : List UseSeen) → SpansRise low high (places_of uses)
+    → SpansRise low high (places_of (filter test uses))
 kept_rise low high test [] r = r
 kept_rise low high test (found ∷ uses) r =
     kept_by low high (test found) found (filter test uses) r.0 r.1 (kept_rise found.span.end high test uses r.2)
 
 -- ---- the parts of a block
 
-sought_rise : (blocks : List (List ℕ)) (owner at : ℕ) (name block : List ℕ) → SpansRise 0 (length block) (parts_in blocks (one_name owner name) at block)
+pub sought_rise : (blocks : List (List ℕ)) (owner at : ℕ) (name block : List ℕ) → SpansRise 0 (length block) (parts_in blocks (one_name owner name) at block)
 sought_rise blocks owner at name block =
     let text = folded_of block in
     let end = length block in
     let cut = halves 0 end text (rise_folded block) in
     let names = names_of (field_of text) in
     let named = looked_up 0 cut.0 (length names == 1) (length names - 1) names (names_rise 0 cut.0 (field_of text) cut.1) in
-    let head = span_by 0 cut.0 (owner == at) (own_spans name block) (rise_up 0 cut.0 (field_of text) cut.1) (own_rises 0 cut.0 name (lookup_parts names) named) in
+    let head =
+    span_by 0 cut.0 (owner == at) (own_spans name block) (rise_up 0 cut.0 (field_of text) cut.1) (own_rises 0 cut.0 name (lookup_parts names) named) in
     let items = fronts_rise cut.0 end (items_after 44 (rest_of text)) (items_rise cut.0 end 44 (rest_of text) cut.2) in
     let uses = uses_rise cut.0 end (map without_front (items_after 44 (rest_of text))) items in
     let kept = kept_rise cut.0 end (λ (found : UseSeen). is_sought blocks (one_name owner name) found.name) (uses_of block) uses in
@@ -286,7 +298,8 @@ abbrev IsStart : ℕ → Position → Type 0
 IsStart before place = before ≡ 10 → place.column ≡ 0
 
 step_line : (newline ends : Bool) (place : Position) (n : ℕ)
-    → (cond newline (record { line = place.line + 1; column = 0 }) (cond ends place (record { line = place.line; column = place.column + n }))).line ≡ place.line + cond newline 1 0
+    → (cond newline (record { line = place.line + 1; column = 0 }) (cond ends place (record { line = place.line; column = place.column + n }))).line
+    ≡ place.line + cond newline 1 0
 step_line true ends place n = refl
 step_line false true place n = omega arith
 step_line false false place n = omega arith

@@ -1,7 +1,9 @@
 pub mod Completing
+pub mod Edited
 pub mod Following
 pub mod Naming
 pub mod OnceNamed
 pub mod Printing
 pub mod Renamed
 pub mod Seeking
+pub mod WordReplaced

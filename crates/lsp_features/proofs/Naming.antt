@@ -21,6 +21,7 @@ names_next blocks before now at whole within so e =
     let own = own_names (readings blocks) at (reading_of_text (text_at blocks at)).names in
     let rest = names_from blocks (at + 1) (drop (at + 1) blocks) in
     ap (λ (t : List (List ℕ)). t ++ shown rest) e ∙ append_assoc before (shown own) (shown rest)
-    ∙ ap (λ (t : List (List ℕ)). before ++ t) (sym (ap (map shown_detail) (filter-append can_be_given own rest) ∙ map-append shown_detail (filter can_be_given own) (filter can_be_given rest)))
+    ∙ ap (λ (t : List (List ℕ)). before ++ t)
+    (sym (ap (map shown_detail) (filter-append can_be_given own rest) ∙ map-append shown_detail (filter can_be_given own) (filter can_be_given rest)))
     ∙ ap (λ (n : ℕ). before ++ shown (own ++ names_from blocks n (drop (at + 1) blocks))) (add-one at)
     ∙ ap (λ (t : List (List ℕ)). before ++ shown (names_from blocks at t)) (sym (blocks_more blocks at within)) ∙ so

@@ -1,5 +1,6 @@
 -- The names that are offered are the lookup names of all blocks, each once.
-use Rattle.std.proofs.Common.{◌≡◌, ℕ, suc, ◌||◌, Bool, true, false, cond, not, inl, inr, List, [], ◌∷◌, ◌++◌, Option, None, Some, filter, flat_map, length, nat_eq, refl, sym, subst, ap, append-nil, ◌∙◌, arith}
+use Rattle.std.proofs.Common.{◌≡◌, ℕ, suc, ◌||◌, Bool, true, false, cond, not, inl, inr, List, [], ◌∷◌, ◌++◌, Option, None, Some, filter, flat_map, length}
+use Rattle.std.proofs.Common.{nat_eq, refl, sym, subst, ap, append-nil, ◌∙◌, arith}
 use Rattle.std.specs.Option.{option_map, option_map_or}
 use Rattle.std.specs.Str.{bytes_eq}
 use Rattle.std.proofs.lemmas.Bool.{cases_Bool}
@@ -62,7 +63,8 @@ kept_names p before seen (x ∷ xs) h =
 abbrev names_in : List Reading → List (List ℕ)
 names_in blocks = flat_map (λ (block : Reading). block.names) blocks
 
-later_owner : (at : ℕ) (found : Option ℕ) → option_map_or (λ place. nat_eq place (suc at)) (option_map (λ k. suc k) found) false ≡ option_map_or (λ place. nat_eq place at) found false
+later_owner : (at : ℕ) (found : Option ℕ) → option_map_or (λ place. nat_eq place (suc at)) (option_map (λ k. suc k) found) false
+    ≡ option_map_or (λ place. nat_eq place at) found false
 later_owner at None = refl
 later_owner at (Some place) = eqb-suc-suc place at
 
@@ -80,7 +82,8 @@ is_first (f ∷ front) block rest n e =
 -- ---- the names of all blocks
 
 own_once : (front : List (List ℕ)) (block : List ℕ) (rest : List (List ℕ))
-    → own_names (readings (front ++ block ∷ rest)) (length front) (reading_of_text block).names ≡ distinct_after (lookup_names front) (reading_of_text block).names
+    → own_names (readings (front ++ block ∷ rest)) (length front) (reading_of_text block).names
+    ≡ distinct_after (lookup_names front) (reading_of_text block).names
 own_once front block rest =
     let names = (reading_of_text block).names in
     let cut = map-append reading_of_text front (block ∷ rest) in
@@ -137,7 +140,8 @@ or_none : (b c : Bool) → c ≡ false → (b || (c || false)) ≡ b
 or_none true c e = refl
 or_none false c e = rw e refl
 
-left_seen : (n x : List ℕ) (before seen : List (List ℕ)) → bytes_eq n x ≡ false → is_among n before ≡ is_among n seen → is_among n (before ++ x ∷ []) ≡ is_among n seen
+left_seen : (n x : List ℕ) (before seen : List (List ℕ)) → bytes_eq n x ≡ false → is_among n before ≡ is_among n seen
+    → is_among n (before ++ x ∷ []) ≡ is_among n seen
 left_seen n x before seen off e = list_any-append n before (x ∷ []) ∙ or_none (is_among n before) (bytes_eq n x) off ∙ e
 
 kept_once : (p : List ℕ → Bool) (before seen names : List (List ℕ)) → ((n : List ℕ) → p n ≡ true → is_among n before ≡ is_among n seen)

@@ -1,5 +1,6 @@
 -- What a rename leaves as it is.
-use Rattle.std.proofs.Common.{◌≡◌, ℕ, zero, suc, ◌+◌, ◌==◌, ◌||◌, ◌⊎◌, Bool, true, false, cond, not, inl, inr, List, [], ◌∷◌, length, map, Option, None, Some, slice_get, refl, sym, subst, ap, ◌∙◌, arith}
+use Rattle.std.proofs.Common.{◌≡◌, ℕ, zero, suc, ◌+◌, ◌==◌, ◌||◌, ◌⊎◌, Bool, true, false, cond, not, inl, inr, List, [], ◌∷◌, length, map, Option, None}
+use Rattle.std.proofs.Common.{Some, slice_get, refl, sym, subst, ap, ◌∙◌, arith}
 use Rattle.std.specs.Prelude.{option_and_then}
 use Rattle.std.specs.Option.{option_map, option_map_or}
 use Rattle.std.specs.Str.{bytes_eq}
@@ -16,7 +17,8 @@ use Rattle.base_meaning.specs.Reaching.{Uses, any_use, used_name}
 use Rattle.base_meaning.proofs.Depth.{names_at}
 use Rattle.base_meaning.proofs.Leading.{used-any_use}
 use Rattle.base_meaning.proofs.Owning.{owning, somebody, nobody, nobody_to_none, owner_to_owned}
-use Rattle.lsp_features.specs.Renamed.{AreRenamed, BlocksSayWhatTheyDid, EntriesHoldWhatTheyDid, IsAccepted, IsRenamed, UsesLeadWhereTheyDid, renamed_name, renamed_said}
+use Rattle.lsp_features.specs.Renamed.{AreRenamed, BlocksSayWhatTheyDid, EntriesHoldWhatTheyDid, IsAccepted, IsRenamed, UsesLeadWhereTheyDid, renamed_name}
+use Rattle.lsp_features.specs.Renamed.{renamed_said}
 use Rattle.lsp_features.specs.Renaming.{is_used}
 
 -- ---- names
@@ -84,11 +86,13 @@ owner_as one other ones others n m e f =
     ap (λ (b : Bool). cond b (Some 0) (option_map (λ k. suc k) (owner ones n))) e
     ∙ ap (λ (o : Option ℕ). cond (is_among m other.names) (Some 0) (option_map (λ k. suc k) o)) f
 
-names_other : (name new n : List ℕ) (own : Bool) (block other : Reading) → IsOther name new n → IsRenamed name new own block other → is_among n other.names ≡ is_among n block.names
+names_other : (name new n : List ℕ) (own : Bool) (block other : Reading) → IsOther name new n → IsRenamed name new own block other
+    → is_among n other.names ≡ is_among n block.names
 names_other name new n true block other h r = ap (is_among n) r.names ∙ among_other name new n block.names h
 names_other name new n false block other h r = ap (is_among n) r.names
 
-owner_other : (name new n : List ℕ) (at k : ℕ) (blocks others : List Reading) → IsOther name new n → AreRenamed name new at k blocks others → owner others n ≡ owner blocks n
+owner_other : (name new n : List ℕ) (at k : ℕ) (blocks others : List Reading) → IsOther name new n → AreRenamed name new at k blocks others
+    → owner others n ≡ owner blocks n
 owner_other name new n at k [] [] h r = refl
 owner_other name new n at k [] (other ∷ others) h r = absurd r
 owner_other name new n at k (block ∷ blocks) [] h r = absurd r
@@ -103,7 +107,8 @@ later_is (Some i) j e = (i, refl, same_Some (suc i) j e)
 abbrev IsFree : List Reading → List ℕ → ℕ → Type 0
 IsFree blocks new j = (owner blocks new ≡ None) ⊎ (owner blocks new ≡ Some j)
 
-free_later : (found : Option ℕ) (i : ℕ) → (option_map (λ k. suc k) found ≡ None) ⊎ (option_map (λ k. suc k) found ≡ Some (suc i)) → (found ≡ None) ⊎ (found ≡ Some i)
+free_later : (found : Option ℕ) (i : ℕ) → (option_map (λ k. suc k) found ≡ None) ⊎ (option_map (λ k. suc k) found ≡ Some (suc i)) → (found ≡ None)
+    ⊎ (found ≡ Some i)
 free_later None i h = inl refl
 free_later (Some k) i h =
     elim h [
@@ -111,7 +116,8 @@ free_later (Some k) i h =
       | inr some ↦ let is : suc k ≡ suc i = same_Some (suc k) (suc i) some in inr (ap (λ (n : ℕ). Some n) (omega (arith, is)))
     ]
 
-own_names : (name new : List ℕ) (own : Bool) (block other : Reading) → IsRenamed name new own block other → own ≡ true → other.names ≡ map (renamed_name name new) block.names
+own_names : (name new : List ℕ) (own : Bool) (block other : Reading) → IsRenamed name new own block other → own ≡ true
+    → other.names ≡ map (renamed_name name new) block.names
 own_names name new true block other r e = r.names
 own_names name new false block other r e = absurd cc
 
@@ -140,7 +146,8 @@ owner_new name new at k j (block ∷ blocks) (other ∷ others) r owns place fre
       | inl first ↦
           let is : 0 ≡ j = same_Some 0 j (sym (owner_by block blocks name true first) ∙ owns) in
           let own : (k == at) ≡ true = eq-eqb k at (omega (arith, is, place)) in
-          let there : is_among new other.names ≡ true = ap (is_among new) (own_names name new (k == at) block other r.0 own) ∙ among_new name new block.names first in
+          let there : is_among new other.names ≡ true =
+          ap (is_among new) (own_names name new (k == at) block other r.0 own) ∙ among_new name new block.names first in
           owner_by other others new true there ∙ ap (λ (n : ℕ). Some n) is
       | inr later ↦
           let next = later_is (owner blocks name) j (sym (owner_by block blocks name false later) ∙ owns) in
@@ -164,15 +171,18 @@ not_false : (b : Bool) → not b ≡ false → b ≡ true
 not_false true e = refl
 not_false false e = absurd cc
 
-free_by : (found : Option ℕ) (at : ℕ) (used : Bool) → option_map_or (λ other. not (other == at)) found used ≡ false → ((found ≡ None) × (used ≡ false)) ⊎ (found ≡ Some at)
+free_by : (found : Option ℕ) (at : ℕ) (used : Bool) → option_map_or (λ other. not (other == at)) found used ≡ false → ((found ≡ None) × (used ≡ false))
+    ⊎ (found ≡ Some at)
 free_by None at used e = inl (refl, e)
 free_by (Some other) at used e = inr (ap (λ (n : ℕ). Some n) (eqb-true other at (not_false (other == at) e)))
 
-used_there : (blocks : List Reading) (place : ℕ) (block : Reading) (used : List ℕ) → slice_get blocks place ≡ Some block → Uses block.items used → is_used blocks used ≡ true
+used_there : (blocks : List Reading) (place : ℕ) (block : Reading) (used : List ℕ) → slice_get blocks place ≡ Some block → Uses block.items used
+    → is_used blocks used ≡ true
 used_there [] place block used there u = absurd cc
 used_there (first ∷ blocks) zero block used there u =
     let is : first ≡ block = same_Some first block there in
-    or_left (any_use (bytes_eq used) first.items) (is_used blocks used) (ap (λ (b : Reading). any_use (bytes_eq used) b.items) is ∙ used-any_use used block.items u)
+    or_left (any_use (bytes_eq used) first.items) (is_used blocks used) (ap (λ (b : Reading). any_use (bytes_eq used) b.items) is
+    ∙ used-any_use used block.items u)
 used_there (first ∷ blocks) (suc place) block used there u =
     or_right (any_use (bytes_eq used) first.items) (is_used blocks used) (used_there blocks place block used there u)
 
@@ -221,7 +231,8 @@ record After (name new : List ℕ) (others : List Reading) (place : ℕ) (block 
   there : slice_get others place ≡ Some other
   is : IsRenamed name new own block other
 
-after_at : (name new : List ℕ) (at k : ℕ) (blocks others : List Reading) (place : ℕ) (block : Reading) → AreRenamed name new at k blocks others → slice_get blocks place ≡ Some block
+after_at : (name new : List ℕ) (at k : ℕ) (blocks others : List Reading) (place : ℕ) (block : Reading) → AreRenamed name new at k blocks others
+    → slice_get blocks place ≡ Some block
     → After name new others place block
 after_at name new at k [] others place block r there = absurd cc
 after_at name new at k (first ∷ blocks) [] place block r there = absurd r
@@ -234,7 +245,8 @@ after_at name new at k (first ∷ blocks) (other ∷ others) (suc place) block r
 abbrev Mentions : Type 0
 Mentions = Option (List Mention)
 
-mentions_same : (name new : List ℕ) (f g : List ℕ → Mentions) (said : Said) → ((used : List ℕ) → used_name said ≡ Some used → f (renamed_name name new used) ≡ g used)
+mentions_same : (name new : List ℕ) (f g : List ℕ → Mentions) (said : Said)
+    → ((used : List ℕ) → used_name said ≡ Some used → f (renamed_name name new used) ≡ g used)
     → mentions_of f (renamed_said name new said) ≡ mentions_of g said
 mentions_same name new f g (said_flag c) h = refl
 mentions_same name new f g (said_number c n) h = refl
@@ -280,7 +292,8 @@ module _ (blocks others : List Reading) (at : ℕ) (name new : List ℕ) (a : Is
   expand_same : (depth : ℕ) → SameAt depth
   expand_same zero place own block other there r = refl
   expand_same (suc depth) place own block other there r =
-      let uses = λ (used : List ℕ) (u : Uses block.items used). use_same depth (expand_same depth) used (uses_lead blocks others at name new a place block used there u) in
+      let uses = λ (used : List ℕ) (u : Uses block.items used). use_same depth (expand_same depth) used
+      (uses_lead blocks others at name new a place block used there u) in
       ap (λ (b : Bool). cond b None (expand_items (names_at (owner_block others) depth) other.items)) r.broken
       ∙ ap (λ (m : Mentions). cond (is_broken block) None m)
       (items_same name new (names_at (owner_block others) depth) (names_at (owner_block blocks) depth) block.items other.items r.sayings uses)

@@ -1,7 +1,8 @@
 -- What an editor offers to complete a word with (own; Language Server Protocol 3.17, "Completion
 -- Request").
 use Rattle.ti_text.specs.Ascii as ascii
-use Rattle.std.specs.Prelude.{ℕ, suc, ◌≡◌, ◌≤◌, ◌==◌, ◌||◌, Bool, List, [], ◌∷◌, ◌++◌, filter, flat_map, map, max, take, Option, Some, option_and_then, option_map, if◌then◌else◌}
+use Rattle.std.specs.Prelude.{ℕ, suc, ◌≡◌, ◌+◌, ◌≤◌, ◌==◌, ◌||◌, Bool, false, true, List, [], ◌∷◌, ◌++◌, filter, flat_map, length, map, max, take}
+use Rattle.std.specs.Prelude.{Option, Some, option_and_then, option_map, if◌then◌else◌}
 use Rattle.std.specs.List.{list_any}
 use Rattle.std.specs.String.{string_bytes}
 use Rattle.ti_text.specs.WhiteSpace.{is_white_space}
@@ -18,7 +19,10 @@ use Rattle.lsp_types.specs.declared.places.Position.{Position}
 use Rattle.lsp_types.specs.declared.places.Range.{Range}
 use Rattle.lsp_document.specs.Diagnostics.{text_at}
 use Rattle.lsp_document.specs.Documents.{held}
+use Rattle.lsp_document.specs.Position.{offset_of}
+use Rattle.lsp_document.specs.Splicing.{spliced}
 use Rattle.lsp_blocks.specs.Giving.{can_be_given}
+use Rattle.lsp_blocks.specs.Places.{is_place, missing_newline}
 use Rattle.lsp_blocks.specs.Spots.{range_in, settled, spot_at}
 use Rattle.lsp_blocks.specs.declared.spots.Spot.{Spot}
 use Rattle.lsp_features.specs.declared.completions.Completion.{Completion}
@@ -110,3 +114,31 @@ CompletionsStayInTheLine =
     (text : List ℕ) (place : Position) (completion : CompletionSeen) → completion_of text place ≡ Some completion
     → (completion.range.start.line ≡ (settled text place).line) × (completion.range.end.line ≡ (settled text place).line)
     × (completion.range.start.column ≤ completion.range.end.column)
+
+-- a text once the client has put a name in the place of what a completion replaces
+abbrev pub completed : List ℕ → CompletionSeen → List ℕ → List ℕ
+completed text completion name = spliced text (offset_of text completion.range.start) (offset_of text completion.range.end) name
+
+-- What a completion replaces is a word of the block in which the place is: it ends at the place, and
+-- no byte of it is white space or a newline. The client that puts a name in at the range has the
+-- name in place of the word, and all else as it was, if an editor has a place at each end of the
+-- word. The newline that a text lacks at its end is named, since its blocks are read with it.
+pub record ReplacesWord (text : List ℕ) (place : Position) (completion : CompletionSeen) : Type 0 where
+  pub spot : Spot
+  pub before : List ℕ
+  pub first : List ℕ
+  pub word : List ℕ
+  pub rest : List ℕ
+  pub after : List ℕ
+  pub found : spot_at text place ≡ Some spot
+  pub block : text_at (held text) spot.at ≡ first ++ (word ++ rest)
+  pub whole : text ++ missing_newline text ≡ before ++ (text_at (held text) spot.at ++ after)
+  pub ends_here : length first + length word ≡ spot.offset
+  pub unbroken : list_any is_break word ≡ false
+  pub applied : is_place (text_at (held text) spot.at) (length first) ≡ true → is_place (text_at (held text) spot.at) spot.offset ≡ true
+      → (name : List ℕ) → completed text completion name ++ missing_newline text ≡ before ++ ((first ++ (name ++ rest)) ++ after)
+
+-- each completion does so
+abbrev pub CompletionsReplaceAWord : Type 0
+CompletionsReplaceAWord =
+    (text : List ℕ) (place : Position) (completion : CompletionSeen) → completion_of text place ≡ Some completion → ReplacesWord text place completion

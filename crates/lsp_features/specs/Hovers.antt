@@ -45,7 +45,8 @@ hover_seen hover = record { range = hover.range; about = about_seen hover.about 
 abbrev pub name_told : List ℕ → ℕ → List ℕ → TouchedSeen → HoverSeen
 name_told text line block touched = record {
   range = range_in line block touched.span;
-  about = about_name (shown_detail (name_of touched.subject)) (entry_named text (name_of touched.subject)) (sources_named (held text) (name_of touched.subject));
+  about = about_name (shown_detail (name_of touched.subject)) (entry_named text (name_of touched.subject))
+      (sources_named (held text) (name_of touched.subject));
 }
 
 -- what is told of an item of a capability, which that offset is on

@@ -1,5 +1,6 @@
 -- The definitions that the contracts of this crate cite.
 pub mod Completions
+pub mod Edited
 pub mod Hovers
 pub mod Meanings
 pub mod Names

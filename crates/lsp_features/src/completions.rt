@@ -164,3 +164,12 @@ pub fn names_are_offered_once()
 pub fn completions_stay_in_the_line()
     ensures { spec.CompletionsStayInTheLine }
 {}
+
+/// A law, with no code: a text has, once the client has put a name in at the range of a completion,
+/// the name in place of the word before the cursor, in which no byte is white space or a newline,
+/// and all else as it was, if an editor has a place at each end of the word.
+pub fn completions_replace_a_word()
+    ensures { spec.CompletionsReplaceAWord }
+{
+    lsp_document::laws::held_blocks_fit();
+}

@@ -4,6 +4,7 @@ ghost use Rattle.std.specs.Str.{bytes_eq};
 ghost use Rattle.ti_source.specs.Reading.{item_of, said_of};
 ghost use Rattle.base_meaning.specs.Owner.{owner, readings};
 ghost use Rattle.base_meaning.specs.Reaching.{any_use, use_passes, used_name};
+ghost use Rattle.lsp_features.specs.Edited.{RenamesAreApplied};
 ghost use Rattle.lsp_features.specs.Renamed.{BlocksSayWhatTheyDid, EntriesHoldWhatTheyDid, UsesLeadWhereTheyDid};
 ghost use Rattle.lsp_features.specs.Renaming as spec;
 ghost use Rattle.lsp_features.specs.Renaming.{failure_of, is_taken, is_used, renamed, renaming_seen};
@@ -164,6 +165,15 @@ pub fn renamable_at(
 /// A law, with no code: what is renamed is in the order of the text, and no two parts of it overlap.
 pub fn renamed_parts_follow()
     ensures { spec.RenamedPartsFollow }
+{
+    lsp_document::laws::held_blocks_fit();
+}
+
+/// A law, with no code: the client that makes the edits of a rename that is accepted has each block
+/// with the name exchanged in its head, if it is the owner, and in its uses, if an editor can
+/// exchange each of these parts, and no more and no less; what is before the blocks is as it was.
+pub fn renames_are_applied()
+    ensures { RenamesAreApplied }
 {
     lsp_document::laws::held_blocks_fit();
 }

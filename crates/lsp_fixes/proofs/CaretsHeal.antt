@@ -1,5 +1,6 @@
 -- A string with a `^` at its end that takes nothing, with a backslash before that.
-use Rattle.std.proofs.Common.{◌≡◌, ℕ, suc, ◌-◌, ◌==◌, Bool, true, false, is_ok, Contains, List, [], ◌∷◌, ◌++◌, append_assoc, length, take, Option, None, Some, Result, Ok, Err, refl, sym, ap, subst, inl, inr, arith, ◌∙◌}
+use Rattle.std.proofs.Common.{◌≡◌, ℕ, suc, ◌-◌, ◌==◌, Bool, true, false, is_ok, Contains, List, [], ◌∷◌, ◌++◌, append_assoc, length, take, Option, None}
+use Rattle.std.proofs.Common.{Some, Result, Ok, Err, refl, sym, ap, subst, inl, inr, arith, ◌∙◌}
 use Rattle.std.specs.List.{last_or}
 use Rattle.std.specs.Option.{option_and_then}
 use Rattle.std.proofs.Math.Seq.{take-append_seam}
@@ -13,7 +14,8 @@ use Rattle.ti_spelling.specs.declared.spelling.UnescapeError.{UnescapeError}
 use Rattle.ti_source.specs.Folding.{PlacedByte}
 use Rattle.ti_source.specs.Items.{Claim, HasNoMark, IsEnabled, Statement, bytes, claims_text, text_item}
 use Rattle.ti_source.specs.Reading.{Said, said_text}
-use Rattle.ti_source.specs.Verdicts.{IsReadAs, ReadClaim, Verdict, cancel_read, fitting_verdict, flag_read, is_import, named_verdict, number_read_as, reads_cancel, reads_flag, reads_number, reads_text, refused, said_by, text_read_as, text_verdict, verdict_on}
+use Rattle.ti_source.specs.Verdicts.{IsReadAs, ReadClaim, Verdict, cancel_read, fitting_verdict, flag_read, is_import, named_verdict, number_read_as}
+use Rattle.ti_source.specs.Verdicts.{reads_cancel, reads_flag, reads_number, reads_text, refused, said_by, text_read_as, text_verdict, verdict_on}
 use Rattle.ti_source.specs.declared.code.Code.TheVariants as code
 use Rattle.ti_source.specs.declared.numbers.NumberError.{NumberError}
 use Rattle.ti_source.specs.declared.numbers.NumberError.TheVariants.{Bad, TooLarge}
@@ -72,12 +74,14 @@ number_not read (Some d) e = at read d.kind e
     at (Err TooLarge) Number e = cc
     at r Text e = cc
 
-text_kind : (d : Capability) (raw : List ℕ) (found : Result (List ℕ × Bool) UnescapeError) (k : Kind) → d.kind ≡ k → bad ≡ fitting_verdict d (reads_text raw found) k → d.kind ≡ Text
+text_kind : (d : Capability) (raw : List ℕ) (found : Result (List ℕ × Bool) UnescapeError) (k : Kind) → d.kind ≡ k
+    → bad ≡ fitting_verdict d (reads_text raw found) k → d.kind ≡ Text
 text_kind d raw found Flag is e = cc
 text_kind d raw found Number is e = cc
 text_kind d raw found Text is e = is
 
-text_bad : (name raw : List ℕ) (found : Result (List ℕ × Bool) UnescapeError) → is_import name (claims_text raw) ≡ false → (o : Option Capability) → capability_named name ≡ o
+text_bad : (name raw : List ℕ) (found : Result (List ℕ × Bool) UnescapeError) → is_import name (claims_text raw) ≡ false → (o : Option Capability)
+    → capability_named name ≡ o
     → bad ≡ named_verdict (reads_text raw found) o → IsBadText name (claims_text raw)
 text_bad name raw found other None named e = absurd cc
 text_bad name raw found other (Some d) named e =
@@ -95,12 +99,14 @@ bad_text name _ _ (text_read_as {value = raw} {found = found} spells) e =
 
 -- ---- the text that is read
 
-accepted_text : (c : Capability) (found : Result (List ℕ × Bool) UnescapeError) → is_ok found ≡ true → (said : Said) × (said_by (text_verdict c found) ≡ Some said)
+accepted_text : (c : Capability) (found : Result (List ℕ × Bool) UnescapeError) → is_ok found ≡ true → (said : Said)
+    × (said_by (text_verdict c found) ≡ Some said)
 accepted_text c (Ok (value, true)) e = (said_text c value, refl)
 accepted_text c (Ok (value, false)) e = (said_text c value, refl)
 accepted_text c (Err cause) e = absurd cc
 
-is_accepted : (name rest value : List ℕ) (c : Capability) → HasNoMark name → IsEnabled (name ++ rest) → ((v : List ℕ) → is_import name (claims_text v) ≡ false) → capability_named name ≡ Some c
+is_accepted : (name rest value : List ℕ) (c : Capability) → HasNoMark name → IsEnabled (name ++ rest)
+    → ((v : List ℕ) → is_import name (claims_text v) ≡ false) → capability_named name ≡ Some c
     → c.kind ≡ Text → can_be_read value ≡ true → IsAccepted (name ++ 61 ∷ value)
 is_accepted name rest value c none on other named kind read =
     let said = accepted_text c (unescape_result value) read in
@@ -141,11 +147,13 @@ with_slash front last =
     let joined : bytes (front ++ last ∷ []) ≡ bytes front ++ last.0 ∷ [] = map-append (λ (x : PlacedByte). x.0) front (last ∷ []) in
     let short : length (bytes front ++ last.0 ∷ []) - 1 ≡ length (bytes front) = omega (arith, length-append (bytes front) (last.0 ∷ [])) in
     ap with_backslash joined
-    ∙ ap (λ (n : ℕ). take n (bytes front ++ last.0 ∷ []) ++ 92 ∷ 94 ∷ []) short ∙ ap (λ (t : List ℕ). t ++ 92 ∷ 94 ∷ []) (take-append_seam (bytes front) (last.0 ∷ []))
+    ∙ ap (λ (n : ℕ). take n (bytes front ++ last.0 ∷ []) ++ 92 ∷ 94 ∷ []) short
+    ∙ ap (λ (t : List ℕ). t ++ 92 ∷ 94 ∷ []) (take-append_seam (bytes front) (last.0 ∷ []))
 
 -- ---- each item
 
-in_value : (name raw : List PlacedByte) (mark : PlacedByte) (edit : EditSeen) → IsInOrder (name ++ mark ∷ raw) → Lasts raw → Contains (caret_in (healing_caret raw)) edit
+in_value : (name raw : List PlacedByte) (mark : PlacedByte) (edit : EditSeen) → IsInOrder (name ++ mark ∷ raw) → Lasts raw
+    → Contains (caret_in (healing_caret raw)) edit
     → (can_be_read (with_backslash (bytes raw)) ≡ true) × (edited (name ++ mark ∷ raw) edit ≡ bytes name ++ mark.0 ∷ with_backslash (bytes raw))
 in_value name _ mark edit order no_byte has =
     elim (cases_Bool (can_be_read (with_backslash []))) [ inl t ↦ absurd (no_edit edit (rw t at has)) | inr f ↦ absurd (no_edit edit (rw f at has)) ]
@@ -162,14 +170,16 @@ in_value name _ mark edit order (last_byte_is front last) has =
       | inr f ↦ absurd (no_edit edit (rw f at has))
       | inl t ↦
           let there : Contains (caret_in (option_and_then caret_at (last_or None raw))) edit = rw t at has in
-          let here : Contains (caret_in (caret_at last)) edit = subst (λ (o : Option PlacedByte). Contains (caret_in (option_and_then caret_at o)) edit) (last_found None front last) there in
+          let here : Contains (caret_in (caret_at last)) edit =
+          subst (λ (o : Option PlacedByte). Contains (caret_in (option_and_then caret_at o)) edit) (last_found None front last) there in
           elim (cases_Bool (last.0 == 94)) [
             | inr f ↦ absurd (no_edit edit (rw f at here))
             | inl c ↦ (t, ap (edited (name ++ mark ∷ raw)) (sym (only_edit one edit (rw c at here))) ∙ text)
           ]
     ]
 
-by_marks : (item : List PlacedByte) (edit : EditSeen) → MarkSays item → IsInOrder item → IsRead (bytes item) bad → Contains (carets item) edit → IsAccepted (edited item edit)
+by_marks : (item : List PlacedByte) (edit : EditSeen) → MarkSays item → IsInOrder item → IsRead (bytes item) bad → Contains (carets item) edit
+    → IsAccepted (edited item edit)
 by_marks _ edit (has_mark name raw mark none is) order read has =
     let text = bytes name ++ mark.0 ∷ bytes raw in
     let moved : IsRead text bad = subst (λ (t : List ℕ). IsRead t bad) (bytes_cut name raw mark) read in
@@ -180,14 +190,18 @@ by_marks _ edit (has_mark name raw mark none is) order read has =
     stated.1 ∙ ap (statement_by_mark text) cut.1 ∙ ap (λ (n : List ℕ). statement_with_value n mark.0 (bytes raw)) cut.0 in
     let named : moved.statement.name ≡ bytes name = ap (λ (s : Statement). s.name) states in
     let claim = text_claim (bytes name) (bytes raw) found.raw mark.0 is (ap (λ (s : Statement). s.claim) (sym states) ∙ found.claims) in
-    let value = in_value name raw mark edit order (lasts raw) (subst (λ (r : List PlacedByte). Contains (caret_in (healing_caret r)) edit) (value_cut name raw mark none is) has) in
-    let other : (v : List ℕ) → is_import (bytes name) (claims_text v) ≡ false = λ v. ap (λ (n : List ℕ). is_import n (claims_text v)) (sym named) ∙ found.other in
+    let value = in_value name raw mark edit order (lasts raw)
+    (subst (λ (r : List PlacedByte). Contains (caret_in (healing_caret r)) edit) (value_cut name raw mark none is) has) in
+    let other : (v : List ℕ) → is_import (bytes name) (claims_text v) ≡ false =
+    λ v. ap (λ (n : List ℕ). is_import n (claims_text v)) (sym named) ∙ found.other in
     subst IsAccepted (sym (value.1 ∙ ap (λ (m : ℕ). bytes name ++ m ∷ with_backslash (bytes raw)) claim.0))
-    (is_accepted (bytes name) (mark.0 ∷ bytes raw) (with_backslash (bytes raw)) found.capability none stated.0 other (ap capability_named (sym named) ∙ found.named) found.kind value.0)
+    (is_accepted (bytes name) (mark.0 ∷ bytes raw) (with_backslash (bytes raw)) found.capability none stated.0 other
+    (ap capability_named (sym named) ∙ found.named) found.kind value.0)
 by_marks _ edit (has_none item none) order read has =
     let found = bad_text read.statement.name read.statement.claim read.judges.read read.judges.is_read read.judges.is in
     let core = without_trailing_space (bytes item) in
-    let states : read.statement ≡ plain_statement core = (read_states (bytes item) bad read).1 ∙ ap (statement_by_mark (bytes item)) (no_mark_left (bytes item) none) in
+    let states : read.statement ≡ plain_statement core =
+    (read_states (bytes item) bad read).1 ∙ ap (statement_by_mark (bytes item)) (no_mark_left (bytes item) none) in
     absurd (plain_claim core found.raw (ap (λ (s : Statement). s.claim) (sym states) ∙ found.claims))
 
 pub carets_heal : CaretsHeal

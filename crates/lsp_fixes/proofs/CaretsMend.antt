@@ -1,5 +1,6 @@
 -- A string with a `^` at its end that takes nothing is healed by the backslash that is offered.
-use Rattle.std.proofs.Common.{◌≡◌, ℕ, suc, ◌+◌, ◌==◌, true, Contains, List, [], ◌∷◌, ◌++◌, append_assoc, length, Option, None, Some, take, slice_get, inl, inr, refl, sym, ap, subst, ◌∙◌}
+use Rattle.std.proofs.Common.{◌≡◌, ℕ, suc, ◌+◌, ◌==◌, true, Contains, List, [], ◌∷◌, ◌++◌, append_assoc, length, Option, None, Some, take, slice_get, inl}
+use Rattle.std.proofs.Common.{inr, refl, sym, ap, subst, ◌∙◌}
 use Rattle.std.specs.List.{last_or}
 use Rattle.std.specs.Option.{option_and_then}
 use Rattle.std.proofs.lemmas.Bool.{cases_Bool}
@@ -36,14 +37,16 @@ record IsCaretEdit (value : List PlacedByte) (edit : EditSeen) : Type 0 where
   is : backslashed last ≡ edit
 
 caret_cut : (value : List PlacedByte) (edit : EditSeen) → Lasts value → Contains (caret_in (healing_caret value)) edit → IsCaretEdit value edit
-caret_cut _ edit no_byte has = elim (cases_Bool (can_be_read (with_backslash []))) [ inl t ↦ absurd (no_edit edit (rw t at has)) | inr f ↦ absurd (no_edit edit (rw f at has)) ]
+caret_cut _ edit no_byte has =
+    elim (cases_Bool (can_be_read (with_backslash []))) [ inl t ↦ absurd (no_edit edit (rw t at has)) | inr f ↦ absurd (no_edit edit (rw f at has)) ]
 caret_cut _ edit (last_byte_is front last) has =
     let value = front ++ last ∷ [] in
     elim (cases_Bool (can_be_read (with_backslash (bytes value)))) [
       | inr f ↦ absurd (no_edit edit (rw f at has))
       | inl t ↦
           let there : Contains (caret_in (option_and_then caret_at (last_or None value))) edit = rw t at has in
-          let here : Contains (caret_in (caret_at last)) edit = subst (λ (o : Option PlacedByte). Contains (caret_in (option_and_then caret_at o)) edit) (last_found None front last) there in
+          let here : Contains (caret_in (caret_at last)) edit =
+          subst (λ (o : Option PlacedByte). Contains (caret_in (option_and_then caret_at o)) edit) (last_found None front last) there in
           elim (cases_Bool (last.0 == 94)) [
             | inr f ↦ absurd (no_edit edit (rw f at here))
             | inl c ↦ record { front = front; last = last; whole = refl; is = only_edit (backslashed last) edit (rw c at here) }
@@ -72,7 +75,8 @@ caret_replaces front last was =
     (goes_both nothing 44 front new (goes_front nothing 44 front (last ∷ []) was) (two_go by (last_of 44 front)))
     (λ ends. ap (λ (e : Escape). cuts e 44) (after_both nothing 44 front new) ∙ two_end by (last_of 44 front))
 
-pub carets_mend : (block : List ℕ) (ordinal : ℕ) (item : List PlacedByte) (edit : EditSeen) → OneBlock block → slice_get (items_of (folded_of block)) ordinal ≡ Some item
+pub carets_mend : (block : List ℕ) (ordinal : ℕ) (item : List PlacedByte) (edit : EditSeen) → OneBlock block
+    → slice_get (items_of (folded_of block)) ordinal ≡ Some item
     → fault_at block ordinal ≡ Some code.BadString → Contains (carets item) edit → LosesFault block (block_after block edit) ordinal × Stays block edit
 carets_mend block ordinal item edit single there had has =
     let size = length (written_name item) + 1 in
@@ -80,14 +84,16 @@ carets_mend block ordinal item edit single there had has =
     let front = take size item ++ cut.front in
     let last = cut.last in
     let whole : item ≡ front ++ ((last ∷ []) ++ []) =
-    sym (take-append-drop size item) ∙ ap (λ (t : List PlacedByte). take size item ++ t) cut.whole ∙ sym (append_assoc (take size item) cut.front (last ∷ [])) in
+    sym (take-append-drop size item) ∙ ap (λ (t : List PlacedByte). take size item ++ t) cut.whole
+    ∙ sym (append_assoc (take size item) cut.front (last ∷ [])) in
     let replaces = caret_replaces front last (subst (Goes nothing 44) whole (item_goes (folded_of block) ordinal item there)) in
     let text : edited (front ++ ((last ∷ []) ++ [])) (backslashed last) ≡ bytes front ++ (92 ∷ 94 ∷ []) =
     edited_at (backslashed last) front (last ∷ []) [] (subst IsInOrder whole (item_in_order block ordinal item there)) refl in
     let moved = subst (λ (i : List PlacedByte). Replaces i (backslashed last).part (92 ∷ 94 ∷ []) (edited i (backslashed last))) (sym whole)
     (subst (Replaces (front ++ ((last ∷ []) ++ [])) (backslashed last).part (92 ∷ 94 ∷ [])) (sym text) replaces) in
     let is = subst (λ (e : EditSeen). Replaces item e.part e.text (edited item e)) cut.is moved in (
-      loses_caret block (block_after block edit) ordinal (edited item edit) had (item_changes block ordinal item edit.part edit.text (edited item edit) single there is)
+      loses_caret block (block_after block edit) ordinal (edited item edit) had
+          (item_changes block ordinal item edit.part edit.text (edited item edit) single there is)
           (carets_heal item edit (item_in_order block ordinal item there) (refused_item block ordinal item code.BadString there had (λ e. cc)) has),
       replaced_part block ordinal item edit.part edit.text (edited item edit) single there is,
     )

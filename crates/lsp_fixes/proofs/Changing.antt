@@ -32,12 +32,14 @@ item_changes block ordinal item part new text single there replaces =
       texts = one.0;
       head = one.1;
       reads = λ verdict read.
-          new_read block ordinal item part new text verdict single there replaces (record { statement = read.statement; states = read.states; judges = read.judges });
+          new_read block ordinal item part new text verdict single there replaces
+          (record { statement = read.statement; states = read.states; judges = read.judges });
       others = others_read block ordinal item part new text single there replaces;
     }
 
 -- what another text of an item makes of a block
-pub changes_by_texts : (block after : List ℕ) (ordinal : ℕ) (item : List PlacedByte) (text : List ℕ) → slice_get (items_of (folded_of block)) ordinal ≡ Some item
+pub changes_by_texts : (block after : List ℕ) (ordinal : ℕ) (item : List PlacedByte) (text : List ℕ)
+    → slice_get (items_of (folded_of block)) ordinal ≡ Some item
     → item_texts after ≡ slice_set (item_texts block) ordinal text → head_text after ≡ head_text block → OneItemChanges block after ordinal text
 unfolding verdict_in
 changes_by_texts block after ordinal item text there texts head =
@@ -53,9 +55,11 @@ changes_by_texts block after ordinal item text there texts head =
           ap (option_map (λ (s : Statement). verdict_of s.name s.claim)) (sym (one_statement text (Some read.statement) read.states))
           ∙ ap (λ (v : Verdict). Some v) (sym (one_verdict read.statement.name read.statement.claim verdict read.judges)) in
           record {
-            says = said_is after ordinal ∙ ap (λ (o : Option (List ℕ)). option_and_then said_by (option_and_then verdict_in o)) got ∙ ap (option_and_then said_by) by;
+            says = said_is after ordinal ∙ ap (λ (o : Option (List ℕ)). option_and_then said_by (option_and_then verdict_in o)) got
+                ∙ ap (option_and_then said_by) by;
             fault = λ c e. only_code (code_by verdict) c
-                (sym (fault_is after ordinal ∙ ap (λ (o : Option (List ℕ)). option_and_then fault_by (option_and_then verdict_in o)) got ∙ ap (option_and_then fault_by) by) ∙ e);
+                (sym (fault_is after ordinal ∙ ap (λ (o : Option (List ℕ)). option_and_then fault_by (option_and_then verdict_in o)) got
+                ∙ ap (option_and_then fault_by) by) ∙ e);
           };
       others = λ at apart. (
         said_is after at ∙ ap (λ (o : Option (List ℕ)). option_and_then said_by (option_and_then verdict_in o)) (other at apart) ∙ sym (said_is block at),
@@ -72,7 +76,8 @@ visible_item text ordinal (x ∷ xs) there =
     let found = found_raw (slice_get raws ordinal) (x ∷ xs) (sym (slice_get-map without_front raws ordinal) ∙ there) in
     begins_visible found.0 x xs found.2
 
-text_there : (block : List ℕ) (ordinal : ℕ) (item : List PlacedByte) → slice_get (items_of (folded_of block)) ordinal ≡ Some item → slice_get (item_texts block) ordinal ≡ Some (bytes item)
+text_there : (block : List ℕ) (ordinal : ℕ) (item : List PlacedByte) → slice_get (items_of (folded_of block)) ordinal ≡ Some item
+    → slice_get (item_texts block) ordinal ≡ Some (bytes item)
 text_there block ordinal item there = slice_get-map bytes (items_of (folded_of block)) ordinal ∙ ap (option_map bytes) there
 
 -- the verdict on an item, by which it is read in its block
@@ -92,7 +97,8 @@ by_statement block ordinal text c (Some s) states says e = (
 )
 
 -- that of an item with a fault
-pub faulty_item : (block : List ℕ) (ordinal : ℕ) (item : List PlacedByte) (c : Code) → slice_get (items_of (folded_of block)) ordinal ≡ Some item → fault_at block ordinal ≡ Some c
+pub faulty_item : (block : List ℕ) (ordinal : ℕ) (item : List PlacedByte) (c : Code) → slice_get (items_of (folded_of block)) ordinal ≡ Some item
+    → fault_at block ordinal ≡ Some c
     → (verdict : Verdict) × IsVerdict block ordinal (bytes item) verdict × (code_by verdict ≡ Some c)
 unfolding verdict_in
 faulty_item block ordinal item c there had =
@@ -102,12 +108,14 @@ faulty_item block ordinal item c there had =
     (sym (ap (λ (o : Option (List ℕ)). option_and_then fault_by (option_and_then verdict_in o)) got) ∙ sym (fault_is block ordinal) ∙ had)
 
 -- what is said of an item, by the verdict on it
-pub said_item : (block : List ℕ) (ordinal : ℕ) (item : List PlacedByte) (verdict : Verdict) → slice_get (items_of (folded_of block)) ordinal ≡ Some item → IsRead (bytes item) verdict
+pub said_item : (block : List ℕ) (ordinal : ℕ) (item : List PlacedByte) (verdict : Verdict) → slice_get (items_of (folded_of block)) ordinal ≡ Some item
+    → IsRead (bytes item) verdict
     → said_at block ordinal ≡ said_by verdict
 unfolding verdict_in
 said_item block ordinal item verdict there read =
     said_is block ordinal ∙ ap (λ (o : Option (List ℕ)). option_and_then said_by (option_and_then verdict_in o)) (text_there block ordinal item there)
-    ∙ ap (λ (o : Option Statement). option_and_then said_by (option_map (λ (s : Statement). verdict_of s.name s.claim) o)) (sym (one_statement (bytes item) (Some read.statement) read.states))
+    ∙ ap (λ (o : Option Statement). option_and_then said_by (option_map (λ (s : Statement). verdict_of s.name s.claim) o))
+    (sym (one_statement (bytes item) (Some read.statement) read.states))
     ∙ ap said_by (sym (one_verdict read.statement.name read.statement.claim verdict read.judges))
 
 -- an item whose fault is none of an odd escape is refused
@@ -116,7 +124,8 @@ refused_by (accepted said) c e other = absurd cc
 refused_by (accepted_odd said) c e other = let is : code.UnknownEscape ≡ c = cc in absurd (other (sym is))
 refused_by (refused d) c e other = let is : d ≡ c = cc in ap refused is
 
-pub refused_item : (block : List ℕ) (ordinal : ℕ) (item : List PlacedByte) (c : Code) → slice_get (items_of (folded_of block)) ordinal ≡ Some item → fault_at block ordinal ≡ Some c
+pub refused_item : (block : List ℕ) (ordinal : ℕ) (item : List PlacedByte) (c : Code) → slice_get (items_of (folded_of block)) ordinal ≡ Some item
+    → fault_at block ordinal ≡ Some c
     → c ≢ code.UnknownEscape → IsRead (bytes item) (refused c)
 refused_item block ordinal item c there had other =
     let found = faulty_item block ordinal item c there had in
@@ -127,7 +136,8 @@ refused_item block ordinal item c there had other =
 code_of_refused : (verdict : Verdict) (c : Code) → code_by verdict ≡ Some c → verdict ≢ refused c → c ≢ code.UnknownEscape → ⊥
 code_of_refused verdict c e not other = not (refused_by verdict c e other)
 
-pub loses_unknown : (block after : List ℕ) (ordinal : ℕ) (text : List ℕ) → fault_at block ordinal ≡ Some code.UnknownCapability → OneItemChanges block after ordinal text → IsOfCapability text
+pub loses_unknown : (block after : List ℕ) (ordinal : ℕ) (text : List ℕ) → fault_at block ordinal ≡ Some code.UnknownCapability
+    → OneItemChanges block after ordinal text → IsOfCapability text
     → LosesFault block after ordinal
 loses_unknown block after ordinal text had changes is = record {
   code = code.UnknownCapability;
@@ -138,7 +148,8 @@ loses_unknown block after ordinal text had changes is = record {
   mended = is;
 }
 
-pub loses_kind : (block after : List ℕ) (ordinal : ℕ) (text : List ℕ) → fault_at block ordinal ≡ Some code.WrongKind → OneItemChanges block after ordinal text → IsOfCapability text
+pub loses_kind : (block after : List ℕ) (ordinal : ℕ) (text : List ℕ) → fault_at block ordinal ≡ Some code.WrongKind
+    → OneItemChanges block after ordinal text → IsOfCapability text
     → LosesFault block after ordinal
 loses_kind block after ordinal text had changes is = record {
   code = code.WrongKind;
@@ -152,7 +163,8 @@ loses_kind block after ordinal text had changes is = record {
 accepted_not : (verdict : Verdict) (said : Said) (c : Code) → said_by verdict ≡ Some said → verdict ≢ refused c
 accepted_not verdict said c accepts e = let no = ap said_by e in cc
 
-pub loses_caret : (block after : List ℕ) (ordinal : ℕ) (text : List ℕ) → fault_at block ordinal ≡ Some code.BadString → OneItemChanges block after ordinal text → IsAccepted text
+pub loses_caret : (block after : List ℕ) (ordinal : ℕ) (text : List ℕ) → fault_at block ordinal ≡ Some code.BadString
+    → OneItemChanges block after ordinal text → IsAccepted text
     → LosesFault block after ordinal
 loses_caret block after ordinal text had changes is =
     let read = changes.reads is.verdict is.is_read in
@@ -160,7 +172,8 @@ loses_caret block after ordinal text had changes is =
       code = code.BadString;
       text = text;
       had = had;
-      gone = λ e. code_of_refused is.verdict code.BadString (read.fault code.BadString e) (accepted_not is.verdict is.said code.BadString is.accepts) (λ same. cc);
+      gone = λ e. code_of_refused is.verdict code.BadString (read.fault code.BadString e) (accepted_not is.verdict is.said code.BadString is.accepts)
+          (λ same. cc);
       changes = changes;
       mended = (is.said, read.says ∙ is.accepts);
     }
@@ -176,7 +189,8 @@ no_fault block after ordinal text said changes is =
     let read = changes.reads (accepted said) is in
     (read.says, none_is (fault_at after ordinal) (λ c e. let no = read.fault c e in cc))
 
-pub loses_escape : (block after : List ℕ) (ordinal : ℕ) (text : List ℕ) (said : Said) → fault_at block ordinal ≡ Some code.UnknownEscape → said_at block ordinal ≡ Some said
+pub loses_escape : (block after : List ℕ) (ordinal : ℕ) (text : List ℕ) (said : Said) → fault_at block ordinal ≡ Some code.UnknownEscape
+    → said_at block ordinal ≡ Some said
     → OneItemChanges block after ordinal text → IsRead text (accepted said) → LosesFault block after ordinal
 loses_escape block after ordinal text said had says changes is =
     let now = no_fault block after ordinal text said changes is in

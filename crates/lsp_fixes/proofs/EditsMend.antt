@@ -1,5 +1,6 @@
 -- Each edit that is offered for an item of a block heals the item.
-use Rattle.std.proofs.Common.{◌≡◌, ℕ, ◌==◌, All, true, Contains, List, [], ◌∷◌, Option, None, Some, get_or, is_none, slice_get, inl, inr, refl, sym, ap, subst, ◌∙◌, suc}
+use Rattle.std.proofs.Common.{◌≡◌, ℕ, ◌==◌, All, true, Contains, List, [], ◌∷◌, Option, None, Some, get_or, is_none, slice_get, inl, inr, refl, sym, ap}
+use Rattle.std.proofs.Common.{subst, ◌∙◌, suc}
 use Rattle.std.specs.List.{find}
 use Rattle.std.specs.Option.{option_and_then, option_map}
 use Rattle.std.proofs.lemmas.Bool.{cases_Bool}
@@ -65,7 +66,8 @@ record IsOddItem (text value : List ℕ) : Type 0 where
   capability : Capability
   read : IsRead text (accepted_odd (said_text capability value))
 
-odd_item : (block : List ℕ) (ordinal : ℕ) (item : List PlacedByte) (value : List ℕ) → slice_get (items_of (folded_of block)) ordinal ≡ Some item → fault_at block ordinal ≡ Some code.UnknownEscape
+odd_item : (block : List ℕ) (ordinal : ℕ) (item : List PlacedByte) (value : List ℕ) → slice_get (items_of (folded_of block)) ordinal ≡ Some item
+    → fault_at block ordinal ≡ Some code.UnknownEscape
     → value_at ordinal (reading_of_text block).items ≡ Some value → IsOddItem (bytes item) value
 odd_item block ordinal item value there had is =
     let said = value_said (find (λ (i : ReadItem). i.ordinal == ordinal) (reading_of_text block).items) value is in
@@ -75,15 +77,18 @@ odd_item block ordinal item value there had is =
 
 -- ---- an item with a fault
 
-by_value : ValuesAreSound → WrittenSpells → (block : List ℕ) (ordinal : ℕ) (item : List PlacedByte) (edit : EditSeen) (v : Option (List ℕ)) → OneBlock block → AreBytes block
-    → slice_get (items_of (folded_of block)) ordinal ≡ Some item → fault_at block ordinal ≡ Some code.UnknownEscape → value_at ordinal (reading_of_text block).items ≡ v
+by_value : ValuesAreSound → WrittenSpells → (block : List ℕ) (ordinal : ℕ) (item : List PlacedByte) (edit : EditSeen) (v : Option (List ℕ)) → OneBlock block
+    → AreBytes block
+    → slice_get (items_of (folded_of block)) ordinal ≡ Some item → fault_at block ordinal ≡ Some code.UnknownEscape
+    → value_at ordinal (reading_of_text block).items ≡ v
     → Contains (edits_for item (Some code.UnknownEscape) v) edit → LosesFault block (block_after block edit) ordinal × Stays block edit
 by_value sound writes block ordinal item edit None single are there had is has = absurd (no_edit edit has)
 by_value sound writes block ordinal item edit (Some value) single are there had is has =
     let odd = odd_item block ordinal item value there had is in
     spellings_heal sound writes block ordinal item odd.capability value edit single (item_bytes block ordinal item are there) there had odd.read has
 
-by_code : ValuesAreSound → WrittenSpells → (block : List ℕ) (ordinal : ℕ) (item : List PlacedByte) (edit : EditSeen) (o : Option Code) → OneBlock block → AreBytes block
+by_code : ValuesAreSound → WrittenSpells → (block : List ℕ) (ordinal : ℕ) (item : List PlacedByte) (edit : EditSeen) (o : Option Code) → OneBlock block
+    → AreBytes block
     → slice_get (items_of (folded_of block)) ordinal ≡ Some item → fault_at block ordinal ≡ o
     → Contains (edits_for item o (value_at ordinal (reading_of_text block).items)) edit → LosesFault block (block_after block edit) ordinal × Stays block edit
 by_code sound writes block ordinal item edit None single are there had has = absurd (no_edit edit has)
@@ -112,7 +117,8 @@ record IsGivenAt (name : List PlacedByte) (edit : EditSeen) : Type 0 where
   there : spanned name ≡ Some edit.part
   given : IsGiven edit.text
 
-given_at : (blocks : List (List ℕ)) (own : ℕ) (name : List PlacedByte) (edit : EditSeen) → Contains (renames name (given_names blocks own)) edit → IsGivenAt name edit
+given_at : (blocks : List (List ℕ)) (own : ℕ) (name : List PlacedByte) (edit : EditSeen) → Contains (renames name (given_names blocks own)) edit
+    → IsGivenAt name edit
 given_at blocks own [] edit has = absurd (no_edit edit has)
 given_at blocks own (v ∷ vs) edit has =
     let part : Part = record { start = v.1; end = end_of (suc v.1) vs } in
@@ -122,7 +128,8 @@ given_at blocks own (v ∷ vs) edit has =
     let is = given other (filter_passes can_be_given (other_names blocks own) index d within) in
     record { there = refl; given = subst IsGiven (sym is.is_shown) is }) has
 
-by_use : EachIsWellRead → (blocks : List (List ℕ)) (at ordinal : ℕ) (item : List PlacedByte) (edit : EditSeen) (o : Option (List PlacedByte)) → All OneBlock blocks → OneBlock (text_at blocks at)
+by_use : EachIsWellRead → (blocks : List (List ℕ)) (at ordinal : ℕ) (item : List PlacedByte) (edit : EditSeen) (o : Option (List PlacedByte))
+    → All OneBlock blocks → OneBlock (text_at blocks at)
     → slice_get (items_of (folded_of (text_at blocks at))) ordinal ≡ Some item → used_name item ≡ o → Contains (used_edits blocks at o) edit
     → GetsOwner blocks at (text_at blocks at) (block_after (text_at blocks at) edit) ordinal × Stays (text_at blocks at) edit
 by_use well blocks at ordinal item edit None all single there is has = absurd (no_edit edit has)
@@ -157,7 +164,8 @@ pub edits_mend : ValuesAreSound → WrittenSpells → EachIsWellRead → EditsHe
 edits_mend sound writes well blocks at ordinal item edit all within are there has =
     let block = text_at blocks at in
     let single : OneBlock block = subst OneBlock (sym (text_got blocks at within)) (all at [] within) in
-    elim (Contains-append_cases (edits_for item (fault_at block ordinal) (value_at ordinal (reading_of_text block).items)) (used_edits blocks at (used_name item)) edit has) [
+    elim (Contains-append_cases (edits_for item (fault_at block ordinal) (value_at ordinal (reading_of_text block).items))
+    (used_edits blocks at (used_name item)) edit has) [
       | inl first ↦ let mended = by_code sound writes block ordinal item edit (fault_at block ordinal) single are there refl first in (inl mended.0, mended.1)
       | inr second ↦ let mended = by_use well blocks at ordinal item edit (used_name item) all single there refl second in (inr mended.0, mended.1)
     ]

@@ -1,5 +1,6 @@
 -- An item, once its block is edited.
-use Rattle.std.proofs.Common.{◌≡◌, ℕ, zero, suc, Contains, get_or, length, ◌<◌, ◌≤◌, Bool, true, false, List, [], ◌∷◌, ◌++◌, append_assoc, filter, map, nat_le, nat_lt, Some, refl, ap, arith, subst, ◌∙◌}
+use Rattle.std.proofs.Common.{◌≡◌, ℕ, zero, suc, Contains, get_or, length, ◌<◌, ◌≤◌, Bool, true, false, List, [], ◌∷◌, ◌++◌, append_assoc, filter, map}
+use Rattle.std.proofs.Common.{nat_le, nat_lt, Some, refl, ap, arith, subst, ◌∙◌}
 use Rattle.std.specs.List.{AllByRecursion}
 use Rattle.std.proofs.lemmas.Bool.{le-leb, le-ltb, lt-leb, lt-ltb}
 use Rattle.std.proofs.lemmas.List.{append-nil}
@@ -30,10 +31,12 @@ mapped : (P Q : PlacedByte → Type 0) (xs : List PlacedByte) → ((x : PlacedBy
 mapped P Q [] f all = tt
 mapped P Q (x ∷ xs) f all = (f x all.0, mapped P Q xs f all.1)
 
-three_filtered : (p : PlacedByte → Bool) (front middle back : List PlacedByte) → filter p (front ++ (middle ++ back)) ≡ filter p front ++ (filter p middle ++ filter p back)
+three_filtered : (p : PlacedByte → Bool) (front middle back : List PlacedByte) → filter p (front ++ (middle ++ back)) ≡ filter p front
+    ++ (filter p middle ++ filter p back)
 three_filtered p front middle back = filter-append p front (middle ++ back) ∙ ap (λ (t : List PlacedByte). filter p front ++ t) (filter-append p middle back)
 
-front_kept : (start end : ℕ) (front middle back : List PlacedByte) → IsCutAt start end front middle back → filter (λ (x : PlacedByte). nat_lt x.1 start) (front ++ (middle ++ back)) ≡ front
+front_kept : (start end : ℕ) (front middle back : List PlacedByte) → IsCutAt start end front middle back
+    → filter (λ (x : PlacedByte). nat_lt x.1 start) (front ++ (middle ++ back)) ≡ front
 front_kept start end front middle back cut =
     let p : PlacedByte → Bool = λ x. nat_lt x.1 start in
     three_filtered p front middle back
@@ -44,7 +47,8 @@ front_kept start end front middle back cut =
     )
     (append-nil front))
 
-back_kept : (start end : ℕ) (front middle back : List PlacedByte) → IsCutAt start end front middle back → filter (λ (x : PlacedByte). nat_le end x.1) (front ++ (middle ++ back)) ≡ back
+back_kept : (start end : ℕ) (front middle back : List PlacedByte) → IsCutAt start end front middle back
+    → filter (λ (x : PlacedByte). nat_le end x.1) (front ++ (middle ++ back)) ≡ back
 back_kept start end front middle back cut =
     let p : PlacedByte → Bool = λ x. nat_le end x.1 in
     three_filtered p front middle back
@@ -66,7 +70,8 @@ rising_parts : (front : List PlacedByte) (x : PlacedByte) (back : List PlacedByt
     → AllByRecursion (λ (y : PlacedByte). y.1 < x.1) front × AllByRecursion (λ (y : PlacedByte). x.1 < y.1) back × IsInOrder (x ∷ back)
 rising_parts [] x back order = (tt, unmapped back order.0, order)
   where
-    unmapped : (xs : List PlacedByte) → AllByRecursion (λ (n : ℕ). x.1 < n) (map (λ (y : PlacedByte). y.1) xs) → AllByRecursion (λ (y : PlacedByte). x.1 < y.1) xs
+    unmapped : (xs : List PlacedByte) → AllByRecursion (λ (n : ℕ). x.1 < n) (map (λ (y : PlacedByte). y.1) xs)
+        → AllByRecursion (λ (y : PlacedByte). x.1 < y.1) xs
     unmapped [] all = tt
     unmapped (y ∷ ys) all = (all.0, unmapped ys all.1)
 rising_parts (y ∷ ys) x back order =
@@ -88,17 +93,20 @@ one_byte front x back order =
       forward = omega arith;
     }
 
-all_before_end : (x : PlacedByte) (xs : List PlacedByte) → IsInOrder (x ∷ xs) → AllByRecursion (λ (y : PlacedByte). (x.1 ≤ y.1) × (y.1 < end_of (suc x.1) xs)) (x ∷ xs)
+all_before_end : (x : PlacedByte) (xs : List PlacedByte) → IsInOrder (x ∷ xs)
+    → AllByRecursion (λ (y : PlacedByte). (x.1 ≤ y.1) × (y.1 < end_of (suc x.1) xs)) (x ∷ xs)
 all_before_end x [] order = ((omega arith, omega arith), tt)
 all_before_end x (y ∷ ys) order =
     let later = all_before_end y ys order.1 in
     let next : x.1 < y.1 = order.0.0 in (
       (omega arith, let l = later.0.1 in omega (arith, l, next)),
-      mapped (λ z. (y.1 ≤ z.1) × (z.1 < end_of (suc y.1) ys)) (λ z. (x.1 ≤ z.1) × (z.1 < end_of (suc y.1) ys)) (y ∷ ys) (λ z l. (let a = l.0 in omega (arith, a, next), l.1)) later,
+      mapped (λ z. (y.1 ≤ z.1) × (z.1 < end_of (suc y.1) ys)) (λ z. (x.1 ≤ z.1) × (z.1 < end_of (suc y.1) ys)) (y ∷ ys)
+          (λ z l. (let a = l.0 in omega (arith, a, next), l.1)) later,
     )
 
 -- what is left from a byte on
-pub all_left : (front : List PlacedByte) (x : PlacedByte) (xs : List PlacedByte) → IsInOrder (front ++ x ∷ xs) → IsCutAt x.1 (end_of (suc x.1) xs) front (x ∷ xs) []
+pub all_left : (front : List PlacedByte) (x : PlacedByte) (xs : List PlacedByte) → IsInOrder (front ++ x ∷ xs)
+    → IsCutAt x.1 (end_of (suc x.1) xs) front (x ∷ xs) []
 all_left front x xs order =
     let parts = rising_parts front x xs order in
     let within = all_before_end x xs parts.2 in
@@ -110,7 +118,8 @@ all_left front x xs order =
     }
 
 -- what a text begins with
-mapped_offsets : (n : ℕ) (xs ys : List PlacedByte) → AllByRecursion (λ (m : ℕ). n < m) (map (λ (y : PlacedByte). y.1) (xs ++ ys)) → AllByRecursion (λ (m : ℕ). n < m) (map (λ (y : PlacedByte). y.1) xs)
+mapped_offsets : (n : ℕ) (xs ys : List PlacedByte) → AllByRecursion (λ (m : ℕ). n < m) (map (λ (y : PlacedByte). y.1) (xs ++ ys))
+    → AllByRecursion (λ (m : ℕ). n < m) (map (λ (y : PlacedByte). y.1) xs)
 mapped_offsets n [] ys all = tt
 mapped_offsets n (x ∷ xs) ys all = (all.0, mapped_offsets n xs ys all.1)
 
@@ -121,7 +130,8 @@ front_rises (x ∷ xs) ys order = (mapped_offsets x.1 xs ys order.0, front_rises
 past_end : (x : PlacedByte) (xs ys : List PlacedByte) → IsInOrder (x ∷ (xs ++ ys)) → AllByRecursion (λ (y : PlacedByte). end_of (suc x.1) xs ≤ y.1) ys
 past_end x [] ys order = after ys order.0
   where
-    after : (zs : List PlacedByte) → AllByRecursion (λ (m : ℕ). x.1 < m) (map (λ (z : PlacedByte). z.1) zs) → AllByRecursion (λ (z : PlacedByte). suc x.1 ≤ z.1) zs
+    after : (zs : List PlacedByte) → AllByRecursion (λ (m : ℕ). x.1 < m) (map (λ (z : PlacedByte). z.1) zs)
+        → AllByRecursion (λ (z : PlacedByte). suc x.1 ≤ z.1) zs
     after [] all = tt
     after (z ∷ zs) all = (let l = all.0 in omega (arith, l), after zs all.1)
 past_end x (y ∷ ys) zs order = past_end y ys zs order.1
@@ -138,7 +148,8 @@ front_cut x xs rest order =
 
 -- ---- any part of an item
 
-pub any_cut : (front : List PlacedByte) (x : PlacedByte) (xs back : List PlacedByte) → IsInOrder (front ++ x ∷ (xs ++ back)) → IsCutAt x.1 (end_of (suc x.1) xs) front (x ∷ xs) back
+pub any_cut : (front : List PlacedByte) (x : PlacedByte) (xs back : List PlacedByte) → IsInOrder (front ++ x ∷ (xs ++ back))
+    → IsCutAt x.1 (end_of (suc x.1) xs) front (x ∷ xs) back
 any_cut front x xs back order =
     let parts = rising_parts front x (xs ++ back) order in
     let within = all_before_end x xs (front_rises (x ∷ xs) back parts.2) in

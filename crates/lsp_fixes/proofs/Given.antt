@@ -1,5 +1,6 @@
 -- A name that a source can give ends before a comma.
-use Rattle.std.proofs.Common.{◌≡◌, ℕ, suc, ◌+◌, ◌<◌, ◌==◌, ◌||◌, Bool, true, false, List, [], ◌∷◌, ◌++◌, append_assoc, codes, flat_map, length, map, Option, None, Some, inl, inr, refl, sym, ap, ap₂, subst, ◌∙◌, arith}
+use Rattle.std.proofs.Common.{◌≡◌, ℕ, suc, ◌+◌, ◌<◌, ◌==◌, ◌||◌, Bool, true, false, List, [], ◌∷◌, ◌++◌, append_assoc, codes, flat_map, length, map, Option}
+use Rattle.std.proofs.Common.{None, Some, inl, inr, refl, sym, ap, ap₂, subst, ◌∙◌, arith}
 use Rattle.std.specs.List.{list_all, list_any}
 use Rattle.std.specs.Str.{bytes_eq}
 use Rattle.std.proofs.lemmas.Bool.{and_parts, cases_Bool, eqb-true, false_from_ne_true, le-leb, leb-true, not-true}
@@ -48,7 +49,8 @@ name_like x is =
     let bounds = and_parts _ _ first.0 in
     let low = leb-true 33 x bounds.0 in
     let high = leb-true x 126 bounds.1 in
-    let above : (n : ℕ) → n < 33 → (x == n) ≡ false = λ n less. false_from_ne_true (x == n) (λ e. let same = eqb-true x n e in omega (arith, low, same, less)) in
+    let above : (n : ℕ) → n < 33 → (x == n) ≡ false =
+    λ n less. false_from_ne_true (x == n) (λ e. let same = eqb-true x n e in omega (arith, low, same, less)) in
     record {
       comma = or_first (x == 44) (x == 47) (or_first (x == 44 || x == 47) (x == 124) (not-true _ first.1));
       newline = above 10 (omega arith);
@@ -123,7 +125,8 @@ white_dropped [] text are = refl
 white_dropped (x ∷ xs) text are = rw are.0 (white_dropped xs text are.1)
 
 -- the name that an item `use=` gives
-pub outer_dropped : (white name end : List ℕ) → IsWhite white → AreNameLike name → IsWhite end → BeginsVisible name → without_outer_space (white ++ (name ++ end)) ≡ name
+pub outer_dropped : (white name end : List ℕ) → IsWhite white → AreNameLike name → IsWhite end → BeginsVisible name
+    → without_outer_space (white ++ (name ++ end)) ≡ name
 unfolding AreNameLike
 outer_dropped white [] end are like ends visible = absurd visible
 outer_dropped white (x ∷ xs) end are like ends visible =
@@ -159,7 +162,8 @@ rest_is offset [] more are = ap (λ (n : ℕ). bytes_at (suc n) more) (omega ari
 rest_is offset (x ∷ xs) more are = rw are.0.comma (rest_is (suc offset) xs more are.1 ∙ ap (λ (n : ℕ). bytes_at (suc n) more) (omega arith))
 
 -- the text after the names field goes on, if the name takes its comma
-taken_goes : (offset : ℕ) (name : List ℕ) → AreNameLike name → cuts (by_after nothing 44 (bytes_at 0 name)) 44 ≡ false → Goes nothing 44 (bytes_at offset (after_comma name))
+taken_goes : (offset : ℕ) (name : List ℕ) → AreNameLike name → cuts (by_after nothing 44 (bytes_at 0 name)) 44 ≡ false
+    → Goes nothing 44 (bytes_at offset (after_comma name))
 unfolding after_comma HasNone Goes
 taken_goes offset name are takes =
     let word : List PlacedByte = (117, offset) ∷ (115, suc offset) ∷ (101, suc (suc offset)) ∷ [] in
@@ -168,10 +172,12 @@ taken_goes offset name are takes =
     let placed = bytes_at there name in
     let comma : PlacedByte = (44, there + length name) in
     let one = (word ++ sign ∷ []) ++ placed in
-    let whole : bytes_at offset (codes "use=" ++ (name ++ 44 ∷ [])) ≡ one ++ comma ∷ [] = ap (λ (t : List PlacedByte). (word ++ sign ∷ []) ++ t) (bytes_apart there name (44 ∷ [])) in
+    let whole : bytes_at offset (codes "use=" ++ (name ++ 44 ∷ [])) ≡ one ++ comma ∷ [] =
+    ap (λ (t : List PlacedByte). (word ++ sign ∷ []) ++ t) (bytes_apart there name (44 ∷ [])) in
     let none : HasNone (bytes one) = (refl, (refl, (refl, (refl, subst HasNone (sym (bytes_of_at there name)) (none_named name are))))) in
     let same : by_after nothing 44 one ≡ by_after nothing 44 (bytes_at 0 name) =
-    after_with word sign placed (refl, (refl, (refl, (refl, tt)))) refl ∙ by_after_at nothing 44 placed (bytes_at 0 name) (bytes_of_at there name ∙ sym (bytes_of_at 0 name)) in
+    after_with word sign placed (refl, (refl, (refl, (refl, tt)))) refl
+    ∙ by_after_at nothing 44 placed (bytes_at 0 name) (bytes_of_at there name ∙ sym (bytes_of_at 0 name)) in
     subst (Goes nothing 44) (sym whole)
     (goes_both nothing 44 one (comma ∷ []) (none_goes nothing 44 one none) (ap (λ (e : Escape). cuts e 44) same ∙ takes, tt))
 
@@ -189,7 +195,8 @@ front_bytes (x ∷ xs) =
 pub used_bytes : (value : List PlacedByte) → bytes (without_end (without_front value)) ≡ without_outer_space (bytes value)
 used_bytes value = end_bytes (without_front value) ∙ ap without_trailing_space (front_bytes value)
 
-no_use : (name : List ℕ) (used : List PlacedByte) (span : Option Part) → bytes_eq (bytes used) name ≡ false → list_any (λ (found : UseSeen). bytes_eq found.name name) (use_at used span) ≡ false
+no_use : (name : List ℕ) (used : List PlacedByte) (span : Option Part) → bytes_eq (bytes used) name ≡ false
+    → list_any (λ (found : UseSeen). bytes_eq found.name name) (use_at used span) ≡ false
 no_use name used None other = refl
 no_use name used (Some span) other = rw other refl
 
@@ -208,7 +215,8 @@ one_item offset name are takes =
     let text = bytes_at offset (after_comma name) in
     ap (map without_front) (computed text ∙ one_if_goes nothing 44 text (taken_goes offset name are takes))
 
-used_there : (offset : ℕ) (name : List ℕ) → used_name (bytes_at offset (after_comma name)) ≡ Some (without_end (without_front (bytes_at (suc (suc (suc (suc offset)))) (name ++ 44 ∷ []))))
+used_there : (offset : ℕ) (name : List ℕ) → used_name (bytes_at offset (after_comma name)) ≡ Some
+    (without_end (without_front (bytes_at (suc (suc (suc (suc offset)))) (name ++ 44 ∷ []))))
 unfolding after_comma
 used_there offset name = refl
 
@@ -233,12 +241,14 @@ comma_like (x ∷ xs) are visible = ap without_trailing_space (front_kept x (xs 
 
 -- no use of the block has the name
 none_found : (offset : ℕ) (name : List ℕ) → AreNameLike name → BeginsVisible name → cuts (by_after nothing 44 (bytes_at 0 name)) 44 ≡ false
-    → list_any (λ (found : UseSeen). bytes_eq found.name name) (flat_map (λ (item : List PlacedByte). use_in (used_name item)) (map without_front (items_after 44 (bytes_at offset (after_comma name))))) ≡ false
+    → list_any (λ (found : UseSeen). bytes_eq found.name name)
+    (flat_map (λ (item : List PlacedByte). use_in (used_name item)) (map without_front (items_after 44 (bytes_at offset (after_comma name))))) ≡ false
 none_found offset name are visible takes =
     let test : List UseSeen → Bool = list_any (λ (found : UseSeen). bytes_eq found.name name) in
     let placed = bytes_at (suc (suc (suc (suc offset)))) (name ++ 44 ∷ []) in
     let used = without_end (without_front placed) in
-    let is : bytes used ≡ name ++ 44 ∷ [] = used_bytes placed ∙ ap without_outer_space (bytes_of_at (suc (suc (suc (suc offset)))) (name ++ 44 ∷ [])) ∙ comma_like name are visible in
+    let is : bytes used ≡ name ++ 44 ∷ [] =
+    used_bytes placed ∙ ap without_outer_space (bytes_of_at (suc (suc (suc (suc offset)))) (name ++ 44 ∷ [])) ∙ comma_like name are visible in
     ap (λ (items : List (List PlacedByte)). test (flat_map (λ (item : List PlacedByte). use_in (used_name item)) items)) (one_item offset name are takes)
     ∙ ap (λ (o : Option (List PlacedByte)). test (use_in o ++ [])) (used_there offset name)
     ∙ ap test (append-nil (use_at used (spanned used)))
@@ -260,7 +270,8 @@ plain_folded : (x : ℕ) (xs : List ℕ) → begins_head x ≡ true → IsOneLin
 plain_folded x xs head line =
     block_from x (bytes_at 1 xs) head
     ∙ ap (λ (t : List PlacedByte). (x, 0) ∷ t)
-    (ap (λ (t : List PlacedByte). kept_after false x false t) (sym (append-nil (bytes_at 1 xs))) ∙ line_kept x 1 xs [] line.0 line.1 ∙ append-nil (bytes_at 1 xs))
+    (ap (λ (t : List PlacedByte). kept_after false x false t) (sym (append-nil (bytes_at 1 xs))) ∙ line_kept x 1 xs [] line.0 line.1
+    ∙ append-nil (bytes_at 1 xs))
 
 uses_none : (name : List ℕ) → AreNameLike name → BeginsVisible name → cuts (by_after nothing 44 (bytes_at 0 name)) 44 ≡ false
     → list_any (λ (found : UseSeen). bytes_eq found.name name) (uses_of (block_with name)) ≡ false
@@ -276,12 +287,14 @@ uses_none (x ∷ xs) are visible takes =
       | inl t ↦
           let hash : x ≡ 35 = eqb-true x 35 t in
           let lost : folded_of block ≡ [] =
-          ap (λ (y : ℕ). folded_of (y ∷ (xs ++ 44 ∷ after_comma name))) hash ∙ commented (xs ++ 44 ∷ after_comma name) (subst (λ (y : ℕ). IsOneLine (y ∷ (xs ++ 44 ∷ after_comma name))) hash line) in
+          ap (λ (y : ℕ). folded_of (y ∷ (xs ++ 44 ∷ after_comma name))) hash
+          ∙ commented (xs ++ 44 ∷ after_comma name) (subst (λ (y : ℕ). IsOneLine (y ∷ (xs ++ 44 ∷ after_comma name))) hash line) in
           ap (λ (t : List PlacedByte). test (uses_in t)) lost ∙ nothing_used name
       | inr f ↦
           let folded : folded_of block ≡ bytes_at 0 block = plain_folded x (xs ++ 44 ∷ after_comma name) (head_begins x are.0 f) line in
           ap (λ (t : List PlacedByte). test (uses_in t)) folded
-          ∙ ap (λ (t : List PlacedByte). test (flat_map (λ (item : List PlacedByte). use_in (used_name item)) (map without_front (items_after 44 t)))) (rest_is 0 name (after_comma name) are)
+          ∙ ap (λ (t : List PlacedByte). test (flat_map (λ (item : List PlacedByte). use_in (used_name item)) (map without_front (items_after 44 t))))
+          (rest_is 0 name (after_comma name) are)
           ∙ none_found (suc (0 + length name)) name are visible takes
     ]
 

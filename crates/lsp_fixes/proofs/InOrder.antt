@@ -86,11 +86,15 @@ items_from low before (x ∷ []) from =
     elim (x.0 == 44) as (λ b. EachFrom low (cond b ([] ∷ [] ∷ []) ((x ∷ []) ∷ []))) [ true ↦ (tt, (tt, tt)) | false ↦ ((from.0, tt), tt) ]
 items_from low before (x ∷ y ∷ ys) from =
     let rest = from.1 in
-    elim (x.0 == 44) as (λ b. EachFrom low (cond b ([] ∷ items_after 44 (y ∷ ys)) (cond (takes before x.0 y.0) (with_first x (with_first y (items_after y.0 ys))) (with_first x (items_after x.0 (y ∷ ys)))))) [
+    elim (x.0 == 44) as (λ b. EachFrom low
+    (cond b ([] ∷ items_after 44 (y ∷ ys)) (cond (takes before x.0 y.0) (with_first x (with_first y (items_after y.0 ys)))
+    (with_first x (items_after x.0 (y ∷ ys)))))) [
       | true ↦ (tt, each_lower low (suc x.1) (items_after 44 (y ∷ ys)) (let l = from.0 in omega (arith, l)) (items_from (suc x.1) 44 (y ∷ ys) rest))
       | false ↦
-          elim (takes before x.0 y.0) as (λ b. EachFrom low (cond b (with_first x (with_first y (items_after y.0 ys))) (with_first x (items_after x.0 (y ∷ ys))))) [
-            | true ↦ first_from low x (with_first y (items_after y.0 ys)) from.0 (first_from (suc x.1) y (items_after y.0 ys) rest.0 (items_from (suc y.1) y.0 ys rest.1))
+          elim (takes before x.0 y.0) as (λ b. EachFrom low (cond b (with_first x (with_first y (items_after y.0 ys)))
+          (with_first x (items_after x.0 (y ∷ ys))))) [
+            | true ↦ first_from low x (with_first y (items_after y.0 ys)) from.0
+                (first_from (suc x.1) y (items_after y.0 ys) rest.0 (items_from (suc y.1) y.0 ys rest.1))
             | false ↦ first_from low x (items_after x.0 (y ∷ ys)) from.0 (items_from (suc x.1) x.0 (y ∷ ys) rest)
           ]
     ]

@@ -1,5 +1,6 @@
 -- What an item holds is of its block.
-use Rattle.std.proofs.Common.{◌≡◌, ℕ, suc, ◌+◌, ◌<◌, ◌≤◌, ◌==◌, ◌||◌, ◌&&◌, All, Bool, true, false, List, [], ◌∷◌, ◌++◌, cond, length, map, Some, slice_get, subst, arith}
+use Rattle.std.proofs.Common.{◌≡◌, ℕ, suc, ◌+◌, ◌<◌, ◌≤◌, ◌==◌, ◌||◌, ◌&&◌, All, Bool, true, false, List, [], ◌∷◌, ◌++◌, cond, length, map, Some, slice_get}
+use Rattle.std.proofs.Common.{subst, arith}
 use Rattle.std.specs.List.{AllByRecursion}
 use Rattle.std.proofs.lemmas.List.Elements.{All-cons, All-from_recursion, All-head, All-nil, All-tail}
 use Rattle.std.proofs.lemmas.Option.{get_or_from_slice_get, slice_get_within}
@@ -10,10 +11,10 @@ use Rattle.ti_source.specs.Folding.{PlacedByte}
 use Rattle.ti_source.specs.Items.{bytes, takes, without_front}
 use Rattle.lsp_spans.specs.Folding.{bytes_at, folded_of, in_comment, without_breaks, without_comments}
 use Rattle.lsp_spans.specs.Parts.{end_of, items_after, rest_of, spanned, with_first}
-use Rattle.lsp_spans.specs.Replacing.{IsOneLine, Replaces, exchanged}
+use Rattle.lsp_spans.specs.Replacing.{IsOneLine, Replaces}
 use Rattle.lsp_spans.specs.Subjects.{items_of}
 use Rattle.lsp_spans.specs.declared.parts.Part.{Part}
-use Rattle.lsp_fixes.specs.Healing.{IsPartOf}
+use Rattle.lsp_fixes.specs.Healing.{IsPartOf, StaysOne}
 use Rattle.lsp_fixes.specs.Laws.{IsInOrder}
 use Rattle.lsp_fixes.proofs.Exchanging.{any_cut}
 use Rattle.lsp_fixes.proofs.Placing.{item_in_order}
@@ -60,10 +61,13 @@ module _ (P : PlacedByte → Type 0) where
   of_items before (x ∷ []) are = elim (x.0 == 44) as (λ b. EachOfAll (cond b ([] ∷ [] ∷ []) ((x ∷ []) ∷ []))) [ true ↦ (tt, (tt, tt)) | false ↦ (are, tt) ]
   of_items before (x ∷ y ∷ ys) are =
       let rest = are.1 in
-      elim (x.0 == 44) as (λ b. EachOfAll (cond b ([] ∷ items_after 44 (y ∷ ys)) (cond (takes before x.0 y.0) (with_first x (with_first y (items_after y.0 ys))) (with_first x (items_after x.0 (y ∷ ys)))))) [
+      elim (x.0 == 44) as (λ b. EachOfAll
+      (cond b ([] ∷ items_after 44 (y ∷ ys)) (cond (takes before x.0 y.0) (with_first x (with_first y (items_after y.0 ys)))
+      (with_first x (items_after x.0 (y ∷ ys)))))) [
         | true ↦ (tt, of_items 44 (y ∷ ys) rest)
         | false ↦
-            elim (takes before x.0 y.0) as (λ b. EachOfAll (cond b (with_first x (with_first y (items_after y.0 ys))) (with_first x (items_after x.0 (y ∷ ys))))) [
+            elim (takes before x.0 y.0) as (λ b. EachOfAll (cond b (with_first x (with_first y (items_after y.0 ys)))
+            (with_first x (items_after x.0 (y ∷ ys))))) [
               | true ↦ of_first x (with_first y (items_after y.0 ys)) are.0 (of_first y (items_after y.0 ys) rest.0 (of_items y.0 ys rest.1))
               | false ↦ of_first x (items_after x.0 (y ∷ ys)) are.0 (of_items x.0 (y ∷ ys) rest)
             ]
@@ -73,11 +77,13 @@ module _ (P : PlacedByte → Type 0) where
   of_fronts [] are = tt
   of_fronts (part ∷ parts) are = (of_front part are.0, of_fronts parts are.1)
 
-  item_holds : (block : List ℕ) (ordinal : ℕ) (item : List PlacedByte) → Each (bytes_at 0 block) → slice_get (items_of (folded_of block)) ordinal ≡ Some item → Each item
+  item_holds : (block : List ℕ) (ordinal : ℕ) (item : List PlacedByte) → Each (bytes_at 0 block)
+      → slice_get (items_of (folded_of block)) ordinal ≡ Some item → Each item
   item_holds block ordinal item are there =
       let items = items_of (folded_of block) in
       let folded = of_breaks false (without_comments false 10 (bytes_at 0 block)) (of_comments false 10 (bytes_at 0 block) are) in
-      let all : All Each items = All-from_recursion Each items (of_fronts (items_after 44 (rest_of (folded_of block))) (of_items 44 (rest_of (folded_of block)) (of_rest (folded_of block) folded))) in
+      let all : All Each items = All-from_recursion Each items
+      (of_fronts (items_after 44 (rest_of (folded_of block))) (of_items 44 (rest_of (folded_of block)) (of_rest (folded_of block) folded))) in
       subst Each (get_or_from_slice_get items ordinal item [] there) (all ordinal [] (slice_get_within items ordinal item there))
 
 -- ---- bytes
@@ -93,7 +99,8 @@ small_bytes : (text : List PlacedByte) → AllByRecursion IsSmall text → AreBy
 small_bytes [] are = All-nil (λ b. b < 256)
 small_bytes (x ∷ xs) are = All-cons (λ b. b < 256) x.0 (bytes xs) are.0 (small_bytes xs are.1)
 
-pub item_bytes : (block : List ℕ) (ordinal : ℕ) (item : List PlacedByte) → AreBytes block → slice_get (items_of (folded_of block)) ordinal ≡ Some item → AreBytes (bytes item)
+pub item_bytes : (block : List ℕ) (ordinal : ℕ) (item : List PlacedByte) → AreBytes block → slice_get (items_of (folded_of block)) ordinal ≡ Some item
+    → AreBytes (bytes item)
 item_bytes block ordinal item are there = small_bytes item (item_holds IsSmall block ordinal item (small_at 0 block are) there)
 
 -- ---- offsets
@@ -114,7 +121,8 @@ end_below size end [] back within all = within
 end_below size end (x ∷ xs) back within all = let below = all.0 in end_below size (suc x.1) xs back (omega (arith, below)) all.1
 
 -- a part of an item is one of its block
-item_part : (block : List ℕ) (ordinal : ℕ) (item front middle back : List PlacedByte) (part : Part) → slice_get (items_of (folded_of block)) ordinal ≡ Some item → item ≡ front ++ (middle ++ back)
+item_part : (block : List ℕ) (ordinal : ℕ) (item front middle back : List PlacedByte) (part : Part)
+    → slice_get (items_of (folded_of block)) ordinal ≡ Some item → item ≡ front ++ (middle ++ back)
     → spanned middle ≡ Some part → IsPartOf block part
 item_part block ordinal item front [] back part there whole is = absurd cc
 item_part block ordinal item front (x ∷ xs) back part there whole is =
@@ -128,11 +136,15 @@ item_part block ordinal item front (x ∷ xs) back part there whole is =
     subst (IsPartOf block) same (cut.forward, end_below size (suc x.1) xs back (omega (arith, first)) here.1)
 
 -- and once it is exchanged the block is one
-pub exchanged_part : (block : List ℕ) (ordinal : ℕ) (item front middle back : List PlacedByte) (part : Part) (new : List ℕ) → OneBlock block → slice_get (items_of (folded_of block)) ordinal ≡ Some item
-    → item ≡ front ++ (middle ++ back) → spanned middle ≡ Some part → IsOneLine new → IsPartOf block part × OneBlock (exchanged block part new)
+pub exchanged_part : (block : List ℕ) (ordinal : ℕ) (item front middle back : List PlacedByte) (part : Part) (new : List ℕ) → OneBlock block
+    → slice_get (items_of (folded_of block)) ordinal ≡ Some item
+    → item ≡ front ++ (middle ++ back) → spanned middle ≡ Some part → IsOneLine new → StaysOne block part new
 exchanged_part block ordinal item front middle back part new single there whole is line =
-    (item_part block ordinal item front middle back part there whole is, stays_one block ordinal item front middle back part new single there whole is line)
+    let still = stays_one block ordinal item front middle back part new single there whole is line in
+    (item_part block ordinal item front middle back part there whole is, still.0, still.1)
 
-pub replaced_part : (block : List ℕ) (ordinal : ℕ) (item : List PlacedByte) (part : Part) (new text : List ℕ) → OneBlock block → slice_get (items_of (folded_of block)) ordinal ≡ Some item
-    → Replaces item part new text → IsPartOf block part × OneBlock (exchanged block part new)
-replaced_part block ordinal item part new text single there r = exchanged_part block ordinal item r.front r.middle r.back part new single there r.whole r.there r.one_line
+pub replaced_part : (block : List ℕ) (ordinal : ℕ) (item : List PlacedByte) (part : Part) (new text : List ℕ) → OneBlock block
+    → slice_get (items_of (folded_of block)) ordinal ≡ Some item
+    → Replaces item part new text → StaysOne block part new
+replaced_part block ordinal item part new text single there r =
+    exchanged_part block ordinal item r.front r.middle r.back part new single there r.whole r.there r.one_line

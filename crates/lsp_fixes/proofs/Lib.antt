@@ -20,6 +20,7 @@ pub mod Printing
 pub mod Putting
 pub mod Ranging
 pub mod Readings
+pub mod Returns
 pub mod SignsFit
 pub mod SignsHeal
 pub mod SpellingsHeal

@@ -1,5 +1,6 @@
 -- An item that has a mark is a name, the mark and a value.
-use Rattle.std.proofs.Common.{◌≡◌, ℕ, ◌+◌, ◌-◌, ◌<◌, ◌==◌, ◌&&◌, true, false, cond, List, [], ◌∷◌, ◌++◌, Option, None, Some, drop, length, nat_lt, take, refl, ap, inl, inr, arith, ◌∙◌}
+use Rattle.std.proofs.Common.{◌≡◌, ℕ, ◌+◌, ◌-◌, ◌<◌, ◌==◌, ◌&&◌, true, false, cond, List, [], ◌∷◌, ◌++◌, Option, None, Some, drop, length, nat_lt, take}
+use Rattle.std.proofs.Common.{refl, ap, inl, inr, arith, ◌∙◌}
 use Rattle.std.specs.List.{list_all, position_or_len}
 use Rattle.std.proofs.Math.Seq.{drop-append-add, drop-append_seam, take-append_seam}
 use Rattle.std.proofs.lemmas.Bool.{and_parts, cases_Bool, eqb-true, le-ltb, lt-ltb}
@@ -34,7 +35,8 @@ mark_says (x ∷ xs) =
 pub bytes_cut : (name value : List PlacedByte) (mark : PlacedByte) → bytes (name ++ mark ∷ value) ≡ bytes name ++ mark.0 ∷ bytes value
 bytes_cut name value mark = map-append (λ (x : PlacedByte). x.0) name (mark ∷ value)
 
-pub cut_at_mark : (name value : List ℕ) (mark : ℕ) → HasNoMark name → is_mark mark ≡ true → (before_mark (name ++ mark ∷ value) ≡ name) × (from_mark (name ++ mark ∷ value) ≡ mark ∷ value)
+pub cut_at_mark : (name value : List ℕ) (mark : ℕ) → HasNoMark name → is_mark mark ≡ true → (before_mark (name ++ mark ∷ value) ≡ name)
+    × (from_mark (name ++ mark ∷ value) ≡ mark ∷ value)
 cut_at_mark [] value mark none is = (rw is refl, rw is refl)
 cut_at_mark (x ∷ xs) value mark none is =
     let later = cut_at_mark xs value mark none.1 is in
@@ -51,16 +53,21 @@ mark_visible mark is =
       | inr f ↦ rw (eqb-true mark 61 (rw f at is)) refl
     ]
 
-not_all_white : (name value : List PlacedByte) (mark : PlacedByte) → is_white_space mark.0 ≡ false → list_all is_white_space (bytes (name ++ mark ∷ value)) ≡ false
+not_all_white : (name value : List PlacedByte) (mark : PlacedByte) → is_white_space mark.0 ≡ false
+    → list_all is_white_space (bytes (name ++ mark ∷ value)) ≡ false
 not_all_white [] value mark visible = rw visible refl
 not_all_white (x ∷ xs) value mark visible =
-    elim (is_white_space x.0) as (λ b. (b && list_all is_white_space (bytes (xs ++ mark ∷ value))) ≡ false) [ true ↦ not_all_white xs value mark visible | false ↦ refl ]
+    elim (is_white_space x.0) as (λ b. (b && list_all is_white_space (bytes (xs ++ mark ∷ value)))
+    ≡ false) [ true ↦ not_all_white xs value mark visible | false ↦ refl ]
 
-end_of_value : (name value : List PlacedByte) (mark : PlacedByte) → is_white_space mark.0 ≡ false → without_end (name ++ mark ∷ value) ≡ name ++ mark ∷ without_end value
+end_of_value : (name value : List PlacedByte) (mark : PlacedByte) → is_white_space mark.0 ≡ false
+    → without_end (name ++ mark ∷ value) ≡ name ++ mark ∷ without_end value
 end_of_value [] value mark visible = rw visible refl
-end_of_value (x ∷ xs) value mark visible = rw (not_all_white (x ∷ xs) value mark visible) (ap (λ (t : List PlacedByte). x ∷ t) (end_of_value xs value mark visible))
+end_of_value (x ∷ xs) value mark visible =
+    rw (not_all_white (x ∷ xs) value mark visible) (ap (λ (t : List PlacedByte). x ∷ t) (end_of_value xs value mark visible))
 
-place_of_mark : (name value : List PlacedByte) (mark : PlacedByte) → HasNoMark (bytes name) → is_mark mark.0 ≡ true → position_or_len (λ (x : PlacedByte). is_mark x.0) (name ++ mark ∷ value) ≡ length name
+place_of_mark : (name value : List PlacedByte) (mark : PlacedByte) → HasNoMark (bytes name) → is_mark mark.0 ≡ true
+    → position_or_len (λ (x : PlacedByte). is_mark x.0) (name ++ mark ∷ value) ≡ length name
 place_of_mark [] value mark none is = rw is refl
 place_of_mark (x ∷ xs) value mark none is = rw none.0 (ap (λ (n : ℕ). 1 + n) (place_of_mark xs value mark none.1 is) ∙ omega arith)
 
@@ -75,7 +82,8 @@ name_cut name value mark none is =
     ap name_of (end_of_value name value mark (mark_visible mark.0 is))
     ∙ ap (λ (o : Option (List PlacedByte)). name_or o (name ++ mark ∷ without_end value)) (marked name (without_end value) mark none is)
 
-pub rest_cut : (name value : List PlacedByte) (mark : PlacedByte) → HasNoMark (bytes name) → is_mark mark.0 ≡ true → after_name (name ++ mark ∷ value) ≡ mark ∷ without_end value
+pub rest_cut : (name value : List PlacedByte) (mark : PlacedByte) → HasNoMark (bytes name) → is_mark mark.0 ≡ true
+    → after_name (name ++ mark ∷ value) ≡ mark ∷ without_end value
 rest_cut name value mark none is =
     ap (λ (n : List PlacedByte). drop (length n) (without_end (name ++ mark ∷ value))) (name_cut name value mark none is)
     ∙ ap (drop (length name)) (end_of_value name value mark (mark_visible mark.0 is)) ∙ drop-append_seam name (mark ∷ without_end value)
@@ -101,7 +109,11 @@ no_place (x ∷ xs) none = rw none.0 (ap (λ (n : ℕ). 1 + n) (no_place xs none
 end_has_none : (item : List PlacedByte) → HasNoMark (bytes item) → HasNoMark (bytes (without_end item))
 end_has_none [] none = tt
 end_has_none (x ∷ xs) none =
-    elim (list_all is_white_space (bytes (x ∷ xs))) as (λ b. HasNoMark (bytes (cond b [] (x ∷ without_end xs)))) [ true ↦ tt | false ↦ (none.0, end_has_none xs none.1) ]
+    elim (list_all is_white_space (bytes (x ∷ xs))) as (λ b. HasNoMark (bytes (cond b [] (x ∷ without_end xs)))) [
+      | true ↦ tt
+      | false ↦
+          (none.0, end_has_none xs none.1)
+    ]
 
 not_below : (n : ℕ) → nat_lt n n ≡ false
 not_below n = le-ltb n n (omega arith)
@@ -110,7 +122,8 @@ unmarked : (item : List PlacedByte) → HasNoMark (bytes item) → marked_name i
 unmarked item none = rw (no_place item none, not_below (length item)) refl
 
 -- nothing is after the name unless it is cancelled
-pub plain_name : (item : List PlacedByte) → HasNoMark (bytes item) → (last_byte 0 (bytes (without_end item)) == 64) ≡ false → (written_name item ≡ without_end item) × (after_name item ≡ [])
+pub plain_name : (item : List PlacedByte) → HasNoMark (bytes item) → (last_byte 0 (bytes (without_end item)) == 64) ≡ false
+    → (written_name item ≡ without_end item) × (after_name item ≡ [])
 plain_name item none plain =
     let core = without_end item in
     let named : written_name item ≡ core = ap (λ (o : Option (List PlacedByte)). name_or o core) (unmarked core (end_has_none item none)) ∙ (rw plain refl) in
@@ -123,22 +136,27 @@ pub record IsCancel (item front : List PlacedByte) (sign : PlacedByte) : Type 0 
   pub name : written_name item ≡ front
   pub rest : after_name item ≡ sign ∷ []
 
-last_split : (x : PlacedByte) (xs : List PlacedByte) → last_byte x.0 (bytes xs) ≡ 64 → (front : List PlacedByte) × (sign : PlacedByte) × (x ∷ xs ≡ front ++ sign ∷ []) × (sign.0 ≡ 64)
+last_split : (x : PlacedByte) (xs : List PlacedByte) → last_byte x.0 (bytes xs) ≡ 64 → (front : List PlacedByte) × (sign : PlacedByte)
+    × (x ∷ xs ≡ front ++ sign ∷ []) × (sign.0 ≡ 64)
 last_split x [] e = ([], x, refl, e)
 last_split x (y ∷ ys) e = let later = last_split y ys e in (x ∷ later.0, later.1, ap (λ (t : List PlacedByte). x ∷ t) later.2, later.3)
 
-core_split : (core : List PlacedByte) → last_byte 0 (bytes core) ≡ 64 → (front : List PlacedByte) × (sign : PlacedByte) × (core ≡ front ++ sign ∷ []) × (sign.0 ≡ 64)
+core_split : (core : List PlacedByte) → last_byte 0 (bytes core) ≡ 64 → (front : List PlacedByte) × (sign : PlacedByte) × (core ≡ front ++ sign ∷ [])
+    × (sign.0 ≡ 64)
 core_split [] e = absurd (omega (arith, e))
 core_split (x ∷ xs) e = last_split x xs e
 
-pub cancel_of : (item : List PlacedByte) → HasNoMark (bytes item) → (last_byte 0 (bytes (without_end item)) == 64) ≡ true → (front : List PlacedByte) × (sign : PlacedByte) × IsCancel item front sign
+pub cancel_of : (item : List PlacedByte) → HasNoMark (bytes item) → (last_byte 0 (bytes (without_end item)) == 64) ≡ true → (front : List PlacedByte)
+    × (sign : PlacedByte) × IsCancel item front sign
 cancel_of item none at =
     let core = without_end item in
     let split = core_split core (eqb-true (last_byte 0 (bytes core)) 64 at) in
     let front = split.0 in
     let sign = split.1 in
     let shorter : length (front ++ sign ∷ []) - 1 ≡ length front = omega (arith, length-append front (sign ∷ [])) in
-    let cut : take (length core - 1) core ≡ front = ap (λ (t : List PlacedByte). take (length t - 1) t) split.2 ∙ ap (λ (n : ℕ). take n (front ++ sign ∷ [])) shorter ∙ take-append_seam front (sign ∷ []) in
+    let cut : take (length core - 1) core ≡ front =
+    ap (λ (t : List PlacedByte). take (length t - 1) t) split.2 ∙ ap (λ (n : ℕ). take n (front ++ sign ∷ [])) shorter
+    ∙ take-append_seam front (sign ∷ []) in
     let named : written_name item ≡ front = ap (λ (o : Option (List PlacedByte)). name_or o core) (unmarked core (end_has_none item none)) ∙ (rw at cut) in (
       front,
       sign,

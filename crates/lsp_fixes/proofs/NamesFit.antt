@@ -1,5 +1,6 @@
 -- An item of a name that no capability has, with a name that one has.
-use Rattle.std.proofs.Common.{◌≡◌, ℕ, suc, ◌<◌, ◌==◌, ◌&&◌, not, All, Bool, true, false, Contains, List, [], ◌∷◌, ◌++◌, Some, append_assoc, get_or, map, refl, sym, ap, subst, inl, inr, arith, ◌∙◌}
+use Rattle.std.proofs.Common.{◌≡◌, ℕ, suc, ◌<◌, ◌==◌, ◌&&◌, not, All, Bool, true, false, Contains, List, [], ◌∷◌, ◌++◌, Some, append_assoc, get_or, map}
+use Rattle.std.proofs.Common.{refl, sym, ap, subst, inl, inr, arith, ◌∙◌}
 use Rattle.std.specs.List.{list_all}
 use Rattle.std.specs.Str.{bytes_eq}
 use Rattle.std.proofs.lemmas.Bool.{and_parts, cases_Bool, eqb-true, not-true}
@@ -55,7 +56,8 @@ unmarked_text : (text : List ℕ) → list_all (λ b. not (is_mark b)) text ≡ 
 unmarked_text [] all = tt
 unmarked_text (x ∷ xs) all = let both = and_parts _ _ all in (not-true _ both.0, unmarked_text xs both.1)
 
-name_of_kind : (kinds : Kind → Type 0) (name : List ℕ) (c : Capability) → capability_named name ≡ Some c → kinds c.kind → well_named name ≡ true → IsNameOf kinds name
+name_of_kind : (kinds : Kind → Type 0) (name : List ℕ) (c : Capability) → capability_named name ≡ Some c → kinds c.kind → well_named name ≡ true
+    → IsNameOf kinds name
 unfolding well_named
 name_of_kind kinds [] c named kind well = cc
 name_of_kind kinds (x ∷ xs) c named kind well =
@@ -84,7 +86,8 @@ IsAny kind = Unit {0}
 each_of_all : All (IsNameOf IsAny) all_names
 unfolding IsAny
 each_of_all =
-    All-append (IsNameOf IsAny) (names Flag ++ names Number) (names Text) (All-append (IsNameOf IsAny) (names Flag) (names Number) (each_name IsAny Flag tt) (each_name IsAny Number tt)) (each_name IsAny Text tt)
+    All-append (IsNameOf IsAny) (names Flag ++ names Number) (names Text)
+    (All-append (IsNameOf IsAny) (names Flag) (names Number) (each_name IsAny Flag tt) (each_name IsAny Number tt)) (each_name IsAny Text tt)
 
 -- ---- the nearest are among them
 
@@ -98,7 +101,8 @@ near_ones P name others all =
     (either P (names_at 1 name others) (names_at 2 name others) (All-filter (is_at 1 name) P others all) (All-filter (is_at 2 name) P others all))
 
 -- what holds of each name holds of each edit
-pub each_edit : (P : EditSeen → Type 0) (name : List ℕ) (part : Part) (others : List (List ℕ)) (edit : EditSeen) → All (λ (other : List ℕ). P (rename name part other)) others
+pub each_edit : (P : EditSeen → Type 0) (name : List ℕ) (part : Part) (others : List (List ℕ)) (edit : EditSeen)
+    → All (λ (other : List ℕ). P (rename name part other)) others
     → Contains (renames_in name others (Some part)) edit → P edit
 each_edit P name part others edit all has =
     All-contains P (map (rename name part) (nearest name others)) edit
@@ -111,10 +115,12 @@ mapped_all P Q xs f all index d within = f (get_or xs index d) (all index d with
 new_name : (v : PlacedByte) (vs rest : List PlacedByte) (old name : List ℕ) → IsInOrder (v ∷ (vs ++ rest)) → shown name ≡ name
     → edited (v ∷ (vs ++ rest)) (rename old (record { start = v.1; end = end_of (suc v.1) vs }) name) ≡ name ++ bytes rest
 new_name v vs rest old name order is =
-    edited_cut (rename old (record { start = v.1; end = end_of (suc v.1) vs }) name) [] (v ∷ vs) rest (front_cut v vs rest order) ∙ ap (λ (t : List ℕ). t ++ bytes rest) is
+    edited_cut (rename old (record { start = v.1; end = end_of (suc v.1) vs }) name) [] (v ∷ vs) rest (front_cut v vs rest order)
+    ∙ ap (λ (t : List ℕ). t ++ bytes rest) is
 
 -- what the names are that are offered, and what is read with each
-renamed : (item : List PlacedByte) (kinds : Kind → Type 0) (others : List (List ℕ)) (front rest : List PlacedByte) (edit : EditSeen) → item ≡ front ++ rest → IsInOrder item
+renamed : (item : List PlacedByte) (kinds : Kind → Type 0) (others : List (List ℕ)) (front rest : List PlacedByte) (edit : EditSeen) → item ≡ front ++ rest
+    → IsInOrder item
     → ((name : List ℕ) → IsNameOf kinds name → IsOfCapability (name ++ bytes rest)) → All (IsNameOf kinds) others
     → Contains (renames front others) edit → IsOfCapability (edited item edit)
 renamed item kinds others [] rest edit is order reads all has = absurd (no_edit edit has)
@@ -123,7 +129,9 @@ renamed item kinds others (v ∷ vs) rest edit is order reads all has =
     let old = bytes (v ∷ vs) in
     each_edit (λ e. IsOfCapability (edited item e)) old part others edit
     (mapped_all (IsNameOf kinds) (λ name. IsOfCapability (edited item (rename old part name))) others
-    (λ name known. subst IsOfCapability (sym (ap (λ (i : List PlacedByte). edited i (rename old part name)) is ∙ new_name v vs rest old name (subst IsInOrder is order) known.is_shown)) (reads name known)) all) has
+    (λ name known. subst IsOfCapability
+    (sym (ap (λ (i : List PlacedByte). edited i (rename old part name)) is ∙ new_name v vs rest old name (subst IsInOrder is order) known.is_shown))
+    (reads name known)) all) has
 
 -- ---- an item with a mark
 
@@ -138,18 +146,21 @@ marked mark name value edit order is has =
       | inl t ↦
           let number : mark.0 ≡ 35 = eqb-true mark.0 35 t in
           renamed (name ++ mark ∷ value) (Is Number) (names Number) name (mark ∷ value) edit refl order
-          (λ n known. subst (λ (b : ℕ). IsOfCapability (n ++ b ∷ bytes value)) (sym number) (number_read n (bytes value) known.capability known.no_mark (known.enabled (35 ∷ bytes value)) known.named known.of_kind))
+          (λ n known. subst (λ (b : ℕ). IsOfCapability (n ++ b ∷ bytes value)) (sym number)
+          (number_read n (bytes value) known.capability known.no_mark (known.enabled (35 ∷ bytes value)) known.named known.of_kind))
           (each_name (Is Number) Number refl) (rw t at has)
       | inr f ↦
           let text : mark.0 ≡ 61 = eqb-true mark.0 61 (rw f at is) in
           renamed (name ++ mark ∷ value) (Is Text) (names Text) name (mark ∷ value) edit refl order
-          (λ n known. subst (λ (b : ℕ). IsOfCapability (n ++ b ∷ bytes value)) (sym text) (text_read n (bytes value) known.capability known.no_mark (known.enabled (61 ∷ bytes value)) known.named known.of_kind))
+          (λ n known. subst (λ (b : ℕ). IsOfCapability (n ++ b ∷ bytes value)) (sym text)
+          (text_read n (bytes value) known.capability known.no_mark (known.enabled (61 ∷ bytes value)) known.named known.of_kind))
           (each_name (Is Text) Text refl) (rw (f, text) at has)
     ]
 
 -- ---- an item with none
 
-unmarked : (item : List PlacedByte) (edit : EditSeen) → HasNoMark (bytes item) → IsInOrder item → Contains (known_names item) edit → IsOfCapability (edited item edit)
+unmarked : (item : List PlacedByte) (edit : EditSeen) → HasNoMark (bytes item) → IsInOrder item → Contains (known_names item) edit
+    → IsOfCapability (edited item edit)
 unfolding Is
 unmarked item edit none order has =
     let ends = end_split item in
@@ -160,10 +171,12 @@ unmarked item edit none order has =
           let front = found.0 in
           let sign = found.1 in
           let cancel = found.2 in
-          let whole : item ≡ front ++ (sign ∷ ends.0) = ends.1 ∙ ap (λ (s : List PlacedByte). s ++ ends.0) cancel.whole ∙ append_assoc front (sign ∷ []) ends.0 in
+          let whole : item ≡ front ++ (sign ∷ ends.0) =
+          ends.1 ∙ ap (λ (s : List PlacedByte). s ++ ends.0) cancel.whole ∙ append_assoc front (sign ∷ []) ends.0 in
           let there : Has front (sign ∷ []) = subst (λ n. Has n (sign ∷ [])) cancel.name (subst (λ rest. Has (written_name item) rest) cancel.rest has) in
           renamed item IsAny all_names front (sign ∷ ends.0) edit whole order
-          (λ n known. subst (λ (b : ℕ). IsOfCapability (n ++ b ∷ bytes ends.0)) (sym cancel.is_sign) (cancel_read n (bytes ends.0) known.capability known.no_mark ends.2 (known.enabled (64 ∷ bytes ends.0)) known.named))
+          (λ n known. subst (λ (b : ℕ). IsOfCapability (n ++ b ∷ bytes ends.0)) (sym cancel.is_sign)
+          (cancel_read n (bytes ends.0) known.capability known.no_mark ends.2 (known.enabled (64 ∷ bytes ends.0)) known.named))
           each_of_all (rw cancel.is_sign at there)
       | inr f ↦
           let plain = plain_name item none f in
@@ -180,7 +193,8 @@ by_marks _ edit (has_mark name value mark none is) order has =
     let Has : List PlacedByte → List PlacedByte → Type 0 = λ n rest. Contains (renames n (names_for rest)) edit in
     let item = name ++ mark ∷ value in
     let there : Has name (mark ∷ without_end value) =
-    subst (λ n. Has n (mark ∷ without_end value)) (name_cut name value mark none is) (subst (λ rest. Has (written_name item) rest) (rest_cut name value mark none is) has) in
+    subst (λ n. Has n (mark ∷ without_end value)) (name_cut name value mark none is)
+    (subst (λ rest. Has (written_name item) rest) (rest_cut name value mark none is) has) in
     marked mark name value edit order is there
 by_marks _ edit (has_none item none) order has = unmarked item edit none order has
 

@@ -75,23 +75,29 @@ named _ (has_none item none) =
       }
     ]
 
-name_replaces : (block : List ℕ) (ordinal : ℕ) (item : List PlacedByte) (edit : EditSeen) → slice_get (items_of (folded_of block)) ordinal ≡ Some item → IsNamed item → Contains (known_names item) edit
+name_replaces : (block : List ℕ) (ordinal : ℕ) (item : List PlacedByte) (edit : EditSeen) → slice_get (items_of (folded_of block)) ordinal ≡ Some item
+    → IsNamed item → Contains (known_names item) edit
     → Replaces item edit.part edit.text (edited item edit)
 name_replaces block ordinal item edit there is has =
     let name = written_name item in
     let at = renamed_at name (names_for (after_name item)) edit (each_for (after_name item)) has in
     let whole : item ≡ [] ++ (name ++ is.rest) = is.whole in
     let text : edited item edit ≡ bytes [] ++ (edit.text ++ bytes is.rest) =
-    ap (λ (i : List PlacedByte). edited i edit) whole ∙ edited_at edit [] name is.rest (subst (λ (i : List PlacedByte). IsInOrder i) whole (item_in_order block ordinal item there)) at.there in
-    let replaces = plain_replace block ordinal [] name is.rest edit.part edit.text (there ∙ ap (λ (i : List PlacedByte). Some i) whole) at.there tt at.put.plain at.put.visible is.plain in
+    ap (λ (i : List PlacedByte). edited i edit) whole
+    ∙ edited_at edit [] name is.rest (subst (λ (i : List PlacedByte). IsInOrder i) whole (item_in_order block ordinal item there)) at.there in
+    let replaces = plain_replace block ordinal [] name is.rest edit.part edit.text (there ∙ ap (λ (i : List PlacedByte). Some i) whole) at.there tt
+    at.put.plain at.put.visible is.plain in
     subst (λ (i : List PlacedByte). Replaces i edit.part edit.text (edited item edit)) (sym whole)
     (subst (Replaces ([] ++ (name ++ is.rest)) edit.part edit.text) (sym text) replaces)
 
-pub names_heal : (block : List ℕ) (ordinal : ℕ) (item : List PlacedByte) (edit : EditSeen) → OneBlock block → slice_get (items_of (folded_of block)) ordinal ≡ Some item
-    → fault_at block ordinal ≡ Some code.UnknownCapability → Contains (known_names item) edit → LosesFault block (block_after block edit) ordinal × Stays block edit
+pub names_heal : (block : List ℕ) (ordinal : ℕ) (item : List PlacedByte) (edit : EditSeen) → OneBlock block
+    → slice_get (items_of (folded_of block)) ordinal ≡ Some item
+    → fault_at block ordinal ≡ Some code.UnknownCapability → Contains (known_names item) edit → LosesFault block (block_after block edit) ordinal
+    × Stays block edit
 names_heal block ordinal item edit single there had has =
     let replaces = name_replaces block ordinal item edit there (named item (mark_says item)) has in (
-      loses_unknown block (block_after block edit) ordinal (edited item edit) had (item_changes block ordinal item edit.part edit.text (edited item edit) single there replaces)
+      loses_unknown block (block_after block edit) ordinal (edited item edit) had
+          (item_changes block ordinal item edit.part edit.text (edited item edit) single there replaces)
           (names_fit item edit (item_in_order block ordinal item there) has),
       replaced_part block ordinal item edit.part edit.text (edited item edit) single there replaces,
     )

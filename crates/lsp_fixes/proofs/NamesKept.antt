@@ -1,5 +1,6 @@
 -- A block with the same head has the same names, so each name has the owner that it had.
-use Rattle.std.proofs.Common.{◌≡◌, ℕ, zero, suc, ◌==◌, ◌||◌, ◌&&◌, Bool, true, false, cond, List, [], ◌∷◌, option_map, Option, Some, inl, inr, refl, sym, ap, ap₂, subst, ◌∙◌, slice_set}
+use Rattle.std.proofs.Common.{◌≡◌, ℕ, zero, suc, ◌==◌, ◌||◌, ◌&&◌, Bool, true, false, cond, List, [], ◌∷◌, option_map, Option, Some, inl, inr, refl, sym}
+use Rattle.std.proofs.Common.{ap, ap₂, subst, ◌∙◌, slice_set}
 use Rattle.std.proofs.lemmas.Bool.{cases_Bool}
 use Rattle.ti_text.specs.WhiteSpace.{is_white_space}
 use Rattle.ti_source.specs.Folding.{PlacedByte}
@@ -41,7 +42,8 @@ field_seen : (block : List ℕ) (reading : Reading) (p : Parses block reading) �
 field_seen block reading p =
     let f = p.folds in
     let text : bytes p.text ≡ bytes (folded_of block) =
-    ap bytes (left_of f.whole f.lines p.text f.are_lines f.joins) ∙ bytes_kept false false 10 f.whole (bytes_at 0 block) (f.are_placed.bytes ∙ sym (bytes_of_at 0 block)) in
+    ap bytes (left_of f.whole f.lines p.text f.are_lines f.joins)
+    ∙ bytes_kept false false 10 f.whole (bytes_at 0 block) (f.are_placed.bytes ∙ sym (bytes_of_at 0 block)) in
     ap bytes (field_is p.text p.field p.rest p.begins) ∙ same_field p.text (folded_of block) text
 
 names_kept : (block other : List ℕ) → head_text other ≡ head_text block → (reading_of_text other).names ≡ (reading_of_text block).names
@@ -49,16 +51,20 @@ names_kept block other same =
     let p = has_reading block in
     let q = has_reading other in
     let fields : bytes q.field ≡ bytes p.field = field_seen other (reading_of_text other) q ∙ same ∙ sym (field_seen block (reading_of_text block) p) in
-    let names : q.names ≡ p.names = headers_have_one_reading (bytes p.field) q.names p.names (subst (λ (t : List ℕ). ReadsNames t q.names) fields q.reads_names) p.reads_names in
+    let names : q.names ≡ p.names =
+    headers_have_one_reading (bytes p.field) q.names p.names (subst (λ (t : List ℕ). ReadsNames t q.names) fields q.reads_names) p.reads_names in
     ap (λ (r : Reading). r.names) q.is ∙ ap names_found names ∙ sym (ap (λ (r : Reading). r.names) p.is)
 
-with_names : (one other : Reading) (blocks others : List Reading) (name : List ℕ) → other.names ≡ one.names → owner others name ≡ owner blocks name → owner (other ∷ others) name ≡ owner (one ∷ blocks) name
+with_names : (one other : Reading) (blocks others : List Reading) (name : List ℕ) → other.names ≡ one.names → owner others name ≡ owner blocks name
+    → owner (other ∷ others) name ≡ owner (one ∷ blocks) name
 with_names one other blocks others name same rest =
     ap₂ (λ (n : List (List ℕ)) (o : Option ℕ). cond (is_among name n) (Some 0) (option_map (λ k. suc k) o)) same rest
 
-pub owner_kept : (blocks : List (List ℕ)) (at : ℕ) (other : List ℕ) (name : List ℕ) → head_text other ≡ head_text (text_at blocks at) → owner (readings (slice_set blocks at other)) name ≡ owner (readings blocks) name
+pub owner_kept : (blocks : List (List ℕ)) (at : ℕ) (other : List ℕ) (name : List ℕ) → head_text other ≡ head_text (text_at blocks at)
+    → owner (readings (slice_set blocks at other)) name ≡ owner (readings blocks) name
 owner_kept [] at other name same = refl
 owner_kept (block ∷ blocks) zero other name same =
     with_names (reading_of_text block) (reading_of_text other) (readings blocks) (readings blocks) name (names_kept block other same) refl
 owner_kept (block ∷ blocks) (suc at) other name same =
-    with_names (reading_of_text block) (reading_of_text block) (readings blocks) (readings (slice_set blocks at other)) name refl (owner_kept blocks at other name same)
+    with_names (reading_of_text block) (reading_of_text block) (readings blocks) (readings (slice_set blocks at other)) name refl
+    (owner_kept blocks at other name same)

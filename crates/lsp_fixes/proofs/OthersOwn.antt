@@ -1,5 +1,6 @@
 -- The names that are offered for one that no block has.
-use Rattle.std.proofs.Common.{◌≡◌, ◌≢◌, ℕ, ◌+◌, ◌==◌, All, Bool, true, false, Contains, List, [], ◌∷◌, ◌++◌, Option, None, Some, cond, filter, flat_map, get_or, is_none, nat_eq, refl, ap, inl, inr, arith, ◌∙◌}
+use Rattle.std.proofs.Common.{◌≡◌, ◌≢◌, ℕ, ◌+◌, ◌==◌, All, Bool, true, false, Contains, List, [], ◌∷◌, ◌++◌, Option, None, Some, cond, filter, flat_map}
+use Rattle.std.proofs.Common.{get_or, is_none, nat_eq, refl, ap, inl, inr, arith, ◌∙◌}
 use Rattle.std.specs.List.{enumerate_from}
 use Rattle.std.specs.Option.{option_map_or}
 use Rattle.std.proofs.lemmas.Bool.{cases_Bool, eq-eqb, eqb-true, le-leb}

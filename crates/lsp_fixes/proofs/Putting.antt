@@ -1,5 +1,6 @@
 -- The names of capabilities are plain.
-use Rattle.std.proofs.Common.{◌≡◌, ◌≢◌, ℕ, suc, ◌==◌, ◌&&◌, not, if◌then◌else◌, All, Bool, true, false, Contains, List, [], ◌∷◌, ◌++◌, Option, Some, MatchOption, get_or, refl, sym, subst, arith}
+use Rattle.std.proofs.Common.{◌≡◌, ◌≢◌, ℕ, suc, ◌==◌, ◌&&◌, not, if◌then◌else◌, All, Bool, true, false, Contains, List, [], ◌∷◌, ◌++◌, Option, Some}
+use Rattle.std.proofs.Common.{MatchOption, get_or, refl, sym, subst, arith}
 use Rattle.std.specs.List.{list_all}
 use Rattle.std.specs.Str.{bytes_eq}
 use Rattle.std.proofs.lemmas.Bool.{and_parts, not-true}
@@ -59,7 +60,9 @@ each_put kind index d within = put_of (get_or (names kind) index d) (AllPass-fro
 -- the name of a capability
 pub capability_put : (name : List ℕ) (c : Capability) → capability_named name ≡ Some c → IsPut name
 capability_put name c named =
-    let says : IsCapability c × (name_of c ≡ name) = subst (λ (o : Option Capability). MatchOption o ((d : Capability) → IsCapability d → name_of d ≢ name) (λ d. IsCapability d × (name_of d ≡ name))) named (named_says name) in
+    let says : IsCapability c × (name_of c ≡ name) =
+    subst (λ (o : Option Capability). MatchOption o ((d : Capability) → IsCapability d → name_of d ≢ name) (λ d. IsCapability d × (name_of d ≡ name)))
+    named (named_says name) in
     let within = says.0 in
     subst IsPut says.1 (each_put c.kind c.index [] (omega (arith, within, length-names c.kind)))
 
@@ -71,7 +74,8 @@ each_for (x ∷ rest) = by_sign (x.0 == 35) (x.0 == 61)
     by_sign : (number text : Bool) → All IsPut (if number then names Number else if text then names Text else all_names)
     by_sign true text = each_put Number
     by_sign false true = each_put Text
-    by_sign false false = All-append IsPut (names Flag ++ names Number) (names Text) (All-append IsPut (names Flag) (names Number) (each_put Flag) (each_put Number)) (each_put Text)
+    by_sign false false = All-append IsPut (names Flag ++ names Number) (names Text)
+        (All-append IsPut (names Flag) (names Number) (each_put Flag) (each_put Number)) (each_put Text)
 
 -- ---- a name in the place of another
 
@@ -79,7 +83,8 @@ pub record IsPutAt (name : List PlacedByte) (edit : EditSeen) : Type 0 where
   pub there : spanned name ≡ Some edit.part
   pub put : IsPut edit.text
 
-pub renamed_at : (name : List PlacedByte) (others : List (List ℕ)) (edit : EditSeen) → All IsPut others → Contains (renames name others) edit → IsPutAt name edit
+pub renamed_at : (name : List PlacedByte) (others : List (List ℕ)) (edit : EditSeen) → All IsPut others → Contains (renames name others) edit
+    → IsPutAt name edit
 renamed_at [] others edit all has = absurd (no_edit edit has)
 renamed_at (v ∷ vs) others edit all has =
     let part : Part = record { start = v.1; end = end_of (suc v.1) vs } in

@@ -1,17 +1,16 @@
 -- Edits of a block as fixes of the text.
 use Rattle.std.proofs.Common.{◌≡◌, ℕ, List, map, sym, ap, ◌∙◌}
-use Rattle.std.proofs.lemmas.Simd.{map-map}
 use Rattle.lsp_types.specs.declared.places.Position.{Position}
 use Rattle.lsp_document.specs.Diagnostics.{text_at}
 use Rattle.lsp_blocks.specs.declared.spots.Spot.{Spot}
 use Rattle.lsp_fixes.specs.Edits.{edit_seen}
-use Rattle.lsp_fixes.specs.Fixes.{FixSeen, edits_in, fix_of, fixes_from, stretch_to}
+use Rattle.lsp_fixes.specs.Fixes.{FixSeen, edits_in, fixes_from, fixes_in, stretch_to}
 use Rattle.lsp_fixes.specs.declared.edits.Edit.{Edit}
 
 -- those of the edits that are held in memory
-pub fixes_held : (blocks : List (List ℕ)) (end : Position) (spot : Spot) (block : List ℕ) (edits : List Edit) (fixes : List FixSeen) → text_at blocks spot.at ≡ block
-    → map edit_seen edits ≡ edits_in blocks (stretch_to block end spot) → fixes ≡ map (λ (edit : Edit). fix_of spot.line block (edit_seen edit)) edits
+pub fixes_held : (blocks : List (List ℕ)) (end : Position) (spot : Spot) (block : List ℕ) (edits : List Edit) (fixes : List FixSeen)
+    → text_at blocks spot.at ≡ block
+    → map edit_seen edits ≡ edits_in blocks (stretch_to block end spot) → fixes ≡ fixes_in spot.line block (map edit_seen edits)
     → fixes ≡ fixes_from blocks end spot
 fixes_held blocks end spot block edits fixes is held e =
-    e ∙ sym (map-map (fix_of spot.line block) edit_seen edits) ∙ ap (map (fix_of spot.line block)) held
-    ∙ ap (λ (b : List ℕ). map (fix_of spot.line b) (edits_in blocks (stretch_to b end spot))) (sym is)
+    e ∙ ap (fixes_in spot.line block) held ∙ ap (λ (b : List ℕ). fixes_in spot.line b (edits_in blocks (stretch_to b end spot))) (sym is)

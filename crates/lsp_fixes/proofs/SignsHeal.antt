@@ -1,5 +1,6 @@
 -- An item of the wrong kind is healed by the sign that is offered for its own.
-use Rattle.std.proofs.Common.{◌≡◌, ℕ, suc, ◌==◌, ◌&&◌, not, true, false, Contains, List, [], ◌∷◌, ◌++◌, Some, codes, slice_get, inl, inr, refl, sym, ap, subst, ◌∙◌}
+use Rattle.std.proofs.Common.{◌≡◌, ℕ, suc, ◌==◌, ◌&&◌, not, true, false, Contains, List, [], ◌∷◌, ◌++◌, Some, codes, slice_get, inl, inr, refl, sym, ap}
+use Rattle.std.proofs.Common.{subst, ◌∙◌}
 use Rattle.std.specs.List.{list_all}
 use Rattle.std.proofs.lemmas.Bool.{cases_Bool, eqb-true}
 use Rattle.ti_text.specs.Texts.{is_empty, last_byte}
@@ -16,7 +17,7 @@ use Rattle.lsp_spans.specs.Subjects.{items_of, without_end}
 use Rattle.lsp_spans.specs.declared.parts.Part.{Part}
 use Rattle.lsp_spans.proofs.Plain.{item_goes, plain_line}
 use Rattle.lsp_fixes.specs.Edits.{EditSeen, advises_sign, is_digit, kind_signs, sign_at, sign_for}
-use Rattle.lsp_fixes.specs.Healing.{IsPartOf, LosesFault, Stays, block_after}
+use Rattle.lsp_fixes.specs.Healing.{LosesFault, Stays, StaysOne, block_after}
 use Rattle.lsp_fixes.specs.Laws.{IsOfCapability}
 use Rattle.lsp_fixes.proofs.Changing.{item_changes, loses_kind, refused_item}
 use Rattle.lsp_fixes.proofs.Exchanging.{no_edit, only_edit}
@@ -46,21 +47,27 @@ abbrev at_mark : PlacedByte → Part
 at_mark mark = record { start = mark.1; end = suc mark.1 }
 
 mark_part : (block : List ℕ) (ordinal : ℕ) (name value : List PlacedByte) (mark : PlacedByte) (new : List ℕ) → OneBlock block
-    → slice_get (items_of (folded_of block)) ordinal ≡ Some (name ++ mark ∷ value) → IsOneLine new → IsPartOf block (at_mark mark) × OneBlock (exchanged block (at_mark mark) new)
-mark_part block ordinal name value mark new single there line = exchanged_part block ordinal (name ++ mark ∷ value) name (mark ∷ []) value (at_mark mark) new single there refl refl line
+    → slice_get (items_of (folded_of block)) ordinal ≡ Some (name ++ mark ∷ value) → IsOneLine new → StaysOne block (at_mark mark) new
+mark_part block ordinal name value mark new single there line =
+    exchanged_part block ordinal (name ++ mark ∷ value) name (mark ∷ []) value (at_mark mark) new single there refl refl line
 
 -- another mark in the place of one
-marked : (block : List ℕ) (ordinal : ℕ) (name value : List PlacedByte) (mark : PlacedByte) (n : ℕ) → OneBlock block → slice_get (items_of (folded_of block)) ordinal ≡ Some (name ++ mark ∷ value)
+marked : (block : List ℕ) (ordinal : ℕ) (name value : List PlacedByte) (mark : PlacedByte) (n : ℕ) → OneBlock block
+    → slice_get (items_of (folded_of block)) ordinal ≡ Some (name ++ mark ∷ value)
     → fault_at block ordinal ≡ Some code.WrongKind → IsPut (bytes name) → IsOfMark mark.0 → IsOfMark n → IsOfCapability (bytes name ++ n ∷ bytes value)
-    → LosesFault block (exchanged block (at_mark mark) (n ∷ [])) ordinal × (IsPartOf block (at_mark mark) × OneBlock (exchanged block (at_mark mark) (n ∷ [])))
+    → LosesFault block (exchanged block (at_mark mark) (n ∷ [])) ordinal × StaysOne block (at_mark mark) (n ∷ [])
 marked block ordinal name value mark n single there had put old new is =
-    let replaces = byte_replaces name mark value (at_mark mark) n refl put.plain (old.plain, tt) (new.plain, tt) old.other new.other new.visible (item_goes (folded_of block) ordinal (name ++ mark ∷ value) there) in
-    let changes = item_changes block ordinal (name ++ mark ∷ value) (at_mark mark) (n ∷ []) (bytes name ++ n ∷ bytes value) single there replaces in
-    (loses_kind block (exchanged block (at_mark mark) (n ∷ [])) ordinal (bytes name ++ n ∷ bytes value) had changes is, mark_part block ordinal name value mark (n ∷ []) single there (plain_line (n ∷ []) (new.plain, tt)))
+    let replaces = byte_replaces name mark value (at_mark mark) n refl put.plain (old.plain, tt) (new.plain, tt) old.other new.other new.visible
+    (item_goes (folded_of block) ordinal (name ++ mark ∷ value) there) in
+    let changes = item_changes block ordinal (name ++ mark ∷ value) (at_mark mark) (n ∷ []) (bytes name ++ n ∷ bytes value) single there replaces in (
+      loses_kind block (exchanged block (at_mark mark) (n ∷ [])) ordinal (bytes name ++ n ∷ bytes value) had changes is,
+      mark_part block ordinal name value mark (n ∷ []) single there (plain_line (n ∷ []) (new.plain, tt)),
+    )
 
 -- the sign of each kind
 by_kind : (block : List ℕ) (ordinal : ℕ) (edit : EditSeen) (kind : Kind) (item : List PlacedByte) (s : IsSigned item edit) → OneBlock block
-    → slice_get (items_of (folded_of block)) ordinal ≡ Some (s.name ++ s.mark ∷ s.value) → fault_at block ordinal ≡ Some code.WrongKind → s.capability.kind ≡ kind
+    → slice_get (items_of (folded_of block)) ordinal ≡ Some (s.name ++ s.mark ∷ s.value) → fault_at block ordinal ≡ Some code.WrongKind
+    → s.capability.kind ≡ kind
     → Contains (sign_at kind s.mark.1 (sign_for kind (bytes (without_end s.value)))) edit → LosesFault block (block_after block edit) ordinal × Stays block edit
 by_kind block ordinal edit Flag item s single there had kind has =
     let name = bytes s.name in
@@ -71,8 +78,11 @@ by_kind block ordinal edit Flag item s single there had kind has =
           let put = capability_put name s.capability s.named in
           let out = taken_out block ordinal s.name s.value s.mark single put (empty_end s.value t) there in
           let on = front_enabled name (s.mark.0 ∷ bytes s.value) out.end (λ e. (flag_ends name s.capability s.named kind).1 (ap (last_byte 64) e)) s.on in
-          subst (λ (e : EditSeen). LosesFault block (block_after block e) ordinal × Stays block e) (only_edit one edit (rw t at has))
-          (loses_kind block (block_after block one) ordinal (name ++ out.end) had out.changes (flag_read name out.end s.capability s.none out.are on s.named kind), mark_part block ordinal s.name s.value s.mark [] single there tt)
+          subst (λ (e : EditSeen). LosesFault block (block_after block e) ordinal × Stays block e) (only_edit one edit (rw t at has)) (
+            loses_kind block (block_after block one) ordinal (name ++ out.end) had out.changes
+                (flag_read name out.end s.capability s.none out.are on s.named kind),
+            mark_part block ordinal s.name s.value s.mark [] single there tt,
+          )
     ]
 by_kind block ordinal edit Number item s single there had kind has =
     let name = bytes s.name in
@@ -98,7 +108,8 @@ by_kind block ordinal edit Text item s single there had kind has =
           (text_read name value s.capability s.none (mark_enabled name (s.mark.0 ∷ value) value 61 refl s.on) s.named kind))
     ]
 
-pub signs_heal : (block : List ℕ) (ordinal : ℕ) (item : List PlacedByte) (edit : EditSeen) → OneBlock block → slice_get (items_of (folded_of block)) ordinal ≡ Some item
+pub signs_heal : (block : List ℕ) (ordinal : ℕ) (item : List PlacedByte) (edit : EditSeen) → OneBlock block
+    → slice_get (items_of (folded_of block)) ordinal ≡ Some item
     → fault_at block ordinal ≡ Some code.WrongKind → Contains (kind_signs item) edit → LosesFault block (block_after block edit) ordinal × Stays block edit
 signs_heal block ordinal item edit single there had has =
     let s = signed_item item edit (refused_item block ordinal item code.WrongKind there had (λ e. cc)) has in

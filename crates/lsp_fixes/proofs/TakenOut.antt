@@ -1,5 +1,6 @@
 -- A byte of an item that is taken out of its block, where only white space of the item is after it.
-use Rattle.std.proofs.Common.{◌≡◌, ℕ, suc, ◌+◌, ◌==◌, Bool, true, false, List, [], ◌∷◌, ◌++◌, drop, length, map, take, Some, slice_get, slice_set, inl, inr, refl, sym, ap, ap₂, subst, ◌∙◌}
+use Rattle.std.proofs.Common.{◌≡◌, ℕ, suc, ◌+◌, ◌==◌, Bool, true, false, List, [], ◌∷◌, ◌++◌, drop, length, map, take, Some, slice_get, slice_set, inl, inr}
+use Rattle.std.proofs.Common.{refl, sym, ap, ap₂, subst, ◌∙◌}
 use Rattle.std.proofs.lemmas.Bool.{cases_Bool}
 use Rattle.std.proofs.lemmas.List.{append-nil, map-append, map-set}
 use Rattle.std.proofs.lemmas.Option.{slice_get-map}
@@ -32,7 +33,8 @@ record Loses (one other : List ℕ) : Type 0 where
   are : IsWhite white
   is : one ≡ white ++ other
 
-in_line : (l m o p : ℕ) (text : List ℕ) → (l == 10) ≡ false → (m == 10) ≡ false → Loses (bytes (kept_after false m false (bytes_at p text))) (bytes (kept_after false l true (bytes_at o text)))
+in_line : (l m o p : ℕ) (text : List ℕ) → (l == 10) ≡ false → (m == 10) ≡ false
+    → Loses (bytes (kept_after false m false (bytes_at p text))) (bytes (kept_after false l true (bytes_at o text)))
 in_line l m o p [] one other = record { white = []; are = tt; is = refl }
 in_line l m o p (y ∷ ys) one other =
     elim (cases_Bool (y == 10)) [
@@ -59,7 +61,8 @@ record FoldsOut (after : List ℕ) (front : List PlacedByte) (back : List ℕ) :
   lost : Loses back rest
   folded : bytes (folded_of after) ≡ bytes front ++ rest
 
-folds_out : (h : ℕ) (block : List ℕ) (p : PlacedByte) (front : List PlacedByte) (x : PlacedByte) (back : List PlacedByte) → begins_head h ≡ true → HasNoHead h block
+folds_out : (h : ℕ) (block : List ℕ) (p : PlacedByte) (front : List PlacedByte) (x : PlacedByte) (back : List PlacedByte) → begins_head h ≡ true
+    → HasNoHead h block
     → folded_of (h ∷ block) ≡ (p ∷ front) ++ x ∷ back → FoldsOut (exchanged (h ∷ block) (record { start = x.1; end = suc x.1 }) []) (p ∷ front) (bytes back)
 folds_out h block p front x back head none e =
     let both : (h, 0) ∷ kept_after false h false (bytes_at 1 block) ≡ p ∷ (front ++ x ∷ back) = sym (block_from h (bytes_at 1 block) head) ∙ e in
@@ -70,8 +73,10 @@ folds_out h block p front x back head none e =
     let plain : (l == 10) ≡ false =
     no_line_begins found.comment found.joining l x.0 h found.before found.after refl (subst (HasNoHead h) found.whole none) found.safe found.out found.stays in
     let out : found.comment ≡ false = rw plain at found.out in
-    let fronts : take x.1 (h ∷ block) ≡ h ∷ found.before = ap (λ (t : List ℕ). take x.1 (h ∷ t)) found.whole ∙ cut_front h x.0 found.before found.after x.1 found.place in
-    let backs : drop (suc x.1) (h ∷ block) ≡ found.after = ap (λ (t : List ℕ). drop (suc x.1) (h ∷ t)) found.whole ∙ cut_back h x.0 found.before found.after x.1 found.place in
+    let fronts : take x.1 (h ∷ block) ≡ h ∷ found.before =
+    ap (λ (t : List ℕ). take x.1 (h ∷ t)) found.whole ∙ cut_front h x.0 found.before found.after x.1 found.place in
+    let backs : drop (suc x.1) (h ∷ block) ≡ found.after =
+    ap (λ (t : List ℕ). drop (suc x.1) (h ∷ t)) found.whole ∙ cut_back h x.0 found.before found.after x.1 found.place in
     let here = 1 + length found.before in
     let lost = loses found.joining l x.0 here (suc x.1) found.after plain (no_newline found.joining x.0 found.stays) in
     let rest = kept_after false l found.joining (bytes_at here found.after) in
@@ -139,7 +144,8 @@ shown_name : (white name more : List PlacedByte) → White white → BeginsVisib
 shown_name white [] more are visible = absurd visible
 shown_name white (n ∷ ns) more are visible = front_dropped white n (ns ++ more) are visible
 
-out_of : (h : ℕ) (block : List ℕ) (ordinal : ℕ) (raw name value : List PlacedByte) (mark : PlacedByte) → begins_head h ≡ true → HasNoHead h block → IsPut (bytes name) → IsWhite (bytes value)
+out_of : (h : ℕ) (block : List ℕ) (ordinal : ℕ) (raw name value : List PlacedByte) (mark : PlacedByte) → begins_head h ≡ true → HasNoHead h block
+    → IsPut (bytes name) → IsWhite (bytes value)
     → slice_get (items_after 44 (rest_of (folded_of (h ∷ block)))) ordinal ≡ Some raw → without_front raw ≡ name ++ mark ∷ value
     → slice_get (items_of (folded_of (h ∷ block))) ordinal ≡ Some (name ++ mark ∷ value)
     → IsTakenOut (h ∷ block) (exchanged (h ∷ block) (record { start = mark.1; end = suc mark.1 }) []) ordinal (bytes name)
@@ -169,7 +175,8 @@ out_of h block ordinal raw name value mark head none put are raw_there shown the
     let all = field ++ comma ∷ (before ++ (other ++ tail)) in
     let more_is : bytes more ≡ left.end = ap bytes (append-nil fresh) ∙ bytes_of_at 0 left.end in
     let now : bytes edited ≡ bytes all =
-    out.folded ∙ ap (λ (t : List ℕ). bytes (first.0 ∷ first.1) ++ t) (left.is ∙ ap (λ (t : List ℕ). t ++ bytes tail) (sym (bytes_of_at 0 left.end)) ∙ sym (map-append (λ (x : PlacedByte). x.0) fresh tail))
+    out.folded ∙ ap (λ (t : List ℕ). bytes (first.0 ∷ first.1) ++ t) (left.is ∙ ap (λ (t : List ℕ). t ++ bytes tail) (sym (bytes_of_at 0 left.end))
+    ∙ sym (map-append (λ (x : PlacedByte). x.0) fresh tail))
     ∙ sym (map-append (λ (x : PlacedByte). x.0) (first.0 ∷ first.1) (fresh ++ tail)) ∙ ap (λ (t : List PlacedByte). bytes (t ++ (fresh ++ tail))) (sym first.2)
     ∙ ap bytes (sym (regroup field before white name fresh [] tail comma)) in
     let text = bytes name ++ left.end in
@@ -188,7 +195,8 @@ out_of h block ordinal raw name value mark head none put are raw_there shown the
       end = left.end;
       are = left.are;
       changes = changes_by_texts (h ∷ block) after ordinal (name ++ mark ∷ value) text there
-          (map-map bytes without_front (items_after 44 (rest_of edited)) ∙ same_texts edited all now ∙ ap (map text_of) items ∙ map-set text_of raws ordinal other
+          (map-map bytes without_front (items_after 44 (rest_of edited)) ∙ same_texts edited all now ∙ ap (map text_of) items
+          ∙ map-set text_of raws ordinal other
           ∙ ap₂ (λ (l : List (List ℕ)) (t : List ℕ). slice_set l ordinal t) (sym (map-map bytes without_front raws)) one)
           (same_field edited all now ∙ ap bytes (placed.rest.field (before ++ (other ++ tail))));
     }

@@ -1,5 +1,6 @@
 -- An item that uses a name is healed by another name that a source can give.
-use Rattle.std.proofs.Common.{◌≡◌, ℕ, ◌==◌, true, false, List, [], ◌∷◌, ◌++◌, append_assoc, codes, drop, length, None, Some, take, slice_get, inl, inr, refl, sym, ap, ap₂, subst, ◌∙◌}
+use Rattle.std.proofs.Common.{◌≡◌, ℕ, ◌==◌, true, false, List, [], ◌∷◌, ◌++◌, append_assoc, codes, drop, length, None, Some, take, slice_get, inl, inr}
+use Rattle.std.proofs.Common.{refl, sym, ap, ap₂, subst, ◌∙◌}
 use Rattle.std.proofs.lemmas.Bool.{and_parts, cases_Bool, eqb-true}
 use Rattle.std.proofs.lemmas.List.{map-append, take-append-drop}
 use Rattle.std.proofs.lemmas.Option.{cond_some}
@@ -129,7 +130,8 @@ named item name u part new there given was =
     ∙ after_from (last_of 44 front) 44 (fresh ++ u.end) last refl ∙ after_both nothing 44 fresh u.end)
     ∙ end_closed (by_after nothing 44 fresh) (last_of 44 fresh) u.end u.ends given.ends in
     subst (λ (i : List PlacedByte). Replaces i part new (bytes front ++ (new ++ bytes u.end))) (sym u.whole)
-    (text_replaces front name u.end part new there given.visible (like_line new given.like) (subst (Goes nothing 44) u.whole was) (none_goes nothing 44 (front ++ (fresh ++ u.end)) none)
+    (text_replaces front name u.end part new there given.visible (like_line new given.like) (subst (Goes nothing 44) u.whole was)
+    (none_goes nothing 44 (front ++ (fresh ++ u.end)) none)
     (λ closed. ends))
 
 -- what a use says
@@ -140,7 +142,8 @@ use_read value name e = record {
   judges = subst (λ (n : List ℕ). Judges (codes "use") (claims_text value) (accepted (said_import n))) e (judged_import (codes "use") value refl);
 }
 
-use_text : (item name : List PlacedByte) (u : IsUse item name) (new : List ℕ) → bytes (u.sign ++ u.white) ++ (new ++ bytes u.end) ≡ codes "use=" ++ (bytes u.white ++ (new ++ bytes u.end))
+use_text : (item name : List PlacedByte) (u : IsUse item name) (new : List ℕ) → bytes (u.sign ++ u.white) ++ (new ++ bytes u.end) ≡ codes "use="
+    ++ (bytes u.white ++ (new ++ bytes u.end))
 use_text item name u new =
     ap (λ (t : List ℕ). t ++ (new ++ bytes u.end)) (bytes_both u.sign u.white ∙ ap (λ (t : List ℕ). t ++ bytes u.white) u.signed)
     ∙ append_assoc (codes "use=") (bytes u.white) (new ++ bytes u.end)
@@ -152,22 +155,32 @@ pub record UsesAnother (block after : List ℕ) (ordinal : ℕ) (name other : Li
   pub uses : said_at after ordinal ≡ Some (said_import other)
   pub sound : fault_at after ordinal ≡ None
 
-pub uses_mend : (block : List ℕ) (ordinal : ℕ) (item name : List PlacedByte) (edit : EditSeen) → OneBlock block → slice_get (items_of (folded_of block)) ordinal ≡ Some item → used_name item ≡ Some name
+pub uses_mend : (block : List ℕ) (ordinal : ℕ) (item name : List PlacedByte) (edit : EditSeen) → OneBlock block
+    → slice_get (items_of (folded_of block)) ordinal ≡ Some item → used_name item ≡ Some name
     → spanned name ≡ Some edit.part → IsGiven edit.text → UsesAnother block (block_after block edit) ordinal (bytes name) edit.text × Stays block edit
 uses_mend block ordinal item name edit single there is span given =
     let u = use_cut item name is in
     let new = edit.text in
     let text = bytes (u.sign ++ u.white) ++ (new ++ bytes u.end) in
     let was : bytes item ≡ codes "use=" ++ (bytes u.white ++ (bytes name ++ bytes u.end)) =
-    ap bytes u.whole ∙ bytes_both (u.sign ++ u.white) (name ++ u.end) ∙ ap (λ (t : List ℕ). bytes (u.sign ++ u.white) ++ t) (bytes_both name u.end) ∙ use_text item name u (bytes name) in
+    ap bytes u.whole ∙ bytes_both (u.sign ++ u.white) (name ++ u.end) ∙ ap (λ (t : List ℕ). bytes (u.sign ++ u.white) ++ t) (bytes_both name u.end)
+    ∙ use_text item name u (bytes name) in
     let before : IsRead (bytes item) (accepted (said_import (bytes name))) =
-    subst (λ (t : List ℕ). IsRead t (accepted (said_import (bytes name)))) (sym was) (use_read (bytes u.white ++ (bytes name ++ bytes u.end)) (bytes name) u.used) in
+    subst (λ (t : List ℕ). IsRead t (accepted (said_import (bytes name)))) (sym was)
+    (use_read (bytes u.white ++ (bytes name ++ bytes u.end)) (bytes name) u.used) in
     let now : IsRead text (accepted (said_import new)) =
     subst (λ (t : List ℕ). IsRead t (accepted (said_import new))) (sym (use_text item name u new))
     (use_read (bytes u.white ++ (new ++ bytes u.end)) new (outer_dropped (bytes u.white) new (bytes u.end) u.blank given.like u.ends given.visible)) in
     let replaces = named item name u edit.part new span given (item_goes (folded_of block) ordinal item there) in
     let changes = item_changes block ordinal item edit.part new text single there replaces in
     let after = no_fault block (block_after block edit) ordinal text (said_import new) changes now in (
-      record { text = text; used = said_item block ordinal item (accepted (said_import (bytes name))) there before; changes = changes; uses = after.0; sound = after.1 },
+      record {
+        text = text;
+        used = said_item block ordinal item (accepted (said_import (bytes name))) there before;
+        changes = changes;
+        uses =
+            after.0;
+        sound = after.1;
+      },
       replaced_part block ordinal item edit.part new text single there replaces,
     )

@@ -1,5 +1,6 @@
 -- What comes of what an item states.
-use Rattle.std.proofs.Common.{◌≡◌, ◌≢◌, ℕ, ◌<◌, ◌==◌, ◌&&◌, not, Bool, true, false, List, [], ◌∷◌, Option, None, Some, MatchOption, Result, Ok, Err, get_or, refl, sym, ap, subst, inl, inr, arith, ◌∙◌}
+use Rattle.std.proofs.Common.{◌≡◌, ◌≢◌, ℕ, ◌<◌, ◌==◌, ◌&&◌, not, Bool, true, false, List, [], ◌∷◌, Option, None, Some, MatchOption, Result, Ok, Err, get_or}
+use Rattle.std.proofs.Common.{refl, sym, ap, subst, inl, inr, arith, ◌∙◌}
 use Rattle.std.specs.List.{list_all}
 use Rattle.std.proofs.lemmas.Bool.{and_parts, cases_Bool, eq-eqb, not-true}
 use Rattle.std.proofs.lemmas.List.Folds.{list_all_at}
@@ -16,7 +17,9 @@ use Rattle.ti_spelling.specs.Spelling.{Spells, SpellsAs}
 use Rattle.ti_spelling.specs.declared.spelling.UnescapeError.{UnescapeError}
 use Rattle.ti_source.specs.Items.{Claim, IsEnabled, Statement, claims_cancel, claims_number, claims_text}
 use Rattle.ti_source.specs.Reading.{said_text}
-use Rattle.ti_source.specs.Verdicts.{Judges, IsReadAs, ReadClaim, Verdict, accepted_odd, cancel_read, fitting_verdict, flag_read, is_import, named_verdict, number_read_as, number_verdict, reads_cancel, reads_flag, reads_number, reads_text, refused, text_read_as, text_verdict, verdict_on}
+use Rattle.ti_source.specs.Verdicts.{Judges, IsReadAs, ReadClaim, Verdict, accepted_odd, cancel_read, fitting_verdict, flag_read, is_import, named_verdict}
+use Rattle.ti_source.specs.Verdicts.{number_read_as, number_verdict, reads_cancel, reads_flag, reads_number, reads_text, refused, text_read_as}
+use Rattle.ti_source.specs.Verdicts.{text_verdict, verdict_on}
 use Rattle.ti_source.specs.declared.code.Code.TheVariants as code
 use Rattle.ti_source.specs.declared.numbers.NumberError.{NumberError}
 use Rattle.ti_source.specs.declared.numbers.NumberError.TheVariants.{Bad, TooLarge}
@@ -89,7 +92,8 @@ text_fits_read c (Err cause) = (λ e. cc, λ e. cc)
 pub text_fits : (name value : List ℕ) (c : Capability) → capability_named name ≡ Some c → c.kind ≡ Text → IsFitting (verdict_of name (claims_text value))
 text_fits name value c named kind =
     let read : ReadClaim = read_claim (claims_text value) in
-    let is : named_verdict read (capability_named name) ≡ text_verdict c (unescape_result value) = ap (named_verdict read) named ∙ ap (fitting_verdict c read) kind in
+    let is : named_verdict read (capability_named name) ≡ text_verdict c (unescape_result value) =
+    ap (named_verdict read) named ∙ ap (fitting_verdict c read) kind in
     elim (cases_Bool (is_import name (claims_text value))) [
       | inl import ↦ rw import (λ e. cc, λ e. cc)
       | inr other ↦ rw other (subst IsFitting (sym is) (text_fits_read c (unescape_result value)))
@@ -111,9 +115,12 @@ ends_in name well =
     let both = and_parts _ _ well in
     (not-true _ both.0, λ e. let no = not-true _ both.1 in let same = eq-eqb (last_byte 64 name) 64 e in cc)
 
-pub flag_ends : (name : List ℕ) (c : Capability) → capability_named name ≡ Some c → c.kind ≡ Flag → (is_white_space (last_byte 64 name) ≡ false) × (last_byte 64 name ≢ 64)
+pub flag_ends : (name : List ℕ) (c : Capability) → capability_named name ≡ Some c → c.kind ≡ Flag → (is_white_space (last_byte 64 name) ≡ false)
+    × (last_byte 64 name ≢ 64)
 flag_ends name c named kind =
-    let says : IsCapability c × (name_of c ≡ name) = subst (λ (o : Option Capability). MatchOption o ((d : Capability) → IsCapability d → name_of d ≢ name) (λ d. IsCapability d × (name_of d ≡ name))) named (named_says name) in
+    let says : IsCapability c × (name_of c ≡ name) =
+    subst (λ (o : Option Capability). MatchOption o ((d : Capability) → IsCapability d → name_of d ≢ name) (λ d. IsCapability d × (name_of d ≡ name)))
+    named (named_says name) in
     let within : c.index < 44 = subst (λ (k : Kind). c.index < count_of k) kind says.0 in
     let is : get_or (names Flag) c.index [] ≡ name = ap (λ (k : Kind). get_or (names k) c.index []) (sym kind) ∙ says.1 in
     ends_in name (subst (λ (n : List ℕ). ends_well n ≡ true) is (each_ends_well c.index within))
@@ -136,7 +143,8 @@ pub record IsOddText (name : List ℕ) (claim : Claim) (c : Capability) (value :
   pub kind : c.kind ≡ Text
   pub spells : Spells raw value true
 
-pub odd_text : (name : List ℕ) (claim : Claim) (c : Capability) (value : List ℕ) → Judges name claim (accepted_odd (said_text c value)) → IsOddText name claim c value
+pub odd_text : (name : List ℕ) (claim : Claim) (c : Capability) (value : List ℕ) → Judges name claim (accepted_odd (said_text c value))
+    → IsOddText name claim c value
 odd_text name claim c value judges = said_odd claim judges.read judges.is_read judges.is
   where
     flag_is_not : (o : Option Capability) → accepted_odd (said_text c value) ≡ named_verdict reads_flag o → ⊥
@@ -169,11 +177,13 @@ odd_text name claim c value judges = said_odd claim judges.read judges.is_read j
         at r Text e = cc
 
     text_is : (raw : List ℕ) (found : Result (List ℕ × Bool) UnescapeError) → SpellsAs raw found → is_import name (claims_text raw) ≡ false
-        → (o : Option Capability) → capability_named name ≡ o → accepted_odd (said_text c value) ≡ named_verdict (reads_text raw found) o → IsOddText name (claims_text raw) c value
+        → (o : Option Capability) → capability_named name ≡ o → accepted_odd (said_text c value) ≡ named_verdict (reads_text raw found) o
+        → IsOddText name (claims_text raw) c value
     text_is raw found spells other None named e = cc
     text_is raw found spells other (Some d) named e = at found d.kind spells refl e
       where
-        at : (f : Result (List ℕ × Bool) UnescapeError) (k : Kind) → SpellsAs raw f → d.kind ≡ k → accepted_odd (said_text c value) ≡ fitting_verdict d (reads_text raw f) k → IsOddText name (claims_text raw) c value
+        at : (f : Result (List ℕ × Bool) UnescapeError) (k : Kind) → SpellsAs raw f → d.kind ≡ k
+            → accepted_odd (said_text c value) ≡ fitting_verdict d (reads_text raw f) k → IsOddText name (claims_text raw) c value
         at f Flag s is e = cc
         at f Number s is e = cc
         at (Err cause) Text s is e = cc
@@ -190,7 +200,8 @@ odd_text name claim c value judges = said_odd claim judges.read judges.is_read j
               spells = subst (λ (v : List ℕ). Spells raw v true) text s;
             }
 
-    said_odd : (claim : Claim) (read : ReadClaim) → IsReadAs claim read → accepted_odd (said_text c value) ≡ verdict_on name claim read → IsOddText name claim c value
+    said_odd : (claim : Claim) (read : ReadClaim) → IsReadAs claim read → accepted_odd (said_text c value) ≡ verdict_on name claim read
+        → IsOddText name claim c value
     said_odd _ _ flag_read e = absurd (flag_is_not (capability_named name) e)
     said_odd _ _ cancel_read e = absurd (cancel_is_not (capability_named name) e)
     said_odd _ _ (number_read_as {text = text} {read = read} reads) e = absurd (number_is_not read (capability_named name) e)

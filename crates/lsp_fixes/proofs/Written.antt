@@ -41,7 +41,8 @@ safe_is by before (x ∷ xs) e =
     let later = safe_is (escape_after by before x.0) x.0 xs second.1 in
     record { goes = (not-true _ first.0, later.goes); after = later.after; line = (not-true _ second.0, later.line) }
 
-safe_both : (by : Escape) (before : ℕ) (one other : List ℕ) → safe_in by before one ≡ true → safe_in nothing (last_byte before one) other ≡ true → safe_in by before (one ++ other) ≡ true
+safe_both : (by : Escape) (before : ℕ) (one other : List ℕ) → safe_in by before one ≡ true → safe_in nothing (last_byte before one) other ≡ true
+    → safe_in by before (one ++ other) ≡ true
 unfolding safe_in
 safe_both by before [] other e f = subst (λ (b : Escape). safe_in b before other ≡ true) (sym (nothing_is by e)) f
 safe_both by before (x ∷ xs) other e f =
@@ -65,7 +66,8 @@ begins edge (x ∷ xs) = not (edge && is_white_space x)
 step_ok : (percent edge : Bool) → ℕ → Bool
 step_ok percent edge byte =
     safe_in nothing (cond percent 37 0) (byte_text percent edge byte)
-    && (cond (byte == 37) (last_byte 0 (byte_text percent edge byte) == 37) (not (last_byte 0 (byte_text percent edge byte) == 37)) && begins edge (byte_text percent edge byte))
+    && (cond (byte == 37) (last_byte 0 (byte_text percent edge byte) == 37) (not (last_byte 0 (byte_text percent edge byte) == 37))
+    && begins edge (byte_text percent edge byte))
 
 each_ok : (percent edge : Bool) (byte : ℕ) → byte < 256 → step_ok percent edge byte ≡ true
 unfolding step_ok safe_in is_nothing begins byte_text
@@ -99,7 +101,8 @@ before_is : (percent : Bool) → (cond percent 37 0 == 37) ≡ percent
 before_is true = refl
 before_is false = refl
 
-written_safe : (first : Bool) (before byte : ℕ) (value : List ℕ) → AreBytes value → (byte == 37) ≡ is_percent before → safe_in nothing byte (written_from first before value) ≡ true
+written_safe : (first : Bool) (before byte : ℕ) (value : List ℕ) → AreBytes value → (byte == 37) ≡ is_percent before
+    → safe_in nothing byte (written_from first before value) ≡ true
 unfolding safe_in is_nothing
 written_safe first before byte [] are e = refl
 written_safe first before byte (x ∷ xs) are e =
@@ -120,6 +123,15 @@ pub spelling_visible : (x : ℕ) (xs : List ℕ) → AreBytes (x ∷ xs) → Beg
 spelling_visible x xs are = begins_text (byte_text false true x) (written_from false x xs) (step_is false true x (are 0 0 (omega arith))).begin
 
 -- a spelling after a byte that is no `%`
-pub spelling_safe : (before : ℕ) (value : List ℕ) (text : List PlacedByte) → AreBytes value → (before == 37) ≡ false → bytes text ≡ spelling_of value → IsSafe nothing before text
+pub spelling_safe : (before : ℕ) (value : List ℕ) (text : List PlacedByte) → AreBytes value → (before == 37) ≡ false → bytes text ≡ spelling_of value
+    → IsSafe nothing before text
 spelling_safe before value text are other is =
     safe_is nothing before text (ap (safe_in nothing before) is ∙ written_safe true 0 before value are other)
+
+-- so is a CR after it
+pub spelling_safe_return : (before : ℕ) (value : List ℕ) (text : List PlacedByte) → AreBytes value → (before == 37) ≡ false
+    → bytes text ≡ spelling_of value ++ 13 ∷ [] → IsSafe nothing before text
+unfolding safe_in is_nothing
+spelling_safe_return before value text are other is =
+    safe_is nothing before text (ap (safe_in nothing before) is
+    ∙ safe_both nothing before (spelling_of value) (13 ∷ []) (written_safe true 0 before value are other) refl)

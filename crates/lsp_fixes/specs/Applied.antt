@@ -1,16 +1,16 @@
 -- What a fix makes of the text of a document once the client has made the edit (own; Language
 -- Server Protocol 3.17, "TextEdit" and "Position").
-use Rattle.std.specs.Prelude.{ℕ, ◌≡◌, ◌≢◌, ◌<◌, ◌+◌, All, Contains, List, ◌++◌, length, slice_set, take, true}
+use Rattle.std.specs.Prelude.{ℕ, ◌≡◌, ◌≢◌, ◌<◌, All, Contains, List, ◌++◌, slice_set, take, true}
 use Rattle.std.specs.List.{concat}
 use Rattle.ti_text.specs.Ascii as ascii
-use Rattle.ti_text.specs.Texts.{AreBytes, last_byte}
+use Rattle.ti_text.specs.Texts.{AreBytes}
 use Rattle.tools_sources.specs.Sources.{preface_of, source_texts}
 use Rattle.lsp_types.specs.declared.places.Range.{Range}
-use Rattle.lsp_spans.specs.declared.parts.Part.{Part}
 use Rattle.lsp_document.specs.Diagnostics.{text_at}
 use Rattle.lsp_document.specs.Documents.{held}
 use Rattle.lsp_document.specs.Position.{is_start, offset_of}
 use Rattle.lsp_document.specs.Splicing.{spliced}
+use Rattle.lsp_blocks.specs.Places.{missing_newline}
 use Rattle.lsp_fixes.specs.Edits.{EditSeen}
 use Rattle.lsp_fixes.specs.Fixes.{FixSeen, fixes_of}
 use Rattle.lsp_fixes.specs.Healing.{Heals, block_after}
@@ -19,16 +19,11 @@ use Rattle.lsp_fixes.specs.Healing.{Heals, block_after}
 abbrev pub client_edited : List ℕ → FixSeen → List ℕ
 client_edited text fix = spliced text (offset_of text fix.range.start) (offset_of text fix.range.end) fix.text
 
--- the ends of a part that is after so many bytes of a text are starts of characters: neither is
--- within a character of UTF-8, nor between a CR and its LF
-abbrev pub EndsAreStarts : List ℕ → ℕ → Part → Type 0
-EndsAreStarts text size part = (is_start 0 text (size + part.start) ≡ true) × (is_start 0 text (size + part.end) ≡ true)
-
 -- A fix is of a block of the text, of which an item has a fault or uses a name that no block has:
 -- once the edit is made the item is healed, and all other items of the block are as they were. The
 -- client that makes it at the range of the fix has the block so, and what is before and after the
--- block as it was, and the blocks of the text are those that it had but for this one, if the range
--- begins and ends at starts of characters.
+-- block as it was, and lacks a newline at the end if it did. The blocks of the text are those that
+-- it had but for this one.
 pub record IsHealing (text : List ℕ) (fix : FixSeen) : Type 0 where
   pub at : ℕ
   pub ordinal : ℕ
@@ -36,16 +31,16 @@ pub record IsHealing (text : List ℕ) (fix : FixSeen) : Type 0 where
   pub front : List ℕ
   pub back : List ℕ
   pub before : front ≡ preface_of text ++ concat (take at (held text))
-  pub whole : text ≡ front ++ (text_at (held text) at ++ back)
+  pub whole : text ++ missing_newline text ≡ front ++ (text_at (held text) at ++ back)
   pub heals : Heals (held text) at (text_at (held text) at) (block_after (text_at (held text) at) edit) ordinal
-  pub applied : EndsAreStarts text (length front) edit.part → client_edited text fix ≡ front ++ (block_after (text_at (held text) at) edit ++ back)
-  pub cut : EndsAreStarts text (length front) edit.part → source_texts (client_edited text fix) ≡ slice_set (held text) at (block_after (text_at (held text) at) edit)
+  pub applied : client_edited text fix ++ missing_newline text ≡ front ++ (block_after (text_at (held text) at) edit ++ back)
+  pub cut : source_texts (client_edited text fix) ≡ slice_set (held text) at (block_after (text_at (held text) at) edit)
 
--- each fix of a text that ends with a newline is so
+-- each fix of a text is so
 abbrev pub FixesHeal : Type 0
-FixesHeal = (text : List ℕ) (range : Range) (fix : FixSeen) → AreBytes text → last_byte ascii.newline text ≡ ascii.newline → Contains (fixes_of text range) fix
-    → IsHealing text fix
+FixesHeal = (text : List ℕ) (range : Range) (fix : FixSeen) → AreBytes text → Contains (fixes_of text range) fix → IsHealing text fix
 
 -- in ASCII with no CR each place is the start of a character
 abbrev pub AsciiPlacesAreStarts : Type 0
-AsciiPlacesAreStarts = (text : List ℕ) (offset : ℕ) → All (λ byte. byte < 128) text → All (λ byte. byte ≢ ascii.carriage_return) text → is_start 0 text offset ≡ true
+AsciiPlacesAreStarts =
+    (text : List ℕ) (offset : ℕ) → All (λ byte. byte < 128) text → All (λ byte. byte ≢ ascii.carriage_return) text → is_start 0 text offset ≡ true

@@ -1,11 +1,11 @@
 -- What is offered against the fault of an item, as edits of its block (own): which names are near,
 -- the sign of another kind, and the spelling that reads back.
-use Rattle.std.specs.Prelude.{ℕ, suc, ◌&&◌, not, nat_le, Bool, List, [], ◌∷◌, codes, map, Option, None, Some, if◌then◌else◌}
+use Rattle.std.specs.Prelude.{ℕ, suc, ◌==◌, ◌&&◌, not, nat_le, nat_lt, Bool, List, [], ◌∷◌, codes, length, map, Option, None, Some, if◌then◌else◌}
 use Rattle.std.specs.List.{list_all}
 use Rattle.std.specs.Option.{option_map_or}
 use Rattle.std.specs.String.{string_bytes}
 use Rattle.ti_text.specs.Ascii as ascii
-use Rattle.ti_text.specs.Texts.{is_empty}
+use Rattle.ti_text.specs.Texts.{is_empty, last_byte}
 use Rattle.ti_caps.specs.Tables.{Capability, capability_named}
 use Rattle.ti_caps.specs.declared.capability.Kind.{Kind}
 use Rattle.ti_caps.specs.declared.capability.Kind.TheVariants.{Flag, Number, Text}
@@ -19,7 +19,7 @@ use Rattle.lsp_spans.specs.declared.parts.Part.{Part}
 use Rattle.lsp_fixes.specs.Candidates.{names_for}
 use Rattle.lsp_fixes.specs.Carets.{healing_caret}
 use Rattle.lsp_fixes.specs.Nearest.{nearest}
-use Rattle.lsp_fixes.specs.Pieces.{after_name, value_of, written_name}
+use Rattle.lsp_fixes.specs.Pieces.{after_name, value_of, without_last, written_name}
 use Rattle.lsp_fixes.specs.Shown.{shown}
 use Rattle.lsp_fixes.specs.declared.edits.Advice.{Advice}
 use Rattle.lsp_fixes.specs.declared.edits.Advice.TheVariants as advice
@@ -104,9 +104,21 @@ abbrev pub spelling_in : List ℕ → Option Part → List EditSeen
 spelling_in value None = []
 spelling_in value (Some part) = record { advice = advises_spelling; part = part; text = shown (spelling_of value) } ∷ []
 
+-- whether a string that is more than a CR ends with a CR that stands for itself, or has a backslash
+-- before it
+abbrev pub keeps_return : (raw value : List ℕ) → Bool
+keeps_return raw value = last_byte 0 raw == ascii.carriage_return && (nat_lt 1 (length value) && last_byte 0 value == ascii.carriage_return)
+
+-- a string as it is spelled, in place of how it is written. A CR at its end stays as it is: it may
+-- be that of a CR LF, which an editor takes for the end of the line.
+abbrev pub spelled : List PlacedByte → List ℕ → List EditSeen
+spelled raw value =
+    if keeps_return (bytes raw) value then spelling_in (without_last value) (spanned (without_last raw))
+    else spelling_in value (spanned raw)
+
 -- the value of an item as it is spelled, in place of how it is written
 abbrev pub spellings : List PlacedByte → List ℕ → List EditSeen
-spellings item value = spelling_in value (spanned (value_of item))
+spellings item value = spelled (value_of item) value
 
 -- `\^` in place of a `^` in that part
 abbrev pub caret_in : Option Part → List EditSeen

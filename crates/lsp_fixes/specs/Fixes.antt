@@ -1,6 +1,8 @@
 -- What an editor offers against the faults of a document's items (own; Language Server Protocol
 -- 3.17, "Code Action Request").
-use Rattle.std.specs.Prelude.{ℕ, ◌==◌, ◌&&◌, not, nat_le, is_none, Bool, false, List, [], ◌++◌, filter, flat_map, map, Option, None, Some, option_and_then, option_map, if◌then◌else◌}
+use Rattle.ti_text.specs.Ascii as ascii
+use Rattle.std.specs.Prelude.{ℕ, ◌==◌, ◌&&◌, not, nat_le, nat_lt, is_none, Bool, false, List, [], ◌++◌, filter, flat_map, map, Option, None, Some}
+use Rattle.std.specs.Prelude.{option_and_then, option_map, if◌then◌else◌}
 use Rattle.std.specs.List.{enumerate_from, find}
 use Rattle.std.specs.Option.{option_map_or}
 use Rattle.std.specs.String.{string_bytes}
@@ -20,7 +22,9 @@ use Rattle.lsp_types.specs.declared.places.Position.{Position}
 use Rattle.lsp_types.specs.declared.places.Range.{Range}
 use Rattle.lsp_document.specs.Diagnostics.{text_at}
 use Rattle.lsp_document.specs.Documents.{held}
+use Rattle.lsp_document.specs.Position.{units}
 use Rattle.lsp_blocks.specs.Giving.{can_be_given}
+use Rattle.lsp_blocks.specs.Places.{can_be_exchanged}
 use Rattle.lsp_blocks.specs.Spots.{offset_in, range_in, spot_at}
 use Rattle.lsp_blocks.specs.declared.spots.Spot.{Spot}
 use Rattle.lsp_fixes.specs.Edits.{AdviceSeen, EditSeen, advice_seen, edits_for, renames}
@@ -99,9 +103,18 @@ edits_in blocks stretch = edits_of blocks stretch (reading_of_text (text_at bloc
 
 -- ---- a document
 
+-- whether a byte begins a character after another byte: it is none within one, nor the LF of a
+-- CR LF
+abbrev pub begins_character : (before byte : ℕ) → Bool
+begins_character before byte = nat_lt 0 (units byte) && not (before == ascii.carriage_return && byte == ascii.newline)
+
 -- an edit of a block that begins on that line, as a fix of the text
 abbrev pub fix_of : ℕ → List ℕ → EditSeen → FixSeen
 fix_of line block edit = record { advice = edit.advice; range = range_in line block edit.part; text = edit.text }
+
+-- those edits of a block that begins on that line that an editor can make, as fixes of the text
+abbrev pub fixes_in : ℕ → List ℕ → List EditSeen → List FixSeen
+fixes_in line block edits = map (fix_of line block) (filter (λ (edit : EditSeen). can_be_exchanged block edit.part) edits)
 
 -- the stretch of a block from a place in it to another place, or to the block's end if that is
 -- after it
@@ -111,7 +124,7 @@ stretch_to block end spot = record { at = spot.at; start = spot.offset; end = of
 -- what is offered from a place in a block on to another place
 abbrev pub fixes_from : List (List ℕ) → Position → Spot → List FixSeen
 fixes_from blocks end spot =
-    map (fix_of spot.line (text_at blocks spot.at)) (edits_in blocks (stretch_to (text_at blocks spot.at) end spot))
+    fixes_in spot.line (text_at blocks spot.at) (edits_in blocks (stretch_to (text_at blocks spot.at) end spot))
 
 -- what is offered for the items that a range touches, of the block in which it begins
 abbrev pub fixes_of : List ℕ → Range → List FixSeen

@@ -1,7 +1,8 @@
 -- What a fix makes of the block of its item once the client has made the edit (own; Language Server
 -- Protocol 3.17, "TextEdit"): that item has lost its fault, and the others are as they were.
-use Rattle.std.specs.Prelude.{ℕ, ◌≡◌, ◌≢◌, ◌≤◌, ◌<◌, ◌⊎◌, All, Contains, List, length, None, Some, slice_get, slice_set}
-use Rattle.ti_text.specs.Texts.{AreBytes}
+use Rattle.std.specs.Prelude.{ℕ, ◌≡◌, ◌≢◌, ◌≤◌, ◌<◌, ◌⊎◌, All, Contains, List, ◌++◌, length, None, Some, slice_get, slice_set, take}
+use Rattle.ti_text.specs.Ascii as ascii
+use Rattle.ti_text.specs.Texts.{AreBytes, last_byte}
 use Rattle.ti_source.specs.Cutting.{OneBlock}
 use Rattle.ti_source.specs.Folding.{PlacedByte}
 use Rattle.ti_source.specs.Parsing.{reading_of_text}
@@ -27,9 +28,18 @@ IsPartOf block part = (part.start ≤ part.end) × (part.end ≤ length block)
 abbrev pub block_after : List ℕ → EditSeen → List ℕ
 block_after block edit = exchanged block edit.part edit.text
 
--- an edit is of a part of a block, which is one block then too
+-- once a part of a block is exchanged for a new text, no line ends with that text, nor just before
+-- it if it is empty
+abbrev pub IsInLine : List ℕ → Part → List ℕ → Type 0
+IsInLine block part new = last_byte ascii.newline (take part.start block ++ new) ≢ ascii.newline
+
+-- a new text is in the place of a part of a block, which is one block then too, and within a line
+abbrev pub StaysOne : List ℕ → Part → List ℕ → Type 0
+StaysOne block part new = IsPartOf block part × OneBlock (exchanged block part new) × IsInLine block part new
+
+-- an edit of a block is so
 abbrev pub Stays : List ℕ → EditSeen → Type 0
-Stays block edit = IsPartOf block edit.part × OneBlock (block_after block edit)
+Stays block edit = StaysOne block edit.part edit.text
 
 -- the item of that ordinal gets this text, and is read as the text is judged; the names field and
 -- every other item have the texts that they had, and are read as they were
@@ -81,7 +91,8 @@ Heals blocks at block after ordinal = LosesFault block after ordinal ⊎ GetsOwn
 -- block, and heals that item
 abbrev pub EditsHeal : Type 0
 EditsHeal =
-    (blocks : List (List ℕ)) (at ordinal : ℕ) (item : List PlacedByte) (edit : EditSeen) → All OneBlock blocks → at < length blocks → AreBytes (text_at blocks at)
+    (blocks : List (List ℕ)) (at ordinal : ℕ) (item : List PlacedByte) (edit : EditSeen) → All OneBlock blocks → at < length blocks
+    → AreBytes (text_at blocks at)
     → slice_get (items_of (folded_of (text_at blocks at))) ordinal ≡ Some item
     → Contains (item_edits blocks at ordinal (reading_of_text (text_at blocks at)) item) edit
     → Heals blocks at (text_at blocks at) (block_after (text_at blocks at) edit) ordinal × Stays (text_at blocks at) edit

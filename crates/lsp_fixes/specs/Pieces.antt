@@ -1,6 +1,6 @@
 -- The parts of an item as it is written (terminfo(5); X/Open Curses Issue 7, "Terminfo Source
 -- Format").
-use Rattle.std.specs.Prelude.{◌+◌, List, drop, length}
+use Rattle.std.specs.Prelude.{◌+◌, ◌-◌, List, drop, length, take}
 use Rattle.ti_source.specs.Folding.{PlacedByte}
 use Rattle.lsp_spans.specs.Subjects.{without_end}
 use Rattle.lsp_spans.specs.Touching.{name_of}
@@ -16,3 +16,7 @@ after_name item = drop (length (written_name item)) (without_end item)
 -- what is after the sign that follows the name
 abbrev pub value_of : List PlacedByte → List PlacedByte
 value_of item = drop (length (written_name item) + 1) item
+
+-- a list without its last element
+abbrev pub without_last : {X : Type 0} → List X → List X
+without_last xs = take (length xs - 1) xs

@@ -1,14 +1,17 @@
 //! What is offered against the fault of an item, as edits of its block.
 ghost use Rattle.std.specs.Prelude.{◌≡◌, ◌<◌, ◌++◌, ◌^◌, All, IfOk, OnOk, map, option_map};
 ghost use Rattle.std.specs.List.{list_all};
+ghost use Rattle.ti_source.specs.Items.{bytes};
+ghost use Rattle.lsp_spans.specs.Parts.{spanned};
 ghost use Rattle.lsp_fixes.specs.Edits as spec;
-ghost use Rattle.lsp_fixes.specs.Edits.{carets, edit_seen, edits_for, is_digit, kind_signs, known_names, rename, renames, sign_for, signs, spellings};
+ghost use Rattle.lsp_fixes.specs.Edits.{carets, edit_seen, edits_for, is_digit, keeps_return, kind_signs, known_names, rename, renames, sign_for, signs};
+ghost use Rattle.lsp_fixes.specs.Edits.{spelling_in, spellings};
 
 use crate::candidates::names_for;
 use crate::carets::healing_caret;
 use crate::distances::nearest;
-use crate::pieces::{after_name, bytes_of, span, value_of, written_name};
-use crate::texts::shown;
+use crate::pieces::{after_name, bytes_of, last_of, span, value_of, without_last, written_name};
+use crate::texts::{last_byte, shown};
 use lsp_spans::Part;
 use std::alloc::{AllocError, Global};
 use ti_caps::{Kind, find};
@@ -174,17 +177,17 @@ fn push_kind(alloc: Global, edits: &mut Vec<Edit>, item: &[(u8, usize)]) -> Resu
     }
 }
 
-// Adds the value of an item as it is spelled, in place of how it is written.
-fn push_spelling(
+// Adds a string as it is spelled, in place of how it is written.
+fn push_spelled(
     alloc: Global,
     edits: &mut Vec<Edit>,
-    item: &[(u8, usize)],
+    raw: &[(u8, usize)],
     value: &[u8],
 ) -> Result<(), AllocError>
-    requires { All (λ x. x.1 < 2 ^ 63) item.now }
-    ensures { OnOk result (map edit_seen edits.new.items ≡ map edit_seen edits.old.items ++ spellings item.now value.now) }
+    requires { All (λ x. x.1 < 2 ^ 63) raw.now }
+    ensures { OnOk result (map edit_seen edits.new.items ≡ map edit_seen edits.old.items ++ spelling_in value.now (spanned raw.now)) }
 {
-    let Some(part) = span(value_of(item)) else {
+    let Some(part) = span(raw) else {
         return Ok(());
     };
     let spelling = escape(alloc, value)?;
@@ -195,6 +198,33 @@ fn push_spelling(
         text,
     })?;
     Ok(())
+}
+
+// Whether a string that is more than a CR ends with a CR that stands for itself.
+fn keeps_return(raw: &[(u8, usize)], value: &[u8]) -> bool
+    ensures { result ≡ keeps_return (bytes raw.now) value.now }
+{
+    last_of(raw) == b'\r' && value.len() > 1 && last_byte(value) == b'\r'
+}
+
+// Adds the value of an item as it is spelled, in place of how it is written. A CR at its end stays
+// as it is: it may be that of a CR LF, which an editor takes for the end of the line.
+fn push_spelling(
+    alloc: Global,
+    edits: &mut Vec<Edit>,
+    item: &[(u8, usize)],
+    value: &[u8],
+) -> Result<(), AllocError>
+    requires { All (λ x. x.1 < 2 ^ 63) item.now }
+    ensures { OnOk result (map edit_seen edits.new.items ≡ map edit_seen edits.old.items ++ spellings item.now value.now) }
+{
+    let raw = value_of(item);
+    if keeps_return(raw, value) {
+        let front = &value[..value.len().saturating_sub(1)];
+        push_spelled(alloc, edits, without_last(raw), front)
+    } else {
+        push_spelled(alloc, edits, raw, value)
+    }
 }
 
 // Adds `\^` in place of the `^` at the end of an item's value that takes nothing, if there is one

@@ -7,10 +7,12 @@ ghost use Rattle.lsp_document.specs.Diagnostics.{text_at};
 ghost use Rattle.lsp_document.specs.Documents.{IsShortBlock};
 ghost use Rattle.lsp_fixes.specs.Edits.{edit_seen};
 ghost use Rattle.lsp_fixes.specs.Fixes as spec;
-ghost use Rattle.lsp_fixes.specs.Fixes.{fix_of, fix_seen, stretch_to, text_said, touched_edits};
+ghost use Rattle.lsp_blocks.specs.Places.{can_be_exchanged, is_place};
+ghost use Rattle.lsp_fixes.specs.Fixes.{begins_character, fix_seen, fixes_in, stretch_to, text_said, touched_edits};
 
 use crate::edits::{Advice, Edit, push_edits};
 use crate::pieces::span;
+use crate::texts::last_byte;
 use crate::uses::push_used;
 use lsp_blocks::{Spot, offset_in, range_in, spot_at};
 use lsp_document::Document;
@@ -146,7 +148,32 @@ fn edits_in(alloc: Global, database: &Database, stretch: Stretch) -> Result<Vec<
     edits_of(alloc, database, stretch, &parsed, &text, &items)
 }
 
-// Edits of a block that begins on that line, as fixes of the text.
+// Whether a byte begins a character after another byte: it is none within one, nor the LF of a
+// CR LF.
+#[tactic(auto, using(crate::proofs::Ending::units_some))]
+fn begins_character(before: u8, byte: u8) -> bool
+    ensures { result ≡ begins_character before byte }
+{
+    (byte < 128 || byte >= 192) && !(before == b'\r' && byte == b'\n')
+}
+
+// Whether an editor has a place of that offset of a block.
+#[tactic(auto, using(crate::proofs::Ending::start_at))]
+fn is_place(block: &[u8], offset: usize) -> bool
+    ensures { result ≡ is_place block.now offset }
+{
+    offset < block.len() && begins_character(last_byte(&block[..offset]), block[offset])
+}
+
+// Whether an editor can exchange a part of a block, and no more and no less.
+fn can_be_exchanged(block: &[u8], part: Part) -> bool
+    ensures { result ≡ can_be_exchanged block.now part }
+{
+    is_place(block, part.start) && is_place(block, part.end)
+}
+
+// Those edits of a block that an editor can make, as fixes of the text, if the block begins on that
+// line.
 fn fixes_of_edits(
     alloc: Global,
     line: usize,
@@ -154,15 +181,17 @@ fn fixes_of_edits(
     edits: Vec<Edit>,
 ) -> Result<Vec<Fix>, AllocError>
     requires { line + length block.now < 2 ^ 64 }
-    ensures { IfOk result (λ fixes. map fix_seen fixes.items ≡ map (λ edit. fix_of line block.now (edit_seen edit)) edits.items) }
+    ensures { IfOk result (λ fixes. map fix_seen fixes.items ≡ fixes_in line block.now (map edit_seen edits.items)) }
 {
     let mut fixes = Vec::new(alloc);
     for edit in edits {
-        fixes.push(Fix {
-            advice: edit.advice,
-            range: range_in(line, block, edit.part),
-            text: edit.text,
-        })?;
+        if can_be_exchanged(block, edit.part) {
+            fixes.push(Fix {
+                advice: edit.advice,
+                range: range_in(line, block, edit.part),
+                text: edit.text,
+            })?;
+        }
     }
     Ok(fixes)
 }
@@ -196,7 +225,9 @@ fn fixes_from(
 }
 
 /// What is offered against the faults of the items that a range touches, of the block in which it
-/// begins, in their order. A range touches an item also just after its last byte.
+/// begins, in their order. A range touches an item also just after its last byte. Nothing is offered
+/// in place of a part that ends between a CR and its LF, or within a character: no editor has such
+/// a place.
 ///
 /// # Errors
 /// Out of memory.

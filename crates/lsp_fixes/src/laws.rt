@@ -56,8 +56,8 @@ pub fn edits_heal()
 }
 
 /// A fix of a text, once the client has made the edit at the range of the fix, has taken the fault
-/// of its item away, and has changed no other item, if the range begins and ends at starts of
-/// characters. In ASCII with no CR each place is one.
+/// of its item away, and has changed no other item, whether a newline ends the text or not. In ASCII
+/// with no CR each place is the start of a character, so that no edit is left out there.
 pub fn fixes_heal()
     ensures fixes { FixesHeal }
     ensures ascii { AsciiPlacesAreStarts }

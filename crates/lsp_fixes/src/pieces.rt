@@ -1,11 +1,12 @@
 //! The parts of an item as it is written. An item is a part of a folded text: bytes, each with its
 //! offset in the block.
 ghost use Rattle.std.specs.Prelude.{◌≡◌, ◌≤◌, ◌<◌, ◌^◌, All, IfOk, IfSome, drop, length, option_map};
+ghost use Rattle.ti_text.specs.Texts.{last_byte};
 ghost use Rattle.ti_source.specs.Items.{bytes};
 ghost use Rattle.lsp_spans.specs.Parts.{IsWithin, part_of, spanned};
 ghost use Rattle.lsp_spans.specs.Subjects as subjects;
 ghost use Rattle.lsp_spans.specs.Touching as touching;
-ghost use Rattle.lsp_fixes.specs.Pieces.{after_name, value_of, written_name};
+ghost use Rattle.lsp_fixes.specs.Pieces.{after_name, value_of, without_last, written_name};
 
 use lsp_spans::{Part, name_of, span_of, used_part, without_end};
 use std::alloc::{AllocError, Global};
@@ -82,6 +83,24 @@ pub(crate) fn span(text: &[(u8, usize)]) -> Option<Part>
     ensures { result ≡ spanned text.now }
 {
     span_of(text, whole(text))
+}
+
+/// Bytes without the last of them.
+pub(crate) fn without_last(text: &[(u8, usize)]) -> &[(u8, usize)]
+    ensures text { result.now ≡ without_last text.now }
+    ensures offsets { All (λ x. x.1 < 2 ^ 63) text.now → All (λ x. x.1 < 2 ^ 63) result.now }
+{
+    &text[..text.len().saturating_sub(1)]
+}
+
+/// The last byte, or a NUL if there is none.
+pub(crate) fn last_of(text: &[(u8, usize)]) -> u8
+    ensures { result ≡ last_byte 0 (bytes text.now) }
+{
+    match text.last() {
+        Some(byte) => byte.0,
+        None => 0,
+    }
 }
 
 /// The bytes, without their places.

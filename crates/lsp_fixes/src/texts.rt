@@ -1,6 +1,7 @@
-//! Bytes as an editor is sent them.
+//! Bytes as an editor is sent them, and the last byte of a text.
 ghost use Rattle.std.specs.Prelude.{◌≡◌, IfOk, map};
 ghost use Rattle.std.specs.String.{string_bytes};
+ghost use Rattle.ti_text.specs.Texts.{last_byte};
 ghost use Rattle.lsp_fixes.specs.Shown as spec;
 
 use std::alloc::{AllocError, Global};
@@ -24,6 +25,16 @@ fn shown_bytes(alloc: Global, bytes: &[u8]) -> Result<Vec<u8>, AllocError>
         all.push(shown_byte(*byte))?;
     }
     Ok(all)
+}
+
+/// The last byte of a text, or a NUL if there is none.
+pub(crate) fn last_byte(text: &[u8]) -> u8
+    ensures { result ≡ last_byte 0 text.now }
+{
+    match text.last() {
+        Some(byte) => *byte,
+        None => 0,
+    }
 }
 
 /// Bytes as they are shown, in ASCII.

@@ -18,22 +18,35 @@ use Rattle.lsp_frames.specs.inside.Parts.{BodyStops, LineHasNoReturn, LineIsLong
 -- the text with one more line
 pub lines_text-more : (lines : List (List ℕ)) (line : List ℕ) → lines_text (lines ++ line ∷ []) ≡ lines_text lines ++ (line ++ line_end)
 lines_text-more [] line = append-nil (line ++ line_end)
-lines_text-more (first ∷ lines) line = ap (λ text. (first ++ line_end) ++ text) (lines_text-more lines line) ∙ sym (append_assoc (first ++ line_end) (lines_text lines) (line ++ line_end))
+lines_text-more (first ∷ lines) line =
+    ap (λ text. (first ++ line_end) ++ text) (lines_text-more lines line) ∙ sym (append_assoc (first ++ line_end) (lines_text lines) (line ++ line_end))
 
 All-one : (P : List ℕ → Type 0) (line : List ℕ) → P line → All P (line ∷ [])
 All-one P line here = All-cons P line [] here (All-nil P)
 
 -- no line gave a length, and this one does
-pub FirstLength-found : (lines : List (List ℕ)) (line value : List ℕ) → FirstLength lines None → IsLengthLine line → value ≡ drop 15 line → FirstLength (lines ++ line ∷ []) (Some value)
-FirstLength-found lines line value before here value_is = record { front = lines; line = line; back = []; whole = refl; before = before; here = here; value_is = value_is }
+pub FirstLength-found : (lines : List (List ℕ)) (line value : List ℕ) → FirstLength lines None → IsLengthLine line → value ≡ drop 15 line
+    → FirstLength (lines ++ line ∷ []) (Some value)
+FirstLength-found lines line value before here value_is =
+    record { front = lines; line = line; back = []; whole = refl; before = before; here = here; value_is = value_is }
 
 -- this line does not give a length either
 pub FirstLength-none : (lines : List (List ℕ)) (line : List ℕ) → FirstLength lines None → ¬ IsLengthLine line → FirstLength (lines ++ line ∷ []) None
-FirstLength-none lines line before here = All-append (λ other. ¬ IsLengthLine other) lines (line ∷ []) before (All-one (λ other. ¬ IsLengthLine other) line here)
+FirstLength-none lines line before here =
+    All-append (λ other. ¬ IsLengthLine other) lines (line ∷ []) before (All-one (λ other. ¬ IsLengthLine other) line here)
 
 -- a line before gave a length
 pub FirstLength-kept : (lines : List (List ℕ)) (line value : List ℕ) → FirstLength lines (Some value) → FirstLength (lines ++ line ∷ []) (Some value)
-FirstLength-kept lines line value h = record { front = h.front; line = h.line; back = h.back ++ line ∷ []; whole = ap (λ all. all ++ line ∷ []) h.whole ∙ append_assoc h.front (h.line ∷ h.back) (line ∷ []); before = h.before; here = h.here; value_is = h.value_is }
+FirstLength-kept lines line value h = record {
+  front = h.front;
+  line = h.line;
+  back = h.back ++ line ∷ [];
+  whole = ap (λ all. all ++ line ∷ []) h.whole
+      ∙ append_assoc h.front (h.line ∷ h.back) (line ∷ []);
+  before = h.before;
+  here = h.here;
+  value_is = h.value_is;
+}
 
 -- no line has come
 pub HeaderSoFar-none : (given : Observed) → HeaderSoFar given given None header_bytes_max

@@ -100,7 +100,8 @@ long_header lines bytes p one long later header body rest h is =
 no_length : (lines : List (List ℕ)) (value : Option (List ℕ)) (said : List ℕ) (len : ℕ) → FirstLength lines value → IsNoNumber value
     → GivesLength lines said → number_of said ≢ Some len
 no_length lines None said len first none gives announced =
-    let all : All (λ line. ¬ IsLengthLine line) (gives.front ++ gives.line ∷ gives.back) = subst (λ (l : List (List ℕ)). All (λ line. ¬ IsLengthLine line) l) gives.whole first in
+    let all : All (λ line. ¬ IsLengthLine line) (gives.front ++ gives.line ∷ gives.back) =
+    subst (λ (l : List (List ℕ)). All (λ line. ¬ IsLengthLine line) l) gives.whole first in
     no_length_line gives.front gives.line gives.back all gives.here
   where
     no_length_line : (front : List (List ℕ)) (line : List ℕ) (back : List (List ℕ)) → All (λ l. ¬ IsLengthLine l) (front ++ line ∷ back) → IsLengthLine line → ⊥

@@ -1,5 +1,6 @@
 -- Bytes have one reading as the lines of a header, as a header and as a frame.
-use Rattle.std.proofs.Common.{ℕ, ◌≡◌, ◌≢◌, List, [], ◌∷◌, ◌++◌, All, Option, None, Some, length, drop, refl, ap, sym, ◌∙◌, append_assoc, subst, arith, length-append}
+use Rattle.std.proofs.Common.{ℕ, ◌≡◌, ◌≢◌, List, [], ◌∷◌, ◌++◌, All, Option, None, Some, length, drop, refl, ap, sym, ◌∙◌, append_assoc, subst, arith}
+use Rattle.std.proofs.Common.{length-append}
 use Rattle.std.proofs.lemmas.List.Elements.{All-head, All-push, All-tail}
 use Rattle.lsp_frames.specs.FrameLaws.{OneHeader, OneReading}
 use Rattle.lsp_frames.specs.Frames.{GivesLength, HasNoNewline, IsHeader, IsHeaderLine, IsLengthLine, ReadsFrame, line_end, lines_text}
@@ -45,7 +46,8 @@ pub with_return : (line : List ℕ) → HasNoNewline line → HasNoNewline (line
 with_return line h = All-push (λ byte. byte ≢ 10) line 13 h (λ is. cc)
 
 -- two lines that begin the same bytes are equal
-pub same_line : (line other x y : List ℕ) → HasNoNewline line → HasNoNewline other → (line ++ line_end) ++ x ≡ (other ++ line_end) ++ y → (line ≡ other) × (x ≡ y)
+pub same_line : (line other x y : List ℕ) → HasNoNewline line → HasNoNewline other → (line ++ line_end) ++ x ≡ (other ++ line_end) ++ y → (line ≡ other)
+    × (x ≡ y)
 same_line line other x y p q is =
     let cut = first_cut (line ++ 13 ∷ []) (other ++ 13 ∷ []) x y (with_return line p) (with_return other q) (sym (line_cut line x) ∙ is ∙ line_cut other y) in
     (same_end line other (13 ∷ []) cut.0, cut.1)
@@ -59,11 +61,13 @@ pub same_lines : (lines others : List (List ℕ)) (x y : List ℕ) → All IsHea
 same_lines [] [] x y p q is = (refl, (same_length line_end line_end x y refl is).1)
 same_lines [] (line ∷ others) x y p q is =
     let here = All-head IsHeaderLine line others q in
-    let cut = same_line [] line x (lines_text others ++ (line_end ++ y)) no_newline-nil here.1 (is ∙ append_assoc (line ++ line_end) (lines_text others) (line_end ++ y)) in
+    let cut = same_line [] line x (lines_text others ++ (line_end ++ y)) no_newline-nil here.1
+    (is ∙ append_assoc (line ++ line_end) (lines_text others) (line_end ++ y)) in
     absurd (here.0 (sym cut.0))
 same_lines (line ∷ lines) [] x y p q is =
     let here = All-head IsHeaderLine line lines p in
-    let cut = same_line line [] (lines_text lines ++ (line_end ++ x)) y here.1 no_newline-nil (sym (append_assoc (line ++ line_end) (lines_text lines) (line_end ++ x)) ∙ is) in
+    let cut = same_line line [] (lines_text lines ++ (line_end ++ x)) y here.1 no_newline-nil
+    (sym (append_assoc (line ++ line_end) (lines_text lines) (line_end ++ x)) ∙ is) in
     absurd (here.0 cut.0)
 same_lines (line ∷ lines) (other ∷ others) x y p q is =
     let here = All-head IsHeaderLine line lines p in
@@ -93,17 +97,20 @@ first_length (f ∷ front) (b ∷ before) line other back after is p q here ther
 
 pub same_value : (lines : List (List ℕ)) (value other : List ℕ) → GivesLength lines value → GivesLength lines other → value ≡ other
 same_value lines value other h k =
-    h.value_is ∙ ap (drop 15) (first_length h.front k.front h.line k.line h.back k.back (sym h.whole ∙ k.whole) h.before k.before h.here k.here) ∙ sym k.value_is
+    h.value_is ∙ ap (drop 15) (first_length h.front k.front h.line k.line h.back k.back (sym h.whole ∙ k.whole) h.before k.before h.here k.here)
+    ∙ sym k.value_is
 
 -- ---- headers and frames
 
 -- a header, cut at its last line
-pub header_cut : (bytes : List ℕ) (lines : List (List ℕ)) (rest : List ℕ) → bytes ≡ lines_text lines ++ line_end → bytes ++ rest ≡ lines_text lines ++ (line_end ++ rest)
+pub header_cut : (bytes : List ℕ) (lines : List (List ℕ)) (rest : List ℕ) → bytes ≡ lines_text lines ++ line_end
+    → bytes ++ rest ≡ lines_text lines ++ (line_end ++ rest)
 header_cut bytes lines rest is = ap (λ (b : List ℕ). b ++ rest) is ∙ append_assoc (lines_text lines) line_end rest
 
 pub one_header-law : OneHeader
 one_header-law header other len size rest later h k is =
-    let lines = same_lines h.lines k.lines rest later h.each k.each (sym (header_cut header h.lines rest h.whole) ∙ is ∙ header_cut other k.lines later k.whole) in
+    let lines =
+    same_lines h.lines k.lines rest later h.each k.each (sym (header_cut header h.lines rest h.whole) ∙ is ∙ header_cut other k.lines later k.whole) in
     let gives : GivesLength k.lines h.value = subst (λ (l : List (List ℕ)). GivesLength l h.value) lines.0 h.gives in
     let value : h.value ≡ k.value = same_value k.lines h.value k.value gives k.gives in
     let text : lines_text h.lines ≡ lines_text k.lines = ap lines_text lines.0 in
@@ -121,7 +128,8 @@ same_frame header other body second rest later h k is =
     (sym (append_assoc header body rest) ∙ is ∙ append_assoc other second later) in
     same_length body second rest later one.1 one.2
 
-one_frame : (given : List ℕ) (left remaining : Option (List ℕ)) (body second : List ℕ) → ReadsFrame (Some given) left body → ReadsFrame (Some given) remaining second
+one_frame : (given : List ℕ) (left remaining : Option (List ℕ)) (body second : List ℕ) → ReadsFrame (Some given) left body
+    → ReadsFrame (Some given) remaining second
     → (body ≡ second) × (left ≡ remaining)
 one_frame given None remaining body second h k = absurd h.read
 one_frame given (Some left) None body second h k = absurd k.read

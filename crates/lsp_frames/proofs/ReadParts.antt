@@ -61,7 +61,8 @@ module _ (given mid left : Observed) (line : List ℕ) (read : Gives given mid l
       subst (λ (f : FrameError). LineStops room given left f) (sym why.0) (inr (inr bad))
 
 -- there is no room for one more byte
-pub line_long : (given left : Observed) (room : ℕ) (line : List ℕ) → Gives given left line → HasNoNewline line → room ≤ length line → LineStops room given left Broken
+pub line_long : (given left : Observed) (room : ℕ) (line : List ℕ) → Gives given left line → HasNoNewline line → room ≤ length line
+    → LineStops room given left Broken
 line_long given left room line read one long =
     let found : LineIsLong room given left = record { taken = line; gives = read; open_line = one; long = long } in
     inr (inl found)

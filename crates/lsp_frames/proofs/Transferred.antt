@@ -42,7 +42,8 @@ Gives-onto given mid left a b whole first second is =
     subst (λ (t : List ℕ). Gives given left t) (sym is) (Gives-then given mid left a b first second)
 
 -- a flush after all bytes were taken
-pub TakesAll-flushed : (before mid now : Observed) (bytes : List ℕ) → TakesAll before mid bytes → Keeps mid.bytes now.bytes → now.failures ≡ mid.failures → TakesAll before now bytes
+pub TakesAll-flushed : (before mid now : Observed) (bytes : List ℕ) → TakesAll before mid bytes → Keeps mid.bytes now.bytes → now.failures ≡ mid.failures
+    → TakesAll before now bytes
 TakesAll-flushed before mid now bytes written keeps failures = record {
   bytes = subst (λ (t : List ℕ). Appends before.bytes now.bytes t) (append-nil bytes)
       (Appends-then before.bytes mid.bytes now.bytes bytes [] written.bytes (Appends-keeps mid.bytes now.bytes keeps));

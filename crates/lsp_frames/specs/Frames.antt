@@ -1,5 +1,6 @@
 -- Frames: a header, an empty line, and the body (LSP 3.17, "Base Protocol").
-use Rattle.std.specs.Prelude.{ℕ, ◌≡◌, ◌≢◌, ◌+◌, ◌*◌, ◌-◌, ◌^◌, ◌<◌, ◌≤◌, ◌==◌, ◌&&◌, ◌||◌, List, [], ◌∷◌, ◌++◌, All, Bool, true, Option, None, Some, length, take, drop, map, codes, decimal, nat_lt, nat_le, if◌then◌else◌, ◌⊎◌}
+use Rattle.std.specs.Prelude.{ℕ, ◌≡◌, ◌≢◌, ◌+◌, ◌*◌, ◌-◌, ◌^◌, ◌<◌, ◌≤◌, ◌==◌, ◌&&◌, ◌||◌, List, [], ◌∷◌, ◌++◌, All, Bool, true, Option, None, Some, length}
+use Rattle.std.specs.Prelude.{take, drop, map, codes, decimal, nat_lt, nat_le, if◌then◌else◌, ◌⊎◌}
 use Rattle.std.specs.Io.KnownBytes.{Consumes}
 use Rattle.std.specs.Char.{to_ascii_lowercase}
 use Rattle.lsp_frames.specs.declared.frames.Frame.{Frame}

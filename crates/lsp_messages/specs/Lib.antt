@@ -1,3 +1,4 @@
+pub mod Bodies
 pub mod Messages
 pub mod Shapes
 pub mod Views

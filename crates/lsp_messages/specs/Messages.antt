@@ -1,9 +1,10 @@
 -- What a client asks for or tells (LSP 3.17; the section is named at each).
-use Rattle.std.specs.Prelude.{ℕ, ◌^◌, ◌||◌, List, [], ◌∷◌, Bool, true, false, not, Option, None, Some, codes, is_some, option_and_then, option_map, unwrap_or, nat_lt, if◌then◌else◌}
+use Rattle.std.specs.Prelude.{ℕ, ◌^◌, ◌||◌, List, [], ◌∷◌, Bool, true, false, not, Option, None, Some, codes, is_some, option_and_then, option_map}
+use Rattle.std.specs.Prelude.{unwrap_or, nat_lt, if◌then◌else◌}
 use Rattle.std.specs.Option.{option_map_or}
 use Rattle.std.specs.Str.{bytes_eq}
 use Rattle.serde_json.specs.Data.{Num, Data, null, boolean, number, unsigned, negative, float, string, array, object, Items, no_items, item}
-use Rattle.serde_json.specs.Find.{as_array, as_bool, as_number, as_str, get, is_float}
+use Rattle.serde_json.specs.Find.{as_array, as_bool, as_null, as_number, as_str, get, is_float}
 use Rattle.lsp_messages.specs.declared.asking.Topic.{Topic}
 use Rattle.lsp_messages.specs.declared.asking.Topic.TheVariants as asks
 use Rattle.lsp_messages.specs.declared.clients.Client.{Client}
@@ -36,13 +37,13 @@ pub data Asked : Type 0 where
   unreadable : Asked
   unknown : Asked
 
--- a notification: of a document its URI, its version, and its text or the edits; `nothing` are
--- those that ask for nothing: `initialized`, unknown ones, and those with parameters that are not
--- those of the method
+-- a notification: of a document its URI, its version if it is known, and its text or the edits;
+-- `nothing` are those that ask for nothing: `initialized`, unknown ones, and those with parameters
+-- that are not those of the method
 pub data Told : Type 0 where
   exited : Told
-  opened : List ℕ → ℕ → List ℕ → Told
-  changed : List ℕ → ℕ → List Edit → Told
+  opened : List ℕ → Option ℕ → List ℕ → Told
+  changed : List ℕ → Option ℕ → List Edit → Told
   closed : List ℕ → Told
   nothing : Told
 
@@ -87,10 +88,10 @@ range_of d = do
   end ← option_and_then position_of (get (codes "end") d)
   Some (record { start = start; end = end })
 
--- a range that may be left out
+-- a range that may be left out; `null` is none (own)
 abbrev pub optional_range : Option Data → Option (Option Range)
 optional_range None = Some None
-optional_range (Some d) = option_map Some (range_of d)
+optional_range (Some d) = if is_some (as_null d) then Some None else option_map Some (range_of d)
 
 -- "TextDocumentContentChangeEvent"; `rangeLength` is not read
 abbrev pub edit_of : Data → Option Edit
@@ -103,24 +104,28 @@ abbrev pub edits_of : Items → Option (List Edit)
 edits_of no_items = Some []
 edits_of (item d ds) = option_and_then (λ edit. option_map (λ edits. edit ∷ edits) (edits_of ds)) (edit_of d)
 
+-- "VersionedTextDocumentIdentifier", "OptionalVersionedTextDocumentIdentifier": the version, if it
+-- is known. That it is not where it is no number that all clients can hold is own: `null`, none, a
+-- negative one, one with a fraction
+abbrev pub version_of : Data → Option ℕ
+version_of document = number_at (codes "version") document
+
 -- "DidOpenTextDocumentParams"; the language is not read
 abbrev pub opened_of : Data → Option Told
 opened_of params = do
   document ← get (codes "textDocument") params
   uri ← text_at (codes "uri") document
-  version ← number_at (codes "version") document
   text ← text_at (codes "text") document
-  Some (opened uri version text)
+  Some (opened uri (version_of document) text)
 
 -- "DidChangeTextDocumentParams"
 abbrev pub changed_of : Data → Option Told
 changed_of params = do
   document ← get (codes "textDocument") params
   uri ← text_at (codes "uri") document
-  version ← number_at (codes "version") document
   items ← option_and_then as_array (get (codes "contentChanges") params)
   edits ← edits_of items
-  Some (changed uri version edits)
+  Some (changed uri (version_of document) edits)
 
 -- "DidCloseTextDocumentParams"
 abbrev pub closed_of : Data → Option Told

@@ -146,10 +146,11 @@ list_data items = object (member (codes "isIncomplete") (boolean false) (member 
 abbrev pub sync_data : Data
 sync_data = object (member (codes "change") (natural 2) (member (codes "openClose") (boolean true) no_members))
 
--- "CompletionOptions": besides letters, an equals sign and a comma have the client ask
+-- "CompletionOptions": besides letters, an equals sign has the client ask; a comma does not, since
+-- it ends a line too
 abbrev pub completion_options_data : Data
 completion_options_data =
-    object (member (codes "triggerCharacters") (array (item (string (codes "=")) (item (string (codes ",")) no_items))) no_members)
+    object (member (codes "triggerCharacters") (array (item (string (codes "=")) no_items)) no_members)
 
 -- "RenameOptions", for a client that asks first which name a rename is of
 abbrev pub rename_options_data : Bool → Data

@@ -2,6 +2,7 @@
 //!
 //! - `writing`: the values that a server sends; `answers` has those that answer questions about a
 //!   document, and `objects` makes the larger ones
+//! - `bodies`: which value a body is
 //! - `messages`: what a client asks for or tells; `reading` reads it from values, with `members`
 //!   and `asking`
 //! - `clients`: what a client can do
@@ -9,6 +10,7 @@
 
 pub mod answers;
 mod asking;
+mod bodies;
 pub mod clients;
 mod members;
 pub mod messages;
@@ -16,6 +18,7 @@ mod objects;
 pub mod reading;
 pub mod writing;
 
+pub use bodies::parse;
 pub use clients::Client;
 pub use messages::{Call, Change, Message, Notice, Question, Reply};
-pub use reading::{parse, read_message};
+pub use reading::read_message;

@@ -86,8 +86,8 @@ pub enum Notice<'a> {
     Opened {
         /// The document's URI.
         uri: &'a str,
-        /// The version of the text.
-        version: u32,
+        /// The version of the text, if it is known.
+        version: Option<u32>,
         /// The text.
         text: &'a str,
     },
@@ -95,8 +95,8 @@ pub enum Notice<'a> {
     Changed {
         /// The document's URI.
         uri: &'a str,
-        /// The version of the text after all changes.
-        version: u32,
+        /// The version of the text after all changes, if it is known.
+        version: Option<u32>,
         /// The changes, in order: each is one of the text that the ones before made.
         changes: Vec<Change<'a>>,
     },

@@ -1,9 +1,7 @@
 //! The messages of a client, read from JSON values.
 ghost use Rattle.std.specs.Prelude.{◌≡◌, IfOk, MatchOption, None, Option, Some, codes, map, option_and_then, option_map};
 ghost use Rattle.serde_json.specs.Find.{get};
-ghost use Rattle.serde_json.specs.Read.{read};
 ghost use Rattle.serde_json.specs.View.{items_view, view};
-ghost use Rattle.std.specs.Str.{IsUtf8};
 ghost use Rattle.lsp_messages.specs.Messages.{asked_of, called_of, changed, changed_of, closed_of, edit_of, edits_of, id_in, is_id, message_of, opened_of, optional_range, response_or_fault, told_by, told_of};
 ghost use Rattle.lsp_messages.specs.Views.{asked_view, edit_view, message_view, told_view};
 
@@ -15,12 +13,13 @@ use lsp_types::Range;
 use serde_json::Value;
 use std::alloc::{AllocError, Global};
 
-// The range of a change, which may be left out.
+// The range of a change, which may be left out or `null`.
 fn optional_range(change: &Value) -> Option<Option<Range>>
     ensures { result ≡ optional_range (get (codes "range") (view change.now)) }
 {
     match change.get("range") {
         None => Some(None),
+        Some(range) if range.is_null() => Some(None),
         Some(range) => Some(Some(read_range(range)?)),
     }
 }
@@ -58,22 +57,24 @@ fn read_opened(params: &Value) -> Option<Notice<'_>>
 {
     let document = params.get("textDocument")?;
     let uri = text_at(document, "uri")?;
-    let version = number_at(document, "version")?;
     let text = text_at(document, "text")?;
-    Some(Notice::Opened { uri, version, text })
+    Some(Notice::Opened {
+        uri,
+        version: number_at(document, "version"),
+        text,
+    })
 }
 
 // The URI, the version and the changes of a document that was changed, before the changes are read.
-fn changed_parts(params: &Value) -> Option<(&str, u32, &Vec<Value>)>
+fn changed_parts(params: &Value) -> Option<(&str, Option<u32>, &Vec<Value>)>
     ensures { MatchOption result (changed_of (view params.now) ≡ None)
         (λ parts. changed_of (view params.now)
         ≡ option_and_then (λ edits. Some (changed parts.0.now parts.1 edits)) (edits_of (items_view parts.2.now.items))) }
 {
     let document = params.get("textDocument")?;
     let uri = text_at(document, "uri")?;
-    let version = number_at(document, "version")?;
     let values = params.get("contentChanges")?.as_array()?;
-    Some((uri, version, values))
+    Some((uri, number_at(document, "version"), values))
 }
 
 // A document that was changed ("DidChangeTextDocumentParams").
@@ -203,20 +204,5 @@ pub fn read_message(alloc: Global, value: &Value) -> Result<Message<'_>, AllocEr
     match method.as_str() {
         None => Ok(Message::Faulty(read_id(value))),
         Some(method) => read_called(alloc, method, value),
-    }
-}
-
-/// The value that a body is. `None` if it is no JSON in UTF-8, or nests deeper than 127.
-///
-/// # Errors
-/// `AllocError` if memory ran out.
-pub fn parse(alloc: Global, body: &[u8]) -> Result<Option<Value>, AllocError>
-    ensures { IfOk result (λ value. MatchOption value (IsUtf8 body.now → read body.now ≡ None)
-        (λ v. IsUtf8 body.now × (read body.now ≡ Some (view v)))) }
-{
-    match Value::from_slice(alloc, body) {
-        Ok(value) => Ok(Some(value)),
-        Err(error) if error.is_memory() => Err(AllocError),
-        Err(_) => Ok(None),
     }
 }

@@ -171,7 +171,7 @@ fn sync_value(alloc: Global) -> Result<Value, AllocError>
 fn completion_options_value(alloc: Global) -> Result<Value, AllocError>
     ensures { IfOk result (λ v. view v ≡ completion_options_data) }
 {
-    json!(in alloc; {"triggerCharacters": ["=", ","]})
+    json!(in alloc; {"triggerCharacters": ["="]})
 }
 
 // Which actions there are ("CodeActionOptions"); none for a client that takes commands alone.

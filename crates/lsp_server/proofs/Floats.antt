@@ -1,16 +1,19 @@
 -- No answer of the server has a float, so its text is known.
 use Rattle.std.proofs.Common.{ℕ, ◌≡◌, List, Bool, true, false, cond, Option, None, Some, option_map, is_some, ◌||◌, refl}
-use Rattle.serde_json.specs.Data.{Num, unsigned, negative, float, Data, null, boolean, number, string, array, object}
+use Rattle.serde_json.specs.Data.{Num, unsigned, negative, float, Data, null, boolean, number, string, array, object, Items}
 use Rattle.serde_json.specs.Find.{as_str, get}
-use Rattle.serde_json.specs.Written.{has_float}
+use Rattle.serde_json.specs.Written.{has_float, items_have_float}
 use Rattle.std.specs.Prelude.{codes, option_and_then}
-use Rattle.lsp_messages.specs.Messages.{Asked, initialize, shutdown, about, unreadable, unknown, Meaning, Query, request, notification, response, faulty, Told, exited, opened, changed, closed, nothing, id_in, id_of, message_of, meaning_by, method_meaning, request_of, told_of}
-use Rattle.lsp_messages.specs.Shapes.{Said, said_answer, said_refusal, action_options_data, refusal_data, rename_options_data, reply_data}
+use Rattle.lsp_messages.specs.Messages.{Asked, initialize, shutdown, about, unreadable, unknown, Meaning, Query, request, notification, response, faulty}
+use Rattle.lsp_messages.specs.Messages.{Told, exited, opened, changed, closed, nothing, id_in, id_of, message_of, meaning_by, method_meaning, request_of}
+use Rattle.lsp_messages.specs.Messages.{told_of}
+use Rattle.lsp_messages.specs.Shapes.{Said, said_answer, said_refusal, action_options_data, publish_data, refusal_data, rename_options_data, reply_data}
 use Rattle.lsp_types.specs.declared.failures.Failure.{Failure}
 use Rattle.lsp_types.specs.declared.failures.Failure.TheVariants.{BadParameters, NoJson, NoMethod, NoRequest, NotInitialized}
 use Rattle.lsp_server.specs.Answers.{answer_data}
 use Rattle.lsp_server.specs.Sayings.{HasNoFloats, SaidHasNoFloat, Sayings}
-use Rattle.lsp_server.specs.Steps.{Answer, ready, done, refused, answered, shown, cleared, Open, Places, State, answered_of, open_at, replied, requested, requested_fresh, requested_running, step, told, told_in, with_edits}
+use Rattle.lsp_server.specs.Steps.{Answer, ready, done, refused, answered, shown, cleared, Open, Places, State, answered_of, open_at, replied, requested}
+use Rattle.lsp_server.specs.Steps.{requested_fresh, requested_running, step, told, told_in, with_edits}
 use Rattle.lsp_server.specs.declared.phase.Phase.{Phase}
 use Rattle.lsp_server.specs.declared.phase.Phase.TheVariants.{Fresh, Running, Finished, Ended}
 use Rattle.lsp_server.specs.inside.Turns.{HasNoFloat}
@@ -50,7 +53,8 @@ plain_request : (method : List ℕ) (d : Data) (id : Option Data) → HasNoFloat
 plain_request method d None h = tt
 plain_request method d (Some id) h = h
 
-plain_called : (b : Bool) (method : List ℕ) (d : Data) (id : Option Data) (notice : Told) → HasNoFloat id → HasNoFloat (id_meant (cond b (request_of method d id) (notification notice)))
+plain_called : (b : Bool) (method : List ℕ) (d : Data) (id : Option Data) (notice : Told) → HasNoFloat id
+    → HasNoFloat (id_meant (cond b (request_of method d id) (notification notice)))
 plain_called true method d id notice h = plain_request method d id h
 plain_called false method d id notice h = tt
 
@@ -97,12 +101,19 @@ plain_renames : (prepares : Bool) → has_float (rename_options_data prepares) �
 plain_renames false = refl
 plain_renames true = refl
 
+-- what is published, with a version or without
+plain_published : (uri : List ℕ) (version : Option ℕ) (diagnostics : Items) → items_have_float diagnostics ≡ false
+    → has_float (publish_data uri version diagnostics) ≡ false
+plain_published uri None diagnostics h = rw h refl
+plain_published uri (Some version) diagnostics h = rw h refl
+
 plain_answer : (says : Sayings) (answer : Answer) → HasNoFloats says → HasNoFloat (id_answered answer) → has_float (answer_data says answer) ≡ false
 plain_answer says (ready id client) plain h = rw h (rw (plain_actions client.takes_actions) (rw (plain_renames client.prepares_renames) refl))
 plain_answer says (done id) plain h = rw h refl
 plain_answer says (refused id failure) plain h = plain_refusal id failure h
-plain_answer says (answered id document query) plain h = plain_reply id (says.answers document.text document.uri query) h (plain.answers document.text document.uri query)
-plain_answer says (shown document) plain h = rw (plain.diagnostics document.text) refl
+plain_answer says (answered id document query) plain h =
+    plain_reply id (says.answers document.text document.uri query) h (plain.answers document.text document.uri query)
+plain_answer says (shown document) plain h = plain_published document.uri document.version (says.diagnostics document.text) (plain.diagnostics document.text)
 plain_answer says (cleared uri) plain h = refl
 
 -- ---- steps
@@ -110,31 +121,36 @@ plain_answer says (cleared uri) plain h = refl
 abbrev IsPlain : Sayings → Option Answer → Type 0
 IsPlain says answer = HasNoFloat (option_map (answer_data says) answer)
 
-plain_fresh : (says : Sayings) (id : Data) (asked : Asked) → HasNoFloats says → has_float id ≡ false → has_float (answer_data says (requested_fresh id asked).1) ≡ false
+plain_fresh : (says : Sayings) (id : Data) (asked : Asked) → HasNoFloats says → has_float id ≡ false
+    → has_float (answer_data says (requested_fresh id asked).1) ≡ false
 plain_fresh says id (initialize client) plain h = plain_answer says (ready id client) plain h
 plain_fresh says id shutdown plain h = plain_answer says (refused (Some id) NotInitialized) plain h
 plain_fresh says id (about uri query) plain h = plain_answer says (refused (Some id) NotInitialized) plain h
 plain_fresh says id unreadable plain h = plain_answer says (refused (Some id) NotInitialized) plain h
 plain_fresh says id unknown plain h = plain_answer says (refused (Some id) NotInitialized) plain h
 
-plain_about : (says : Sayings) (id : Data) (query : Query) (found : Option Open) → HasNoFloats says → has_float id ≡ false → has_float (answer_data says (answered_of id query found)) ≡ false
+plain_about : (says : Sayings) (id : Data) (query : Query) (found : Option Open) → HasNoFloats says → has_float id ≡ false
+    → has_float (answer_data says (answered_of id query found)) ≡ false
 plain_about says id query None plain h = plain_answer says (refused (Some id) BadParameters) plain h
 plain_about says id query (Some document) plain h = plain_answer says (answered id document query) plain h
 
-plain_running : (says : Sayings) (documents : List Open) (id : Data) (asked : Asked) → HasNoFloats says → has_float id ≡ false → has_float (answer_data says (requested_running documents id asked).1) ≡ false
+plain_running : (says : Sayings) (documents : List Open) (id : Data) (asked : Asked) → HasNoFloats says → has_float id ≡ false
+    → has_float (answer_data says (requested_running documents id asked).1) ≡ false
 plain_running says documents id (initialize client) plain h = plain_answer says (refused (Some id) NoRequest) plain h
 plain_running says documents id shutdown plain h = plain_answer says (done id) plain h
 plain_running says documents id (about uri query) plain h = plain_about says id query (open_at uri documents) plain h
 plain_running says documents id unreadable plain h = plain_answer says (refused (Some id) BadParameters) plain h
 plain_running says documents id unknown plain h = plain_answer says (refused (Some id) NoMethod) plain h
 
-plain_requested : (says : Sayings) (documents : List Open) (phase : Phase) (id : Data) (asked : Asked) → HasNoFloats says → has_float id ≡ false → has_float (answer_data says (requested documents phase id asked).1) ≡ false
+plain_requested : (says : Sayings) (documents : List Open) (phase : Phase) (id : Data) (asked : Asked) → HasNoFloats says → has_float id ≡ false
+    → has_float (answer_data says (requested documents phase id asked).1) ≡ false
 plain_requested says documents Fresh id asked plain h = plain_fresh says id asked plain h
 plain_requested says documents Running id asked plain h = plain_running says documents id asked plain h
 plain_requested says documents Finished id asked plain h = plain_answer says (refused (Some id) NoRequest) plain h
 plain_requested says documents (Ended status) id asked plain h = plain_answer says (refused (Some id) NoRequest) plain h
 
-plain_changed : (says : Sayings) (change : Open → Open) (found : Option Open) → HasNoFloats says → IsPlain says (option_map (λ document. shown (change document)) found)
+plain_changed : (says : Sayings) (change : Open → Open) (found : Option Open) → HasNoFloats says
+    → IsPlain says (option_map (λ document. shown (change document)) found)
 plain_changed says change None plain = tt
 plain_changed says change (Some document) plain = plain_answer says (shown (change document)) plain tt
 
@@ -149,13 +165,15 @@ plain_told says places (changed uri version edits) documents plain = plain_chang
 plain_told says places (closed uri) documents plain = plain_closed says uri (open_at uri documents)
 plain_told says places nothing documents plain = tt
 
-plain_told_in : (says : Sayings) (places : Places) (phase : Phase) (notice : Told) (documents : List Open) → HasNoFloats says → IsPlain says (told_in places phase notice documents).1
+plain_told_in : (says : Sayings) (places : Places) (phase : Phase) (notice : Told) (documents : List Open) → HasNoFloats says
+    → IsPlain says (told_in places phase notice documents).1
 plain_told_in says places Fresh notice documents plain = tt
 plain_told_in says places Running notice documents plain = plain_told says places notice documents plain
 plain_told_in says places Finished notice documents plain = tt
 plain_told_in says places (Ended status) notice documents plain = tt
 
-plain_step : (says : Sayings) (places : Places) (state : State) (message : Meaning) → HasNoFloats says → HasNoFloat (id_meant message) → IsPlain says (step places state message).1
+plain_step : (says : Sayings) (places : Places) (state : State) (message : Meaning) → HasNoFloats says → HasNoFloat (id_meant message)
+    → IsPlain says (step places state message).1
 plain_step says places state (request id asked) plain h = plain_requested says state.documents state.phase id asked plain h
 plain_step says places state (notification notice) plain h = plain_told_in says places state.phase notice state.documents plain
 plain_step says places state response plain h = tt

@@ -31,12 +31,12 @@ frame_of_body : (given left : Observed) (frame : Frame) (value : Option Data) �
     → (bytes : List ℕ) × IsFrame bytes value × Gives given left bytes
 frame_of_body given left (Body body) None h is = (
   h.bytes.0.header ++ body.items,
-  record { header = h.bytes.0.header; body = body.items; whole = refl; announces = h.bytes.0.announces; value_is = λ short. is },
+  record { header = h.bytes.0.header; body = body.items; whole = refl; announces = h.bytes.0.announces; value_is = λ short. sym is },
   record { bytes = h.bytes.0.read; failures = h.failures },
 )
 frame_of_body given left (Body body) (Some value) h is = (
   h.bytes.0.header ++ body.items,
-  record { header = h.bytes.0.header; body = body.items; whole = refl; announces = h.bytes.0.announces; value_is = (h.bytes.1, is.0, is.1) },
+  record { header = h.bytes.0.header; body = body.items; whole = refl; announces = h.bytes.0.announces; value_is = (h.bytes.1, sym is) },
   record { bytes = h.bytes.0.read; failures = h.failures },
 )
 frame_of_body given left TooLong None h is = (

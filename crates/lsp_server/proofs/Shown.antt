@@ -5,10 +5,12 @@ use Rattle.std.specs.Option.{option_to_list}
 use Rattle.std.specs.Str.{bytes_eq}
 use Rattle.std.proofs.lemmas.Slice.Eq.{bytes_eq-Decides}
 use Rattle.serde_json.specs.Data.{Data}
-use Rattle.lsp_messages.specs.Messages.{Asked, initialize, shutdown, about, unreadable, unknown, Meaning, message_of, Query, request, notification, response, faulty, Told, exited, opened, changed, closed, nothing}
+use Rattle.lsp_messages.specs.Messages.{Asked, initialize, shutdown, about, unreadable, unknown, Meaning, message_of, Query, request, notification}
+use Rattle.lsp_messages.specs.Messages.{response, faulty, Told, exited, opened, changed, closed, nothing}
 use Rattle.lsp_server.specs.Runs.{AnswersAreOfShownTexts, answers_to, last_shown, shown_by, state_after, OpenDocumentsAreShown}
 use Rattle.lsp_server.specs.Serving.{ServedDocumentsAreShown, replies_to, served_state}
-use Rattle.lsp_server.specs.Steps.{Answer, shown, cleared, Open, Places, State, answered_of, at_start, open_at, requested, requested_fresh, requested_running, replied, step, told, told_in, with_change, with_document, with_edits, without}
+use Rattle.lsp_server.specs.Steps.{Answer, shown, cleared, Open, Places, State, answered_of, at_start, open_at, requested, requested_fresh}
+use Rattle.lsp_server.specs.Steps.{requested_running, replied, step, told, told_in, with_change, with_document, with_edits, without}
 use Rattle.lsp_server.specs.declared.phase.Phase.{Phase}
 use Rattle.lsp_server.specs.declared.phase.Phase.TheVariants.{Fresh, Running, Finished, Ended}
 
@@ -53,15 +55,18 @@ put_in : (uri : List ℕ) (new d : Open) (ds : List Open) (p : Bool) → bytes_e
     → open_at uri (with_document new ds) ≡ cond (bytes_eq new.uri uri) (Some new) (open_at uri ds)
     → open_at uri (cond p (new ∷ ds) (d ∷ with_document new ds)) ≡ cond (bytes_eq new.uri uri) (Some new) (cond (bytes_eq d.uri uri) (Some d) (open_at uri ds))
 put_in uri new d ds true e h = found_first (bytes_eq d.uri uri) (bytes_eq new.uri uri) (Some new) (Some d) (open_at uri ds) (tests_agree d.uri new.uri uri e)
-put_in uri new d ds false e h = found_later (bytes_eq d.uri uri) (bytes_eq new.uri uri) (Some new) (Some d) (open_at uri ds) (open_at uri (with_document new ds)) (one_at_most d.uri new.uri uri e) h
+put_in uri new d ds false e h = found_later (bytes_eq d.uri uri) (bytes_eq new.uri uri) (Some new) (Some d) (open_at uri ds)
+    (open_at uri (with_document new ds)) (one_at_most d.uri new.uri uri e) h
 
-open_at-with_document : (uri : List ℕ) (new : Open) (documents : List Open) → open_at uri (with_document new documents) ≡ cond (bytes_eq new.uri uri) (Some new) (open_at uri documents)
+open_at-with_document : (uri : List ℕ) (new : Open) (documents : List Open) → open_at uri (with_document new documents)
+    ≡ cond (bytes_eq new.uri uri) (Some new) (open_at uri documents)
 open_at-with_document uri new [] = refl
 open_at-with_document uri new (d ∷ ds) = put_in uri new d ds (bytes_eq d.uri new.uri) refl (open_at-with_document uri new ds)
 
 -- ---- a document that is changed
 
-found_in : (uri : List ℕ) (x : Open) (ds : List Open) (d : Open) (p : Bool) → bytes_eq x.uri uri ≡ p → (open_at uri ds ≡ Some d → bytes_eq d.uri uri ≡ true) → cond p (Some x) (open_at uri ds) ≡ Some d → bytes_eq d.uri uri ≡ true
+found_in : (uri : List ℕ) (x : Open) (ds : List Open) (d : Open) (p : Bool) → bytes_eq x.uri uri ≡ p → (open_at uri ds ≡ Some d → bytes_eq d.uri uri ≡ true)
+    → cond p (Some x) (open_at uri ds) ≡ Some d → bytes_eq d.uri uri ≡ true
 found_in uri x ds d true e h f = let same : x ≡ d = cc in subst (λ (y : Open). bytes_eq y.uri uri ≡ true) same e
 found_in uri x ds d false e h f = h f
 
@@ -86,8 +91,10 @@ changed_by true false a b x e = absurd (clash true refl e)
 changed_by false true a b x e = refl
 
 -- one that is changed first, or later
-changed_first : (uri : List ℕ) (change : Open → Open) (keeps : (d : Open) → (change d).uri ≡ d.uri) (d : Open) (rest : Option Open) → shown_by uri (cond (bytes_eq d.uri uri) (Some d) rest) (shown (change d)) ≡ cond (bytes_eq (change d).uri uri) (Some (change d)) rest
-changed_first uri change keeps d rest = changed_by (bytes_eq d.uri uri) (bytes_eq (change d).uri uri) (Some (change d)) (Some d) rest (ap (λ (u : List ℕ). bytes_eq u uri) (sym (keeps d)))
+changed_first : (uri : List ℕ) (change : Open → Open) (keeps : (d : Open) → (change d).uri ≡ d.uri) (d : Open) (rest : Option Open)
+    → shown_by uri (cond (bytes_eq d.uri uri) (Some d) rest) (shown (change d)) ≡ cond (bytes_eq (change d).uri uri) (Some (change d)) rest
+changed_first uri change keeps d rest =
+    changed_by (bytes_eq d.uri uri) (bytes_eq (change d).uri uri) (Some (change d)) (Some d) rest (ap (λ (u : List ℕ). bytes_eq u uri) (sym (keeps d)))
 
 is_false : (b : Bool) → (b ≡ true → ⊥) → b ≡ false
 is_false true h = absurd (h refl)
@@ -96,28 +103,38 @@ is_false false h = refl
 not_same : (a b : List ℕ) → (bytes_eq a b ≡ true → ⊥) → bytes_eq a b ≡ false
 not_same a b h = is_false (bytes_eq a b) h
 
-changed_later : (uri other : List ℕ) (change : Open → Open) (keeps : (d : Open) → (change d).uri ≡ d.uri) (d : Open) (ds : List Open) (q : Bool) → bytes_eq d.uri uri ≡ q
-    → bytes_eq d.uri other ≡ false → shown_after uri (open_at uri ds) (option_map (λ x. shown (change x)) (open_at other ds)) ≡ open_at uri (with_change other change ds)
-    → shown_after uri (cond q (Some d) (open_at uri ds)) (option_map (λ x. shown (change x)) (open_at other ds)) ≡ cond q (Some d) (open_at uri (with_change other change ds))
+changed_later : (uri other : List ℕ) (change : Open → Open) (keeps : (d : Open) → (change d).uri ≡ d.uri) (d : Open) (ds : List Open) (q : Bool)
+    → bytes_eq d.uri uri ≡ q
+    → bytes_eq d.uri other ≡ false → shown_after uri (open_at uri ds) (option_map (λ x. shown (change x)) (open_at other ds))
+    ≡ open_at uri (with_change other change ds)
+    → shown_after uri (cond q (Some d) (open_at uri ds)) (option_map (λ x. shown (change x)) (open_at other ds))
+    ≡ cond q (Some d) (open_at uri (with_change other change ds))
 changed_later uri other change keeps d ds true e differ h =
-    let apart : bytes_eq other uri ≡ false = not_same other uri (λ same. clash (bytes_eq d.uri other) (is_same d.uri other (same_uri d.uri uri e ∙ sym (same_uri other uri same))) differ) in
+    let apart : bytes_eq other uri ≡ false =
+    not_same other uri (λ same. clash (bytes_eq d.uri other) (is_same d.uri other (same_uri d.uri uri e ∙ sym (same_uri other uri same))) differ) in
     other_shown uri other (Some d) change keeps (open_at other ds) (found_has other ds) apart
 changed_later uri other change keeps d ds false e differ h = h
 
-change_in : (uri other : List ℕ) (change : Open → Open) (keeps : (d : Open) → (change d).uri ≡ d.uri) (d : Open) (ds : List Open) (p : Bool) → bytes_eq d.uri other ≡ p
+change_in : (uri other : List ℕ) (change : Open → Open) (keeps : (d : Open) → (change d).uri ≡ d.uri) (d : Open) (ds : List Open) (p : Bool)
+    → bytes_eq d.uri other ≡ p
     → shown_after uri (open_at uri ds) (option_map (λ x. shown (change x)) (open_at other ds)) ≡ open_at uri (with_change other change ds)
-    → shown_after uri (cond (bytes_eq d.uri uri) (Some d) (open_at uri ds)) (option_map (λ x. shown (change x)) (cond p (Some d) (open_at other ds))) ≡ open_at uri (cond p (change d ∷ ds) (d ∷ with_change other change ds))
+    → shown_after uri (cond (bytes_eq d.uri uri) (Some d) (open_at uri ds)) (option_map (λ x. shown (change x)) (cond p (Some d) (open_at other ds)))
+    ≡ open_at uri (cond p (change d ∷ ds) (d ∷ with_change other change ds))
 change_in uri other change keeps d ds true e h = changed_first uri change keeps d (open_at uri ds)
 change_in uri other change keeps d ds false e h = changed_later uri other change keeps d ds (bytes_eq d.uri uri) refl e h
 
-shown_changed : (uri other : List ℕ) (change : Open → Open) (keeps : (d : Open) → (change d).uri ≡ d.uri) (ds : List Open) → shown_after uri (open_at uri ds) (option_map (λ x. shown (change x)) (open_at other ds)) ≡ open_at uri (with_change other change ds)
+shown_changed : (uri other : List ℕ) (change : Open → Open) (keeps : (d : Open) → (change d).uri ≡ d.uri) (ds : List Open)
+    → shown_after uri (open_at uri ds) (option_map (λ x. shown (change x)) (open_at other ds)) ≡ open_at uri (with_change other change ds)
 shown_changed uri other change keeps [] = refl
 shown_changed uri other change keeps (d ∷ ds) = change_in uri other change keeps d ds (bytes_eq d.uri other) refl (shown_changed uri other change keeps ds)
 
 -- ---- a document that is closed
 
-keep_in : (uri other : List ℕ) (d : Open) (ds : List Open) (p : Bool) → bytes_eq d.uri other ≡ p → bytes_eq other uri ≡ false → open_at uri (without other ds) ≡ open_at uri ds → open_at uri (cond (not p) (d ∷ without other ds) (without other ds)) ≡ cond (bytes_eq d.uri uri) (Some d) (open_at uri ds)
-keep_in uri other d ds true e differ h = let apart : bytes_eq d.uri uri ≡ false = ap (λ (u : List ℕ). bytes_eq u uri) (same_uri d.uri other e) ∙ differ in rw apart h
+keep_in : (uri other : List ℕ) (d : Open) (ds : List Open) (p : Bool) → bytes_eq d.uri other ≡ p → bytes_eq other uri ≡ false
+    → open_at uri (without other ds) ≡ open_at uri ds → open_at uri (cond (not p) (d ∷ without other ds) (without other ds))
+    ≡ cond (bytes_eq d.uri uri) (Some d) (open_at uri ds)
+keep_in uri other d ds true e differ h =
+    let apart : bytes_eq d.uri uri ≡ false = ap (λ (u : List ℕ). bytes_eq u uri) (same_uri d.uri other e) ∙ differ in rw apart h
 keep_in uri other d ds false e differ h = ap (λ (x : Option Open). cond (bytes_eq d.uri uri) (Some d) x) h
 
 -- another document stays
@@ -125,7 +142,8 @@ open_at-without_other : (uri other : List ℕ) (ds : List Open) → bytes_eq oth
 open_at-without_other uri other [] differ = refl
 open_at-without_other uri other (d ∷ ds) differ = keep_in uri other d ds (bytes_eq d.uri other) refl differ (open_at-without_other uri other ds differ)
 
-drop_in : (uri other : List ℕ) (d : Open) (ds : List Open) (p : Bool) → bytes_eq d.uri other ≡ p → bytes_eq other uri ≡ true → open_at uri (without other ds) ≡ None → open_at uri (cond (not p) (d ∷ without other ds) (without other ds)) ≡ None
+drop_in : (uri other : List ℕ) (d : Open) (ds : List Open) (p : Bool) → bytes_eq d.uri other ≡ p → bytes_eq other uri ≡ true
+    → open_at uri (without other ds) ≡ None → open_at uri (cond (not p) (d ∷ without other ds) (without other ds)) ≡ None
 drop_in uri other d ds true e same h = h
 drop_in uri other d ds false e same h =
     let apart : bytes_eq d.uri uri ≡ false = ap (λ (u : List ℕ). bytes_eq d.uri u) (sym (same_uri other uri same)) ∙ e in
@@ -136,15 +154,18 @@ open_at-without : (uri other : List ℕ) (ds : List Open) → bytes_eq other uri
 open_at-without uri other [] same = refl
 open_at-without uri other (d ∷ ds) same = drop_in uri other d ds (bytes_eq d.uri other) refl same (open_at-without uri other ds same)
 
-cleared_same : (uri other : List ℕ) (found : Option Open) → bytes_eq other uri ≡ true → shown_after uri found (option_map (λ (d : Open). cleared other) found) ≡ None
+cleared_same : (uri other : List ℕ) (found : Option Open) → bytes_eq other uri ≡ true
+    → shown_after uri found (option_map (λ (d : Open). cleared other) found) ≡ None
 cleared_same uri other None same = refl
 cleared_same uri other (Some d) same = rw same refl
 
-cleared_other : (uri other : List ℕ) (before found : Option Open) → bytes_eq other uri ≡ false → shown_after uri before (option_map (λ (d : Open). cleared other) found) ≡ before
+cleared_other : (uri other : List ℕ) (before found : Option Open) → bytes_eq other uri ≡ false
+    → shown_after uri before (option_map (λ (d : Open). cleared other) found) ≡ before
 cleared_other uri other before None differ = refl
 cleared_other uri other before (Some d) differ = rw differ refl
 
-closed_by : (uri other : List ℕ) (ds : List Open) (p : Bool) → bytes_eq other uri ≡ p → shown_after uri (open_at uri ds) (option_map (λ (d : Open). cleared other) (open_at other ds)) ≡ open_at uri (without other ds)
+closed_by : (uri other : List ℕ) (ds : List Open) (p : Bool) → bytes_eq other uri ≡ p
+    → shown_after uri (open_at uri ds) (option_map (λ (d : Open). cleared other) (open_at other ds)) ≡ open_at uri (without other ds)
 closed_by uri other ds true e =
     let found : open_at other ds ≡ open_at uri ds = ap (λ (u : List ℕ). open_at u ds) (same_uri other uri e) in
     rw found (cleared_same uri other (open_at uri ds) e ∙ sym (open_at-without uri other ds e))
@@ -152,14 +173,16 @@ closed_by uri other ds false e = cleared_other uri other (open_at uri ds) (open_
 
 -- ---- messages
 
-shown_told : (places : Places) (uri : List ℕ) (notice : Told) (ds : List Open) → shown_after uri (open_at uri ds) (told places notice ds).1 ≡ open_at uri (told places notice ds).0
+shown_told : (places : Places) (uri : List ℕ) (notice : Told) (ds : List Open) → shown_after uri (open_at uri ds) (told places notice ds).1
+    ≡ open_at uri (told places notice ds).0
 shown_told places uri exited ds = refl
 shown_told places uri (opened other version text) ds = sym (open_at-with_document uri (record { uri = other; version = version; text = text }) ds)
 shown_told places uri (changed other version edits) ds = shown_changed uri other (with_edits places version edits) (λ d. refl) ds
 shown_told places uri (closed other) ds = closed_by uri other ds (bytes_eq other uri) refl
 shown_told places uri nothing ds = refl
 
-shown_in : (places : Places) (uri : List ℕ) (phase : Phase) (notice : Told) (ds : List Open) → shown_after uri (open_at uri ds) (told_in places phase notice ds).1 ≡ open_at uri (told_in places phase notice ds).0
+shown_in : (places : Places) (uri : List ℕ) (phase : Phase) (notice : Told) (ds : List Open)
+    → shown_after uri (open_at uri ds) (told_in places phase notice ds).1 ≡ open_at uri (told_in places phase notice ds).0
 shown_in places uri Fresh notice ds = refl
 shown_in places uri Running notice ds = shown_told places uri notice ds
 shown_in places uri Finished notice ds = refl
@@ -172,24 +195,28 @@ shown_fresh uri before id (about other query) = refl
 shown_fresh uri before id unreadable = refl
 shown_fresh uri before id unknown = refl
 
-shown_about : (uri : List ℕ) (before : Option Open) (id : Data) (query : Query) (found : Option Open) → shown_by uri before (answered_of id query found) ≡ before
+shown_about : (uri : List ℕ) (before : Option Open) (id : Data) (query : Query) (found : Option Open)
+    → shown_by uri before (answered_of id query found) ≡ before
 shown_about uri before id query None = refl
 shown_about uri before id query (Some document) = refl
 
-shown_running : (uri : List ℕ) (before : Option Open) (documents : List Open) (id : Data) (asked : Asked) → shown_by uri before (requested_running documents id asked).1 ≡ before
+shown_running : (uri : List ℕ) (before : Option Open) (documents : List Open) (id : Data) (asked : Asked)
+    → shown_by uri before (requested_running documents id asked).1 ≡ before
 shown_running uri before documents id (initialize client) = refl
 shown_running uri before documents id shutdown = refl
 shown_running uri before documents id (about other query) = shown_about uri before id query (open_at other documents)
 shown_running uri before documents id unreadable = refl
 shown_running uri before documents id unknown = refl
 
-shown_requested : (uri : List ℕ) (before : Option Open) (documents : List Open) (phase : Phase) (id : Data) (asked : Asked) → shown_by uri before (requested documents phase id asked).1 ≡ before
+shown_requested : (uri : List ℕ) (before : Option Open) (documents : List Open) (phase : Phase) (id : Data) (asked : Asked)
+    → shown_by uri before (requested documents phase id asked).1 ≡ before
 shown_requested uri before documents Fresh id asked = shown_fresh uri before id asked
 shown_requested uri before documents Running id asked = shown_running uri before documents id asked
 shown_requested uri before documents Finished id asked = refl
 shown_requested uri before documents (Ended status) id asked = refl
 
-shown_step : (places : Places) (uri : List ℕ) (state : State) (message : Meaning) → shown_after uri (open_at uri state.documents) (step places state message).1 ≡ open_at uri (step places state message).0.documents
+shown_step : (places : Places) (uri : List ℕ) (state : State) (message : Meaning)
+    → shown_after uri (open_at uri state.documents) (step places state message).1 ≡ open_at uri (step places state message).0.documents
 shown_step places uri state (request id asked) = shown_requested uri (open_at uri state.documents) state.documents state.phase id asked
 shown_step places uri state (notification notice) = shown_in places uri state.phase notice state.documents
 shown_step places uri state response = refl
@@ -197,11 +224,13 @@ shown_step places uri state (faulty id) = refl
 
 -- ---- runs
 
-last_shown-more : (uri : List ℕ) (before : Option Open) (answer : Option Answer) (answers : List Answer) → last_shown uri before (option_to_list answer ++ answers) ≡ last_shown uri (shown_after uri before answer) answers
+last_shown-more : (uri : List ℕ) (before : Option Open) (answer : Option Answer) (answers : List Answer)
+    → last_shown uri before (option_to_list answer ++ answers) ≡ last_shown uri (shown_after uri before answer) answers
 last_shown-more uri before None answers = refl
 last_shown-more uri before (Some answer) answers = refl
 
-shown_through : (places : Places) (uri : List ℕ) (state : State) (messages : List Meaning) → last_shown uri (open_at uri state.documents) (answers_to places state messages) ≡ open_at uri (state_after places state messages).documents
+shown_through : (places : Places) (uri : List ℕ) (state : State) (messages : List Meaning)
+    → last_shown uri (open_at uri state.documents) (answers_to places state messages) ≡ open_at uri (state_after places state messages).documents
 shown_through places uri state [] = refl
 shown_through places uri state (message ∷ messages) =
     last_shown-more uri (open_at uri state.documents) (step places state message).1 (answers_to places (step places state message).0 messages)
@@ -214,7 +243,8 @@ all_shown places messages uri = shown_through places uri at_start messages
 -- ---- questions
 
 -- a question to a server in that phase
-asked_in : (places : Places) (phase : Phase) (state : State) (id : Data) (uri : List ℕ) (query : Query) → state.phase ≡ phase → phase ≡ Running → (step places state (request id (about uri query))).1 ≡ Some (answered_of id query (open_at uri state.documents))
+asked_in : (places : Places) (phase : Phase) (state : State) (id : Data) (uri : List ℕ) (query : Query) → state.phase ≡ phase → phase ≡ Running
+    → (step places state (request id (about uri query))).1 ≡ Some (answered_of id query (open_at uri state.documents))
 asked_in places phase state id uri query is runs = rw (is ∙ runs) refl
 
 pub all_answered : AnswersAreOfShownTexts
@@ -225,11 +255,13 @@ all_answered places messages id uri query runs =
 
 -- ---- runs of frames
 
-shown_replied : (places : Places) (uri : List ℕ) (state : State) (value : Option Data) → shown_after uri (open_at uri state.documents) (replied places state value).1 ≡ open_at uri (replied places state value).0.documents
+shown_replied : (places : Places) (uri : List ℕ) (state : State) (value : Option Data)
+    → shown_after uri (open_at uri state.documents) (replied places state value).1 ≡ open_at uri (replied places state value).0.documents
 shown_replied places uri state None = refl
 shown_replied places uri state (Some value) = shown_step places uri state (message_of value)
 
-shown_served : (places : Places) (uri : List ℕ) (state : State) (values : List (Option Data)) → last_shown uri (open_at uri state.documents) (replies_to places state values) ≡ open_at uri (served_state places state values).documents
+shown_served : (places : Places) (uri : List ℕ) (state : State) (values : List (Option Data))
+    → last_shown uri (open_at uri state.documents) (replies_to places state values) ≡ open_at uri (served_state places state values).documents
 shown_served places uri state [] = refl
 shown_served places uri state (value ∷ values) =
     last_shown-more uri (open_at uri state.documents) (replied places state value).1 (replies_to places (replied places state value).0 values)

@@ -1,5 +1,5 @@
 -- The values that are sent (LSP 3.17).
-use Rattle.std.specs.Prelude.{ℕ, List, None, Some, codes}
+use Rattle.std.specs.Prelude.{ℕ, List, None, codes}
 use Rattle.serde_json.specs.Data.{Data, no_items, null}
 use Rattle.lsp_messages.specs.Shapes.{initialized_data, publish_data, refusal_data, reply_data, response_data}
 use Rattle.lsp_server.specs.Sayings.{Sayings}
@@ -15,5 +15,5 @@ answer_data says (ready id client) = response_data id (initialized_data client s
 answer_data says (done id) = response_data id null
 answer_data says (refused id failure) = refusal_data id failure
 answer_data says (answered id document query) = reply_data id (says.answers document.text document.uri query)
-answer_data says (shown document) = publish_data document.uri (Some document.version) (says.diagnostics document.text)
+answer_data says (shown document) = publish_data document.uri document.version (says.diagnostics document.text)
 answer_data says (cleared uri) = publish_data uri None no_items

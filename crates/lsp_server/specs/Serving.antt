@@ -2,9 +2,7 @@
 use Rattle.std.specs.Prelude.{ℕ, ◌≡◌, ◌+◌, ◌≤◌, List, [], ◌∷◌, ◌++◌, Option, None, Some, Result, Ok, Err, ◌⊎◌, flat_map, length, option_map}
 use Rattle.std.specs.Io.KnownBytes.{Appends, Consumes}
 use Rattle.std.specs.Option.{option_to_list}
-use Rattle.std.specs.Str.{IsUtf8}
 use Rattle.serde_json.specs.Data.{Data}
-use Rattle.serde_json.specs.Read.{read}
 use Rattle.serde_json.specs.Written.{compact_text}
 use Rattle.tools_devices.specs.Counted.{Observed}
 use Rattle.tools_devices.specs.Reading.{Gives}
@@ -13,6 +11,7 @@ use Rattle.lsp_frames.specs.Frames.{IsHeader, IsOneFrameAtMost, body_bytes_max, 
 use Rattle.lsp_frames.specs.Transfers.{NoFrameComes}
 use Rattle.lsp_frames.specs.declared.frames.FrameError.{FrameError}
 use Rattle.lsp_frames.specs.declared.frames.FrameError.TheVariants.{Memory, Broken}
+use Rattle.lsp_messages.specs.Bodies.{value_of}
 use Rattle.lsp_server.specs.Answers.{answer_data}
 use Rattle.lsp_server.specs.Sayings.{Sayings}
 use Rattle.lsp_server.specs.Runs.{last_shown}
@@ -21,10 +20,10 @@ use Rattle.lsp_server.specs.Steps.{Answer, Places, State, at_start, open_at, rep
 
 -- ---- what is read
 
--- a body is this JSON value in UTF-8, or it is none or too long
+-- a body is this JSON value, or it is none or too long
 abbrev pub IsBody : List ℕ → Option Data → Type 0
-IsBody body None = length body ≤ body_bytes_max → IsUtf8 body → read body ≡ None
-IsBody body (Some value) = (length body ≤ body_bytes_max) × IsUtf8 body × (read body ≡ Some value)
+IsBody body None = length body ≤ body_bytes_max → value_of body ≡ None
+IsBody body (Some value) = (length body ≤ body_bytes_max) × (value_of body ≡ Some value)
 
 -- the bytes are a header and the body that it announces, which is this value
 pub record IsFrame (bytes : List ℕ) (value : Option Data) : Type 0 where

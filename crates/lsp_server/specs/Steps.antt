@@ -4,7 +4,8 @@ use Rattle.std.specs.Prelude.{ℕ, ◌++◌, List, [], ◌∷◌, not, Option, N
 use Rattle.std.specs.List.{filter}
 use Rattle.std.specs.Str.{bytes_eq}
 use Rattle.serde_json.specs.Data.{Data}
-use Rattle.lsp_messages.specs.Messages.{Asked, initialize, shutdown, about, unreadable, unknown, Edit, Meaning, message_of, Query, request, notification, response, faulty, Told, exited, opened, changed, closed, nothing}
+use Rattle.lsp_messages.specs.Messages.{Asked, initialize, shutdown, about, unreadable, unknown, Edit, Meaning, message_of, Query, request, notification}
+use Rattle.lsp_messages.specs.Messages.{response, faulty, Told, exited, opened, changed, closed, nothing}
 use Rattle.lsp_types.specs.declared.failures.Failure.{Failure}
 use Rattle.lsp_types.specs.declared.failures.Failure.TheVariants.{BadParameters, NoJson, NoMethod, NoRequest, NotInitialized}
 use Rattle.lsp_messages.specs.declared.clients.Client.{Client}
@@ -13,10 +14,10 @@ use Rattle.lsp_types.specs.declared.places.Range.{Range}
 use Rattle.lsp_server.specs.declared.phase.Phase.{Phase}
 use Rattle.lsp_server.specs.declared.phase.Phase.TheVariants.{Fresh, Running, Finished, Ended}
 
--- an open document
+-- an open document; its version may not be known
 pub record Open : Type 0 where
   pub uri : List ℕ
-  pub version : ℕ
+  pub version : Option ℕ
   pub text : List ℕ
 
 -- where the server is in its life, and the documents that are open
@@ -111,12 +112,12 @@ abbrev pub without : List ℕ → List Open → List Open
 without uri documents = filter (λ document. not (bytes_eq document.uri uri)) documents
 
 -- a document whose text is edited
-abbrev pub with_edits : Places → ℕ → List Edit → Open → Open
+abbrev pub with_edits : Places → Option ℕ → List Edit → Open → Open
 with_edits places version edits document =
     record { uri = document.uri; version = version; text = edited places document.text edits }
 
 -- what becomes of the documents, and what is sent
-abbrev pub changed_at : Places → List ℕ → ℕ → List Edit → List Open → List Open × Option Answer
+abbrev pub changed_at : Places → List ℕ → Option ℕ → List Edit → List Open → List Open × Option Answer
 changed_at places uri version edits documents = (
   with_change uri (with_edits places version edits) documents,
   option_map (λ document. shown (with_edits places version edits document)) (open_at uri documents),

@@ -1,5 +1,5 @@
 //! The documents that are open.
-ghost use Rattle.std.specs.Prelude.{◌≡◌, ◌<◌, IfOk, IfSome, OnOk, Some, length, map, option_map};
+ghost use Rattle.std.specs.Prelude.{◌≡◌, ◌<◌, IfOk, IfSome, OnOk, length, map, option_map};
 ghost use Rattle.serde_json.specs.View.{view};
 ghost use Rattle.lsp_messages.specs.Shapes.{publish_data};
 ghost use Rattle.lsp_messages.specs.Views.{edit_view, question_view, reply_view};
@@ -20,8 +20,8 @@ use std::alloc::{AllocError, Global};
 pub struct Opened<D> {
     /// Its URI.
     pub uri: String,
-    /// The version of its text.
-    pub version: u32,
+    /// The version of its text, if it is known.
+    pub version: Option<u32>,
     /// Its text.
     pub source: D,
 }
@@ -57,13 +57,13 @@ fn put<D: HeldText + Drop>(documents: &mut Vec<Opened<D>>, new: Opened<D>) -> Re
 fn show<D: HeldText>(
     alloc: Global,
     uri: &str,
-    version: u32,
+    version: Option<u32>,
     source: &D,
 ) -> Result<Value, AllocError>
-    ensures { IfOk result (λ v. view v ≡ publish_data uri.now (Some version) (D.says.diagnostics (D.text_of source.now))) }
+    ensures { IfOk result (λ v. view v ≡ publish_data uri.now version (D.says.diagnostics (D.text_of source.now))) }
 {
     let diagnostics = source.diagnostics(alloc)?;
-    publish_value(alloc, uri, Some(version), diagnostics)
+    publish_value(alloc, uri, version, diagnostics)
 }
 
 /// Opens a document, or opens it anew. The answer is what is published of it.
@@ -74,7 +74,7 @@ pub fn open<D: HeldText + Drop>(
     alloc: Global,
     documents: &mut Vec<Opened<D>>,
     uri: &str,
-    version: u32,
+    version: Option<u32>,
     text: &str,
 ) -> Result<Value, AllocError>
     ensures documents { OnOk result (documents_view D.text_of documents.new.items
@@ -99,7 +99,7 @@ pub fn open<D: HeldText + Drop>(
 fn change_one<D: HeldText>(
     alloc: Global,
     document: &mut Opened<D>,
-    version: u32,
+    version: Option<u32>,
     changes: &[Change<'_>],
 ) -> Result<Value, AllocError>
     ensures document { OnOk result (open_view D.text_of document.new
@@ -122,7 +122,7 @@ pub fn change<D: HeldText>(
     alloc: Global,
     documents: &mut Vec<Opened<D>>,
     uri: &str,
-    version: u32,
+    version: Option<u32>,
     changes: &[Change<'_>],
 ) -> Result<Option<Value>, AllocError>
     ensures { IfOk result (λ answer. Tells D.text_of D.says documents.new.items answer

@@ -3,7 +3,8 @@ use Rattle.std.proofs.Common.{◌≡◌, ℕ, Bool, true, false, ◌==◌, ◌||
 use Rattle.std.proofs.lemmas.Bool.{cases_Bool, eqb-true}
 use Rattle.std.proofs.lemmas.List.{append-nil}
 use Rattle.ti_text.specs.WhiteSpace.{is_white_space}
-use Rattle.ti_source.specs.Folding.{PlacedByte, HasNoNewline, AreLines, no_lines, last_line, line_and_rest, is_comment, is_blank, IsBlankRun, BeginsNoBlank, Joins, last_piece, piece_and_break}
+use Rattle.ti_source.specs.Folding.{PlacedByte, HasNoNewline, AreLines, no_lines, last_line, line_and_rest, is_comment, is_blank, IsBlankRun, BeginsNoBlank}
+use Rattle.ti_source.specs.Folding.{Joins, last_piece, piece_and_break}
 use Rattle.ti_source.specs.inside.Folding.{without_breaks as breaks_left}
 use Rattle.ti_source.proofs.FoldingLaws.{joins_so}
 use Rattle.lsp_spans.specs.inside.Lines.{KeepsLines}
@@ -48,7 +49,8 @@ lines_left comment _ _ (line_and_rest (x ∷ xs) rest at lines none are) =
     ∙ sym (line_left (x ∷ xs ++ (10, at) ∷ []) lines (x.0 == 35) refl)
 
 -- the lines of a text
-more_line : (x : PlacedByte) (text : List PlacedByte) (lines : List (List PlacedByte)) → (x.0 == 10) ≡ false → AreLines text lines → (ls : List (List PlacedByte)) × AreLines (x ∷ text) ls
+more_line : (x : PlacedByte) (text : List PlacedByte) (lines : List (List PlacedByte)) → (x.0 == 10) ≡ false → AreLines text lines
+    → (ls : List (List PlacedByte)) × AreLines (x ∷ text) ls
 more_line x _ _ n no_lines = ((x ∷ []) ∷ [], last_line (x ∷ []) (λ e. cc) (n, tt))
 more_line x _ _ n (last_line line some none) = ((x ∷ line) ∷ [], last_line (x ∷ line) (λ e. cc) (n, none))
 more_line x _ _ n (line_and_rest line rest at lines none are) = ((x ∷ line ++ (10, at) ∷ []) ∷ lines, line_and_rest (x ∷ line) rest at lines (n, none) are)
@@ -58,7 +60,11 @@ some_lines [] = ([], no_lines)
 some_lines (x ∷ xs) =
     let (ls, are) = some_lines xs in
     elim (cases_Bool (x.0 == 10)) [
-      | inl t ↦ (((10, x.1) ∷ []) ∷ ls, subst (λ b. AreLines ((b, x.1) ∷ xs) (((10, x.1) ∷ []) ∷ ls)) (sym (eqb-true x.0 10 t)) (line_and_rest [] xs x.1 ls tt are))
+      | inl t ↦ (
+        ((10, x.1) ∷ []) ∷ ls,
+        subst (λ b. AreLines ((b, x.1) ∷ xs) (((10, x.1) ∷ []) ∷ ls)) (sym (eqb-true x.0 10 t))
+            (line_and_rest [] xs x.1 ls tt are),
+      )
       | inr f ↦ more_line x xs ls f are
     ]
 
@@ -96,7 +102,16 @@ joining_before : (x : PlacedByte) (xs : List PlacedByte) → Joining xs → Join
 joining_before x xs later =
     let kept = joins_by_itself x xs later in
     elim (cases_Bool (is_blank x.0)) [
-      | inl t ↦ record { kept = kept; run = x ∷ later.run; rest = later.rest; whole = ap (λ r. x ∷ r) later.whole; blank = (t, later.blank); ends = later.ends; after = rw t later.after }
+      | inl t ↦ record {
+        kept = kept;
+        run = x ∷ later.run;
+        rest = later.rest;
+        whole = ap (λ r. x ∷ r) later.whole;
+        blank = (t, later.blank);
+        ends =
+            later.ends;
+        after = rw t later.after;
+      }
       | inr f ↦ record {
         kept = kept;
         run = [];
@@ -133,11 +148,13 @@ same_breaks joining (x ∷ xs) =
 -- what is left of a text that is these lines
 pub left_of : (whole : List PlacedByte) (lines : List (List PlacedByte)) (text : List PlacedByte) → AreLines whole lines → Joins (kept_of lines) text
     → text ≡ without_breaks false (without_comments false 10 whole)
-left_of whole lines text are joins = joins_so _ text joins ∙ same_breaks false (kept_of lines) ∙ ap (without_breaks false) (sym (lines_left false whole lines are))
+left_of whole lines text are joins =
+    joins_so _ text joins ∙ same_breaks false (kept_of lines) ∙ ap (without_breaks false) (sym (lines_left false whole lines are))
 
 pub only_folded : (block : List ℕ) (text : List PlacedByte) → FoldsAt block text → text ≡ folded_of block
 only_folded block text f = left_of (bytes_at 0 block) f.lines text f.are_lines f.joins
 
 -- of the bytes of the lines that are kept
 pub only_joined : (block : List ℕ) (kept text : List PlacedByte) → KeepsLines block kept → Joins kept text → text ≡ folded_of block
-only_joined block kept text k joins = only_folded block text (record { lines = k.lines; are_lines = k.are_lines; joins = subst (λ (t : List PlacedByte). Joins t text) k.kept joins })
+only_joined block kept text k joins =
+    only_folded block text (record { lines = k.lines; are_lines = k.are_lines; joins = subst (λ (t : List PlacedByte). Joins t text) k.kept joins })

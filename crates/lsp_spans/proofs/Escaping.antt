@@ -28,7 +28,8 @@ abbrev pub items_of : Escape → ℕ → List PlacedByte → List (List PlacedBy
 items_of by before [] = [] ∷ []
 items_of by before (x ∷ xs) = cond (cuts by x.0) ([] ∷ items_of nothing 44 xs) (with_first x (items_of (escape_after by before x.0) x.0 xs))
 
-items_of-plain : (by : Escape) (before : ℕ) (x : PlacedByte) (xs : List PlacedByte) → cuts by x.0 ≡ false → items_of by before (x ∷ xs) ≡ with_first x (items_of (escape_after by before x.0) x.0 xs)
+items_of-plain : (by : Escape) (before : ℕ) (x : PlacedByte) (xs : List PlacedByte) → cuts by x.0 ≡ false
+    → items_of by before (x ∷ xs) ≡ with_first x (items_of (escape_after by before x.0) x.0 xs)
 items_of-plain by before x xs f = rw f
 
 not_true : (b : Bool) → not b ≡ true → b ≡ false
@@ -61,7 +62,8 @@ items_of-pair before x y text t =
     ∙ ap (with_first x) (items_of-plain (escape_after nothing before x.0) x.0 y text facts.1 ∙ ap (λ by. with_first y (items_of by y.0 text)) facts.2)
 
 -- a byte that takes nothing is by itself
-alone-same : (before x : ℕ) (text : List PlacedByte) → stands_alone before x text ≡ true → items_of (escape_after nothing before x) x text ≡ items_of nothing x text
+alone-same : (before x : ℕ) (text : List PlacedByte) → stands_alone before x text ≡ true → items_of (escape_after nothing before x) x text
+    ≡ items_of nothing x text
 alone-same before x [] alone = refl
 alone-same before x (y ∷ ys) alone =
     elim (cases_Bool (x == 92)) [
@@ -80,5 +82,7 @@ items_of-alone before x text h alone = items_of-plain nothing before x text (ne_
 pub one_items : (before : ℕ) (text : List PlacedByte) (items : List (List PlacedByte)) → AreItems before text items → items ≡ items_of nothing before text
 one_items _ _ _ (last_item before) = refl
 one_items _ _ _ (item_ends before line text items are) = ap (λ later. [] ∷ later) (one_items 44 text items are)
-one_items _ _ _ (pair_of_bytes before x y text item items t are) = ap (λ all. with_first x (with_first y all)) (one_items y.0 text (item ∷ items) are) ∙ sym (items_of-pair before x y text t)
-one_items _ _ _ (single_byte before x text item items h alone are) = ap (with_first x) (one_items x.0 text (item ∷ items) are) ∙ sym (items_of-alone before x text h alone)
+one_items _ _ _ (pair_of_bytes before x y text item items t are) =
+    ap (λ all. with_first x (with_first y all)) (one_items y.0 text (item ∷ items) are) ∙ sym (items_of-pair before x y text t)
+one_items _ _ _ (single_byte before x text item items h alone are) =
+    ap (with_first x) (one_items x.0 text (item ∷ items) are) ∙ sym (items_of-alone before x text h alone)

@@ -1,5 +1,6 @@
 -- A block with a part of an item exchanged.
-use Rattle.std.proofs.Common.{◌≡◌, ℕ, zero, suc, ◌+◌, ◌==◌, ◌&&◌, Bool, true, false, List, [], ◌∷◌, ◌++◌, append_assoc, drop, length, map, take, Option, None, Some, slice_get, slice_set, inl, inr, refl, sym, ap, ap₂, subst, ◌∙◌, arith}
+use Rattle.std.proofs.Common.{◌≡◌, ℕ, zero, suc, ◌+◌, ◌==◌, ◌&&◌, Bool, true, false, List, [], ◌∷◌, ◌++◌, append_assoc, drop, length, map, take, Option}
+use Rattle.std.proofs.Common.{None, Some, slice_get, slice_set, inl, inr, refl, sym, ap, ap₂, subst, ◌∙◌, arith}
 use Rattle.std.specs.Option.{option_map}
 use Rattle.std.proofs.Math.Seq.{drop-append-add, take-append_seam}
 use Rattle.std.proofs.lemmas.Bool.{cases_Bool, eqb-true}
@@ -14,19 +15,22 @@ use Rattle.ti_source.specs.Items.{AreItems, bytes, without_front}
 use Rattle.lsp_spans.specs.Folding.{bytes_at, folded_of}
 use Rattle.lsp_spans.specs.Parts.{end_of, field_of, items_after, rest_of, spanned}
 use Rattle.lsp_spans.specs.Replacing.{BeginsVisible, IsClosed, IsOneLine, IsUncut, OneItemIsReplaced, exchanged, item_texts}
-use Rattle.lsp_spans.specs.Subjects.{head_text, items_of}
+use Rattle.lsp_spans.specs.Subjects.{head_text}
 use Rattle.lsp_spans.specs.declared.parts.Part.{Part}
 use Rattle.lsp_spans.proofs.Escaping as machine
 use Rattle.lsp_spans.proofs.Escaping.{cuts, nothing, one_items}
 use Rattle.lsp_spans.proofs.Itemizing.{items_computed}
 use Rattle.lsp_spans.proofs.Ordinals.{same_field, same_texts}
-use Rattle.lsp_spans.proofs.Recutting.{Ends, Goes, HasRest, IsAt, White, by_after, by_after_at, by_after_white, ends_if_two, front_dropped, front_split, goes_after_white, goes_at, goes_if_one, goes_without_white, has_rest, item_is_at, two_if_ends}
-use Rattle.lsp_spans.proofs.Refolding.{bytes_apart, bytes_of_at, find_kept, kept_after, kept_safe, last_on_line, line_kept, no_line_begins, no_newline, past_kept, same_after, shifted}
+use Rattle.lsp_spans.proofs.Recutting.{Ends, Goes, HasRest, IsAt, White, by_after, by_after_at, by_after_white, ends_if_two, front_dropped, front_split}
+use Rattle.lsp_spans.proofs.Recutting.{goes_after_white, goes_at, goes_if_one, goes_without_white, has_rest, item_is_at, two_if_ends}
+use Rattle.lsp_spans.proofs.Refolding.{bytes_apart, bytes_of_at, find_kept, kept_after, kept_safe, last_on_line, line_kept, no_line_begins, no_newline}
+use Rattle.lsp_spans.proofs.Refolding.{past_kept, same_after, shifted}
 
 -- ---- where a part of a block is
 
 -- the last byte of a text that is not empty
-has_last : (x : PlacedByte) (xs : List PlacedByte) → (front : List PlacedByte) × (last : PlacedByte) × (x ∷ xs ≡ front ++ last ∷ []) × (end_of (suc x.1) xs ≡ suc last.1)
+has_last : (x : PlacedByte) (xs : List PlacedByte) → (front : List PlacedByte) × (last : PlacedByte) × (x ∷ xs ≡ front ++ last ∷ [])
+    × (end_of (suc x.1) xs ≡ suc last.1)
 has_last x [] = ([], x, refl, refl)
 has_last x (y ∷ ys) = let later = has_last y ys in (x ∷ later.0, later.1, ap (λ (t : List PlacedByte). x ∷ t) later.2, later.3)
 
@@ -55,7 +59,8 @@ none_and true w e = e
 none_and false w e = refl
 
 -- a new text after a byte that is no newline is kept
-new_kept : (c j : Bool) (b offset : ℕ) (n : ℕ) (ns : List ℕ) (rest : List PlacedByte) → c ≡ false → (b == 10) ≡ false → is_white_space n ≡ false → IsOneLine (n ∷ ns)
+new_kept : (c j : Bool) (b offset : ℕ) (n : ℕ) (ns : List ℕ) (rest : List PlacedByte) → c ≡ false → (b == 10) ≡ false → is_white_space n ≡ false
+    → IsOneLine (n ∷ ns)
     → kept_after c b j (bytes_at offset (n ∷ ns) ++ rest) ≡ bytes_at offset (n ∷ ns) ++ kept_after false (last_byte n ns) false rest
 new_kept c j b offset n ns rest out plain visible line =
     past_kept c j b (n, offset) (bytes_at (suc offset) ns ++ rest) (rw plain out) (rw line.0 (none_and j (is_white_space n) visible))
@@ -68,7 +73,8 @@ new_line b offset new before after =
     ∙ ap (λ (t : List PlacedByte). bytes_at 1 before ++ t) (bytes_apart (1 + length before) new after)
 
 -- a new text in the place of what is between two parts of a block
-between : (h l : ℕ) (before new after : List ℕ) (front : List PlacedByte) (c j : Bool) (at : ℕ) → begins_head h ≡ true → c ≡ false → (last_byte h before == 10) ≡ false → (l == 10) ≡ false
+between : (h l : ℕ) (before new after : List ℕ) (front : List PlacedByte) (c j : Bool) (at : ℕ) → begins_head h ≡ true → c ≡ false
+    → (last_byte h before == 10) ≡ false → (l == 10) ≡ false
     → BeginsVisible new → IsOneLine new
     → ((rest : List PlacedByte) → kept_after false h false (bytes_at 1 before ++ rest) ≡ front ++ kept_after c (last_byte h before) j rest)
     → bytes (folded_of ((h ∷ before ++ new) ++ after)) ≡ h ∷ (bytes front ++ (new ++ bytes (kept_after false l false (bytes_at at after))))
@@ -89,7 +95,8 @@ between h l before (n ∷ ns) after front c j at head out plain some visible lin
     ap bytes (same_after last l (bytes_at there after) (last_on_line n ns line.0 line.1) some) ∙ shifted false false l there at after in
     ap bytes folded
     ∙ ap (λ (t : List ℕ). h ∷ t) (map-append (λ (x : PlacedByte). x.0) front (bytes_at here new ++ left))
-    ∙ ap (λ (t : List ℕ). h ∷ (bytes front ++ t)) (map-append (λ (x : PlacedByte). x.0) (bytes_at here new) left ∙ ap₂ (λ (a b : List ℕ). a ++ b) (bytes_of_at here new) ends)
+    ∙ ap (λ (t : List ℕ). h ∷ (bytes front ++ t)) (map-append (λ (x : PlacedByte). x.0) (bytes_at here new) left
+    ∙ ap₂ (λ (a b : List ℕ). a ++ b) (bytes_of_at here new) ends)
 
 pub cut_front : (h x : ℕ) (before after : List ℕ) (at : ℕ) → at ≡ 1 + length before → take at (h ∷ (before ++ x ∷ after)) ≡ h ∷ before
 cut_front h x before after at e =
@@ -102,7 +109,8 @@ cut_back h x before after at e =
     ap (λ (n : ℕ). drop n ((h ∷ before) ++ x ∷ after)) more ∙ drop-append-add (h ∷ before) (x ∷ after) 1
 
 -- a new text in the place of a part that is kept
-refolded : (h : ℕ) (block : List ℕ) (p : PlacedByte) (front : List PlacedByte) (x : PlacedByte) (xs back : List PlacedByte) (new : List ℕ) → begins_head h ≡ true → HasNoHead h block
+refolded : (h : ℕ) (block : List ℕ) (p : PlacedByte) (front : List PlacedByte) (x : PlacedByte) (xs back : List PlacedByte) (new : List ℕ)
+    → begins_head h ≡ true → HasNoHead h block
     → BeginsVisible new → IsOneLine new → folded_of (h ∷ block) ≡ (p ∷ front) ++ ((x ∷ xs) ++ back)
     → bytes (folded_of (exchanged (h ∷ block) (record { start = x.1; end = end_of (suc x.1) xs }) new)) ≡ bytes (p ∷ front) ++ (new ++ bytes back)
 refolded h block p front x xs back new head none visible line e =
@@ -113,16 +121,21 @@ refolded h block p front x xs back new head none visible line e =
     let safe = kept_safe h (head_no_newline h head) in
     let found = find_kept false false h 1 block front x (xs ++ back) safe left in
     let ended : front ++ (x ∷ (xs ++ back)) ≡ (front ++ lasts.0) ++ lasts.1 ∷ back =
-    ap (λ (t : List PlacedByte). front ++ (t ++ back)) lasts.2 ∙ ap (λ (t : List PlacedByte). front ++ t) (append_assoc lasts.0 (lasts.1 ∷ []) back) ∙ sym (append_assoc front lasts.0 (lasts.1 ∷ back)) in
+    ap (λ (t : List PlacedByte). front ++ (t ++ back)) lasts.2 ∙ ap (λ (t : List PlacedByte). front ++ t) (append_assoc lasts.0 (lasts.1 ∷ []) back)
+    ∙ sym (append_assoc front lasts.0 (lasts.1 ∷ back)) in
     let end = find_kept false false h 1 block (front ++ lasts.0) lasts.1 back safe (left ∙ ended) in
     let plain : (last_byte h found.before == 10) ≡ false =
-    no_line_begins found.comment found.joining (last_byte h found.before) x.0 h found.before found.after refl (subst (HasNoHead h) found.whole none) found.safe found.out found.stays in
+    no_line_begins found.comment found.joining (last_byte h found.before) x.0 h found.before found.after refl
+    (subst (HasNoHead h) found.whole none) found.safe found.out found.stays in
     let out : found.comment ≡ false = rw plain at found.out in
-    let fronts : take x.1 (h ∷ block) ≡ h ∷ found.before = ap (λ (t : List ℕ). take x.1 (h ∷ t)) found.whole ∙ cut_front h x.0 found.before found.after x.1 found.place in
+    let fronts : take x.1 (h ∷ block) ≡ h ∷ found.before =
+    ap (λ (t : List ℕ). take x.1 (h ∷ t)) found.whole ∙ cut_front h x.0 found.before found.after x.1 found.place in
     let backs : drop (end_of (suc x.1) xs) (h ∷ block) ≡ end.after =
-    ap (λ (n : ℕ). drop n (h ∷ block)) lasts.3 ∙ ap (λ (t : List ℕ). drop (suc lasts.1.1) (h ∷ t)) end.whole ∙ cut_back h lasts.1.0 end.before end.after lasts.1.1 end.place in
+    ap (λ (n : ℕ). drop n (h ∷ block)) lasts.3 ∙ ap (λ (t : List ℕ). drop (suc lasts.1.1) (h ∷ t)) end.whole
+    ∙ cut_back h lasts.1.0 end.before end.after lasts.1.1 end.place in
     ap₂ (λ (a b : List ℕ). bytes (folded_of (a ++ new ++ b))) fronts backs
-    ∙ between h lasts.1.0 found.before new end.after front found.comment found.joining (suc lasts.1.1) head out plain (no_newline end.joining lasts.1.0 end.stays) visible line found.front_kept
+    ∙ between h lasts.1.0 found.before new end.after front found.comment found.joining (suc lasts.1.1) head out plain
+    (no_newline end.joining lasts.1.0 end.stays) visible line found.front_kept
     ∙ ap₂ (λ (n : ℕ) (t : List PlacedByte). n ∷ (bytes front ++ (new ++ bytes t))) (ap (λ (y : PlacedByte). y.0) first) (sym end.back_kept)
 
 -- ---- the items
@@ -135,7 +148,8 @@ pub some_first : (field rest : List PlacedByte) (comma : PlacedByte) → (p : Pl
 some_first [] rest comma = (comma, rest, refl)
 some_first (f ∷ fs) rest comma = (f, fs ++ comma ∷ rest, refl)
 
-pub found_raw : (o : Option (List PlacedByte)) (item : List PlacedByte) → option_map without_front o ≡ Some item → (raw : List PlacedByte) × (o ≡ Some raw) × (without_front raw ≡ item)
+pub found_raw : (o : Option (List PlacedByte)) (item : List PlacedByte) → option_map without_front o ≡ Some item → (raw : List PlacedByte) × (o ≡ Some raw)
+    × (without_front raw ≡ item)
 found_raw None item e = absurd cc
 found_raw (Some raw) item e = (raw, refl, cc)
 
@@ -152,12 +166,14 @@ shows : (raw white front middle back : List PlacedByte) (new : List ℕ) → Whi
     → without_front (white ++ (front ++ (bytes_at 0 new ++ back))) ≡ front ++ (bytes_at 0 new ++ back)
 shows raw white [] middle back [] are is visible = absurd visible
 shows raw white [] middle back (n ∷ ns) are is visible = front_dropped white (n, 0) (bytes_at 1 ns ++ back) are visible
-shows raw white (f ∷ fs) middle back new are is visible = front_dropped white f (fs ++ (bytes_at 0 new ++ back)) are (begins_visible raw f (fs ++ (middle ++ back)) is)
+shows raw white (f ∷ fs) middle back new are is visible =
+    front_dropped white f (fs ++ (bytes_at 0 new ++ back)) are (begins_visible raw f (fs ++ (middle ++ back)) is)
 
 pub new_bytes : (front back : List PlacedByte) (new : List ℕ) → bytes (front ++ (bytes_at 0 new ++ back)) ≡ bytes front ++ (new ++ bytes back)
 new_bytes front back new =
     map-append (λ (x : PlacedByte). x.0) front (bytes_at 0 new ++ back)
-    ∙ ap (λ (t : List ℕ). bytes front ++ t) (map-append (λ (x : PlacedByte). x.0) (bytes_at 0 new) back ∙ ap (λ (t : List ℕ). t ++ bytes back) (bytes_of_at 0 new))
+    ∙ ap (λ (t : List ℕ). bytes front ++ t) (map-append (λ (x : PlacedByte). x.0) (bytes_at 0 new) back
+    ∙ ap (λ (t : List ℕ). t ++ bytes back) (bytes_of_at 0 new))
 
 pub computed : (text : List PlacedByte) → items_after 44 text ≡ machine.items_of nothing 44 text
 computed text = one_items 44 text (items_after 44 text) (items_computed 44 text)
@@ -169,7 +185,8 @@ pub closed_ends : (text : List ℕ) → Goes nothing 44 (bytes_at 0 text) → Is
 closed_ends text goes closed =
     let comma : PlacedByte = (44, 0 + length text) in
     ends_if_two nothing 44 (bytes_at 0 text) comma (bytes_at 0 text) [] goes
-    (ap (machine.items_of nothing 44) (sym (bytes_apart 0 text (44 ∷ []))) ∙ sym (one_items 44 (bytes_at 0 (text ++ 44 ∷ [])) (bytes_at 0 text ∷ [] ∷ []) closed))
+    (ap (machine.items_of nothing 44) (sym (bytes_apart 0 text (44 ∷ [])))
+    ∙ sym (one_items 44 (bytes_at 0 (text ++ 44 ∷ [])) (bytes_at 0 text ∷ [] ∷ []) closed))
 
 pub ends_closed : (text : List ℕ) → Goes nothing 44 (bytes_at 0 text) → cuts (by_after nothing 44 (bytes_at 0 text)) 44 ≡ true → IsClosed text
 ends_closed text goes ends =
@@ -185,8 +202,10 @@ is_comma machine.backslash x e = absurd cc
 is_comma machine.caret x e = eqb-true x 44 e
 
 -- an item ends where another ended
-still_ends : (raw white item : List PlacedByte) (text : List ℕ) (other tail : List PlacedByte) → raw ≡ white ++ item → White white → Goes nothing 44 raw → Goes nothing 44 (bytes_at 0 text)
-    → by_after nothing 44 other ≡ by_after nothing 44 (bytes_at 0 text) → (IsClosed (bytes item) → IsClosed text) → Ends (by_after nothing 44 raw) tail → Ends (by_after nothing 44 other) tail
+still_ends : (raw white item : List PlacedByte) (text : List ℕ) (other tail : List PlacedByte) → raw ≡ white ++ item → White white → Goes nothing 44 raw
+    → Goes nothing 44 (bytes_at 0 text)
+    → by_after nothing 44 other ≡ by_after nothing 44 (bytes_at 0 text) → (IsClosed (bytes item) → IsClosed text) → Ends (by_after nothing 44 raw) tail
+    → Ends (by_after nothing 44 other) tail
 unfolding Ends
 still_ends raw white item text other [] whole are goes on same closed ends = tt
 still_ends raw white item text other (c ∷ tail) whole are goes on same closed ends =
@@ -205,8 +224,10 @@ pub record IsPlaced (text : List PlacedByte) (ordinal : ℕ) (raw : List PlacedB
   pub rest : HasRest text
   pub at : IsAt (rest_of text) ordinal raw
 
-replaced_at : (h : ℕ) (block : List ℕ) (ordinal : ℕ) (raw front : List PlacedByte) (x : PlacedByte) (xs back : List PlacedByte) (new text : List ℕ) → begins_head h ≡ true → HasNoHead h block
-    → BeginsVisible new → IsOneLine new → IsUncut text → (IsClosed (bytes (front ++ ((x ∷ xs) ++ back))) → IsClosed text) → text ≡ bytes front ++ (new ++ bytes back)
+replaced_at : (h : ℕ) (block : List ℕ) (ordinal : ℕ) (raw front : List PlacedByte) (x : PlacedByte) (xs back : List PlacedByte) (new text : List ℕ)
+    → begins_head h ≡ true → HasNoHead h block
+    → BeginsVisible new → IsOneLine new → IsUncut text → (IsClosed (bytes (front ++ ((x ∷ xs) ++ back))) → IsClosed text)
+    → text ≡ bytes front ++ (new ++ bytes back)
     → without_front raw ≡ front ++ ((x ∷ xs) ++ back) → IsPlaced (folded_of (h ∷ block)) ordinal raw
     → (item_texts (exchanged (h ∷ block) (record { start = x.1; end = end_of (suc x.1) xs }) new) ≡ slice_set (item_texts (h ∷ block)) ordinal text)
     × (head_text (exchanged (h ∷ block) (record { start = x.1; end = end_of (suc x.1) xs }) new) ≡ head_text (h ∷ block))
@@ -232,11 +253,13 @@ replaced_at h block ordinal raw front x xs back new text head none visible line 
     let now : bytes edited ≡ bytes all =
     refolded h block first.0 first.1 x xs (back ++ tail) new head none visible line folded
     ∙ sym (new_bytes (first.0 ∷ first.1) (back ++ tail) new)
-    ∙ ap (λ (t : List PlacedByte). bytes (t ++ (fresh ++ (back ++ tail)))) (sym first.2) ∙ ap bytes (sym (regroup field before white front fresh back tail comma)) in
+    ∙ ap (λ (t : List PlacedByte). bytes (t ++ (fresh ++ (back ++ tail)))) (sym first.2)
+    ∙ ap bytes (sym (regroup field before white front fresh back tail comma)) in
     let text_is : bytes (front ++ (fresh ++ back)) ≡ text = new_bytes front back new ∙ sym is in
     let bare_is : bytes (bytes_at 0 text) ≡ bytes (front ++ (fresh ++ back)) = bytes_of_at 0 text ∙ sym text_is in
     let on = uncut_goes text uncut in
-    let goes : Goes nothing 44 other = goes_after_white 44 white (front ++ (fresh ++ back)) refl split.are (goes_at nothing 44 (bytes_at 0 text) (front ++ (fresh ++ back)) bare_is on) in
+    let goes : Goes nothing 44 other =
+    goes_after_white 44 white (front ++ (fresh ++ back)) refl split.are (goes_at nothing 44 (bytes_at 0 text) (front ++ (fresh ++ back)) bare_is on) in
     let by : by_after nothing 44 other ≡ by_after nothing 44 (bytes_at 0 text) =
     by_after_white 44 white (front ++ (fresh ++ back)) refl split.are ∙ sym (by_after_at nothing 44 (bytes_at 0 text) (front ++ (fresh ++ back)) bare_is) in
     let ends = still_ends raw white item text other tail raw_is split.are placed.at.goes on by closed placed.at.ends in
@@ -252,32 +275,43 @@ replaced_at h block ordinal raw front x xs back new text head none visible line 
     )
 
 -- an item that is not empty has a place
-pub placed_at : (text : List PlacedByte) (ordinal : ℕ) (raw : List PlacedByte) (x : PlacedByte) (front back : List PlacedByte) → slice_get (items_after 44 (rest_of text)) ordinal ≡ Some raw
+pub placed_at : (text : List PlacedByte) (ordinal : ℕ) (raw : List PlacedByte) (x : PlacedByte) (front back : List PlacedByte)
+    → slice_get (items_after 44 (rest_of text)) ordinal ≡ Some raw
     → without_front raw ≡ front ++ x ∷ back → IsPlaced text ordinal raw
 placed_at text ordinal raw x front back there shown =
     elim (has_rest text) [
       | inl none ↦ absurd (nothing_there ordinal raw x front back (ap (λ (t : List PlacedByte). slice_get (items_after 44 t) ordinal) (sym none) ∙ there) shown)
-      | inr rest ↦ record { rest = rest; at = item_is_at ordinal (rest_of text) raw (ap (λ (l : List (List PlacedByte)). slice_get l ordinal) (sym (computed (rest_of text))) ∙ there) }
+      | inr rest ↦ record {
+        rest = rest;
+        at =
+            item_is_at ordinal (rest_of text) raw (ap (λ (l : List (List PlacedByte)). slice_get l ordinal) (sym (computed (rest_of text))) ∙ there);
+      }
     ]
   where
     no_byte : (x : PlacedByte) (front back : List PlacedByte) → [] ≡ front ++ x ∷ back → ⊥
     no_byte x [] back e = cc
     no_byte x (f ∷ fs) back e = cc
 
-    nothing_there : (ordinal : ℕ) (raw : List PlacedByte) (x : PlacedByte) (front back : List PlacedByte) → slice_get ([] ∷ []) ordinal ≡ Some raw → without_front raw ≡ front ++ x ∷ back → ⊥
+    nothing_there : (ordinal : ℕ) (raw : List PlacedByte) (x : PlacedByte) (front back : List PlacedByte) → slice_get ([] ∷ []) ordinal ≡ Some raw
+        → without_front raw ≡ front ++ x ∷ back → ⊥
     nothing_there zero raw x front back e shown = let none : [] ≡ raw = cc in no_byte x front back (ap without_front none ∙ shown)
     nothing_there (suc n) raw x front back e shown = cc
 
-by_middle : (h : ℕ) (block : List ℕ) (ordinal : ℕ) (raw item front middle back : List PlacedByte) (part : Part) (new text : List ℕ) → begins_head h ≡ true → HasNoHead h block
-    → slice_get (items_after 44 (rest_of (folded_of (h ∷ block)))) ordinal ≡ Some raw → without_front raw ≡ item → item ≡ front ++ (middle ++ back) → spanned middle ≡ Some part
+by_middle : (h : ℕ) (block : List ℕ) (ordinal : ℕ) (raw item front middle back : List PlacedByte) (part : Part) (new text : List ℕ) → begins_head h ≡ true
+    → HasNoHead h block
+    → slice_get (items_after 44 (rest_of (folded_of (h ∷ block)))) ordinal ≡ Some raw → without_front raw ≡ item → item ≡ front ++ (middle ++ back)
+    → spanned middle ≡ Some part
     → text ≡ bytes front ++ (new ++ bytes back) → BeginsVisible new → IsOneLine new → IsUncut text → (IsClosed (bytes item) → IsClosed text)
-    → (item_texts (exchanged (h ∷ block) part new) ≡ slice_set (item_texts (h ∷ block)) ordinal text) × (head_text (exchanged (h ∷ block) part new) ≡ head_text (h ∷ block))
+    → (item_texts (exchanged (h ∷ block) part new) ≡ slice_set (item_texts (h ∷ block)) ordinal text)
+    × (head_text (exchanged (h ∷ block) part new) ≡ head_text (h ∷ block))
 by_middle h block ordinal raw item front [] back part new text head none there shown whole span is visible line uncut closed = absurd cc
 by_middle h block ordinal raw item front (x ∷ xs) back part new text head none there shown whole span is visible line uncut closed =
     let one : Part = record { start = x.1; end = end_of (suc x.1) xs } in
     let same : one ≡ part = cc in
-    subst (λ (p : Part). (item_texts (exchanged (h ∷ block) p new) ≡ slice_set (item_texts (h ∷ block)) ordinal text) × (head_text (exchanged (h ∷ block) p new) ≡ head_text (h ∷ block))) same
-    (replaced_at h block ordinal raw front x xs back new text head none visible line uncut (subst (λ (i : List PlacedByte). IsClosed (bytes i) → IsClosed text) whole closed) is (shown ∙ whole)
+    subst (λ (p : Part). (item_texts (exchanged (h ∷ block) p new) ≡ slice_set (item_texts (h ∷ block)) ordinal text)
+    × (head_text (exchanged (h ∷ block) p new) ≡ head_text (h ∷ block))) same
+    (replaced_at h block ordinal raw front x xs back new text head none visible line uncut
+    (subst (λ (i : List PlacedByte). IsClosed (bytes i) → IsClosed text) whole closed) is (shown ∙ whole)
     (placed_at (folded_of (h ∷ block)) ordinal raw x front (xs ++ back) there (shown ∙ whole)))
 
 pub one_replaced : OneItemIsReplaced
@@ -285,5 +319,6 @@ one_replaced [] ordinal item part new text single there replaces = absurd single
 one_replaced (h ∷ block) ordinal item part new text single there replaces =
     let raws = items_after 44 (rest_of (folded_of (h ∷ block))) in
     let found = found_raw (slice_get raws ordinal) item (sym (slice_get-map without_front raws ordinal) ∙ there) in
-    by_middle h block ordinal found.0 item replaces.front replaces.middle replaces.back part new text single.cut.each.1.0 single.cut.each.1.1 found.1 found.2 replaces.whole replaces.there replaces.is
+    by_middle h block ordinal found.0 item replaces.front replaces.middle replaces.back part new text single.cut.each.1.0 single.cut.each.1.1 found.1
+    found.2 replaces.whole replaces.there replaces.is
     replaces.visible replaces.one_line replaces.uncut replaces.closed

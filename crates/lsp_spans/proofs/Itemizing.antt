@@ -31,13 +31,15 @@ more_pair : (before : ℕ) (x y : PlacedByte) (text : List PlacedByte) (items : 
 more_pair before x y text [] taken are = elim are [ ]
 more_pair before x y text (item ∷ items) taken are = pair_of_bytes before x y text item items taken are
 
-more_single : (before : ℕ) (x : PlacedByte) (text : List PlacedByte) (items : List (List PlacedByte)) → (x.0 == 44) ≡ false → stands_alone before x.0 text ≡ true → AreItems x.0 text items
+more_single : (before : ℕ) (x : PlacedByte) (text : List PlacedByte) (items : List (List PlacedByte)) → (x.0 == 44) ≡ false
+    → stands_alone before x.0 text ≡ true → AreItems x.0 text items
     → AreItems before (x ∷ text) (with_first x items)
 more_single before x text [] plain alone are = elim are [ ]
 more_single before x text (item ∷ items) plain alone are =
     single_byte before x text item items (λ e. false≢true (sym plain ∙ eq-eqb x.0 44 e)) alone are
 
-more_cut : (before : ℕ) (x : PlacedByte) (text : List PlacedByte) (items : List (List PlacedByte)) → (x.0 == 44) ≡ true → AreItems 44 text items → AreItems before (x ∷ text) ([] ∷ items)
+more_cut : (before : ℕ) (x : PlacedByte) (text : List PlacedByte) (items : List (List PlacedByte)) → (x.0 == 44) ≡ true → AreItems 44 text items
+    → AreItems before (x ∷ text) ([] ∷ items)
 more_cut before x text items comma are =
     subst (λ (b : ℕ). AreItems before ((b, x.1) ∷ text) ([] ∷ items)) (sym (eqb-true x.0 44 comma)) (item_ends before x.1 text items are)
 

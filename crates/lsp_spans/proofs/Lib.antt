@@ -15,4 +15,5 @@ pub mod Recutting
 pub mod Refolding
 pub mod Rereading
 pub mod Seeing
+pub mod Seeking
 pub mod Spanning

@@ -1,5 +1,6 @@
 -- The lines of a block, one after the other.
-use Rattle.std.proofs.Common.{◌≡◌, ℕ, suc, zero, ◌+◌, ◌-◌, ◌<◌, ◌≤◌, ◌==◌, Bool, true, false, not, cond, List, [], ◌∷◌, ◌++◌, drop, filter, flat_map, get_or, length, take, None, Some, refl, sym, ap, ap₂, subst, ◌∙◌, arith}
+use Rattle.std.proofs.Common.{◌≡◌, ℕ, suc, zero, ◌+◌, ◌-◌, ◌<◌, ◌≤◌, ◌==◌, Bool, true, false, not, cond, List, [], ◌∷◌, ◌++◌, drop, filter, flat_map}
+use Rattle.std.proofs.Common.{get_or, length, take, None, Some, refl, sym, ap, ap₂, subst, ◌∙◌, arith}
 use Rattle.memchr.specs.Find.{IsFirstByte, is_byte}
 use Rattle.std.proofs.lemmas.Bool.{eqb-true}
 use Rattle.std.proofs.lemmas.List.Concat.{flat_map-append}
@@ -16,12 +17,14 @@ no_true false never = refl
 -- ---- bytes with their offsets
 
 -- a text up to a newline, and after it
-cut_at : (start : ℕ) (s : List ℕ) (n : ℕ) → n < length s → get_or s n 0 ≡ 10 → bytes_at start s ≡ bytes_at start (take n s) ++ (10, start + n) ∷ bytes_at (start + suc n) (drop (suc n) s)
+cut_at : (start : ℕ) (s : List ℕ) (n : ℕ) → n < length s → get_or s n 0 ≡ 10 → bytes_at start s ≡ bytes_at start (take n s) ++ (10, start + n)
+    ∷ bytes_at (start + suc n) (drop (suc n) s)
 cut_at start [] n within e = absurd (omega arith)
 cut_at start (x ∷ xs) zero within e =
     let here : start ≡ start + 0 = omega arith in
     let next : suc start ≡ start + suc 0 = omega arith in
-    ap (λ (b : ℕ). (b, start) ∷ bytes_at (suc start) xs) e ∙ ap (λ (k : ℕ). (10, k) ∷ bytes_at (suc start) xs) here ∙ ap (λ (k : ℕ). (10, start + 0) ∷ bytes_at k xs) next
+    ap (λ (b : ℕ). (b, start) ∷ bytes_at (suc start) xs) e ∙ ap (λ (k : ℕ). (10, k) ∷ bytes_at (suc start) xs) here
+    ∙ ap (λ (k : ℕ). (10, start + 0) ∷ bytes_at k xs) next
 cut_at start (x ∷ xs) (suc n) within e =
     let here : suc start + n ≡ start + suc n = omega arith in
     let next : suc start + suc n ≡ start + suc (suc n) = omega arith in
@@ -49,7 +52,8 @@ none_newline start (x ∷ xs) (suc n) none =
 
 -- the line at the front of a text has a newline
 with_newline : (start : ℕ) (s : List ℕ) (n : ℕ) → n < length s → ((k : ℕ) → k < n → (get_or s k 0 == 10) ≡ true → ⊥) → (get_or s n 0 == 10) ≡ true
-    → (lines : List (List PlacedByte)) → AreLines (bytes_at (start + suc n) (drop (suc n) s)) lines → AreLines (bytes_at start s) (bytes_at start (take (suc n) s) ∷ lines)
+    → (lines : List (List PlacedByte)) → AreLines (bytes_at (start + suc n) (drop (suc n) s)) lines
+    → AreLines (bytes_at start s) (bytes_at start (take (suc n) s) ∷ lines)
 with_newline start s n within none newline lines are =
     let e = eqb-true (get_or s n 0) 10 newline in
     let line : bytes_at start (take (suc n) s) ≡ bytes_at start (take n s) ++ (10, start + n) ∷ [] =
@@ -86,11 +90,14 @@ some_bytes start [] some e = omega arith
 some_bytes start (x ∷ xs) some e = cc
 
 -- the last line has none
-without_newline : (start : ℕ) (s : List ℕ) → 0 < length s → ((k : ℕ) → k < length s → (get_or s k 0 == 10) ≡ true → ⊥) → (lines : List (List PlacedByte)) → AreLines [] lines
+without_newline : (start : ℕ) (s : List ℕ) → 0 < length s → ((k : ℕ) → k < length s → (get_or s k 0 == 10) ≡ true → ⊥) → (lines : List (List PlacedByte))
+    → AreLines [] lines
     → AreLines (bytes_at start s) (bytes_at start s ∷ lines)
 without_newline start s some none lines are =
-    let no_newline : HasNoNewline (bytes_at start s) = subst (λ (t : List ℕ). HasNoNewline (bytes_at start t)) (take_all (length s) s (omega arith)) (none_newline start s (length s) none) in
-    subst (λ (ls : List (List PlacedByte)). AreLines (bytes_at start s) (bytes_at start s ∷ ls)) (sym (none_left [] lines are refl)) (last_line (bytes_at start s) (some_bytes start s some) no_newline)
+    let no_newline : HasNoNewline (bytes_at start s) =
+    subst (λ (t : List ℕ). HasNoNewline (bytes_at start t)) (take_all (length s) s (omega arith)) (none_newline start s (length s) none) in
+    subst (λ (ls : List (List PlacedByte)). AreLines (bytes_at start s) (bytes_at start s ∷ ls)) (sym (none_left [] lines are refl))
+    (last_line (bytes_at start s) (some_bytes start s some) no_newline)
 
 pub last_found : (block : List ℕ) (start : ℕ) → start < length block → IsFirstByte (is_byte 10) (drop start block) None → IsLineAt block start (length block)
 last_found block start within nowhere =
@@ -117,7 +124,8 @@ get_drop block zero n = let here : n ≡ 0 + n = omega arith in ap (λ (k : ℕ)
 get_drop [] (suc start) n = refl
 get_drop (x ∷ xs) (suc start) n = let here : suc (start + n) ≡ suc start + n = omega arith in get_drop xs start n ∙ ap (λ (k : ℕ). get_or (x ∷ xs) k 0) here
 
-pub range_more : (block : List ℕ) (start at : ℕ) → start ≤ at → at < length block → range_at block start (at + 1) ≡ range_at block start at ++ (get_or block at 0, at) ∷ []
+pub range_more : (block : List ℕ) (start at : ℕ) → start ≤ at → at < length block → range_at block start (at + 1) ≡ range_at block start at
+    ++ (get_or block at 0, at) ∷ []
 range_more block start at order within =
     let n = at - start in
     let more : at + 1 - start ≡ suc n = omega (arith, order) in
@@ -161,7 +169,8 @@ kept_next block start end text new k at e =
     let line = range_at block start end in
     record {
       lines = k.lines ++ line ∷ [];
-      go_on = λ rest are. subst (λ (lines : List (List PlacedByte)). AreLines (bytes_at 0 block) lines) (sym (append_assoc k.lines (line ∷ []) rest)) (k.go_on (line ∷ rest) (at.line rest are));
+      go_on = λ rest are. subst (λ (lines : List (List PlacedByte)). AreLines (bytes_at 0 block) lines) (sym (append_assoc k.lines (line ∷ []) rest))
+          (k.go_on (line ∷ rest) (at.line rest are));
       kept = e ∙ one_kept text line (is_comment line) refl ∙ ap (λ (t : List PlacedByte). t ++ kept_of (line ∷ [])) k.kept ∙ sym (kept-append k.lines line);
     }
 

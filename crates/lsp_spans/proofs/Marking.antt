@@ -24,7 +24,8 @@ at_cut xs x is = rw (last_is xs x, is) (without_last xs x)
 at_kept : (xs : List PlacedByte) (x : PlacedByte) → (x.0 == 64) ≡ false → without_at (xs ++ x ∷ []) ≡ xs ++ x ∷ []
 at_kept xs x not = rw (last_is xs x, not) refl
 
-last_one : (text : List PlacedByte) (start end : ℕ) (d : PlacedByte) → start < end → end ≤ length text → slice_range text start end ≡ slice_range text start (end - 1) ++ get_or text (end - 1) d ∷ []
+last_one : (text : List PlacedByte) (start end : ℕ) (d : PlacedByte) → start < end → end ≤ length text
+    → slice_range text start end ≡ slice_range text start (end - 1) ++ get_or text (end - 1) d ∷ []
 last_one text start end d some within =
     let all : end ≡ end - 1 + 1 = omega (arith, some) in
     ap (slice_range text start) all ∙ part_more text start (end - 1) d (omega (arith, some)) (omega (arith, some, within))
@@ -37,7 +38,8 @@ at_is_cut text start end d some within is =
 pub at_is_none : (text : List PlacedByte) (start end : ℕ) (d : PlacedByte) → start < end → end ≤ length text → ((get_or text (end - 1) d).0 == 64) ≡ false
     → slice_range text start end ≡ without_at (slice_range text start end)
 at_is_none text start end d some within not =
-    sym (ap without_at (last_one text start end d some within) ∙ at_kept (slice_range text start (end - 1)) (get_or text (end - 1) d) not ∙ sym (last_one text start end d some within))
+    sym (ap without_at (last_one text start end d some within) ∙ at_kept (slice_range text start (end - 1)) (get_or text (end - 1) d) not
+    ∙ sym (last_one text start end d some within))
 
 pub at_of_none : (text : List PlacedByte) (start end : ℕ) → end ≤ start → slice_range text start end ≡ without_at (slice_range text start end)
 at_of_none text start end none =

@@ -1,5 +1,6 @@
 -- The names in a names field.
-use Rattle.std.proofs.Common.{◌≡◌, ℕ, suc, zero, ◌+◌, ◌-◌, ◌<◌, ◌≤◌, ◌==◌, Contains, false, true, List, [], ◌∷◌, ◌++◌, drop, get_or, inl, inr, length, map, take, refl, sym, ap, subst, ◌∙◌, arith}
+use Rattle.std.proofs.Common.{◌≡◌, ℕ, suc, zero, ◌+◌, ◌-◌, ◌<◌, ◌≤◌, ◌==◌, Contains, false, true, List, [], ◌∷◌, ◌++◌, drop, get_or, inl, inr, length, map}
+use Rattle.std.proofs.Common.{take, refl, sym, ap, subst, ◌∙◌, arith}
 use Rattle.std.specs.List.{join_with_byte, slice_range}
 use Rattle.std.proofs.lemmas.Bool.{cases_Bool, eq-eqb, eqb-true, false≢true}
 use Rattle.std.proofs.lemmas.List.{append-nil, append_assoc, drop_more}
@@ -22,11 +23,13 @@ plain_whole : (x : ℕ) (name : List ℕ) (names : List (List ℕ)) → join_wit
 plain_whole x name [] = refl
 plain_whole x name (other ∷ names) = refl
 
-plain_before : (x : ℕ) (field name : List ℕ) (names : List (List ℕ)) → (x == 124) ≡ false → PartsOf field (name ∷ names) → PartsOf (x ∷ field) ((x ∷ name) ∷ names)
+plain_before : (x : ℕ) (field name : List ℕ) (names : List (List ℕ)) → (x == 124) ≡ false → PartsOf field (name ∷ names)
+    → PartsOf (x ∷ field) ((x ∷ name) ∷ names)
 plain_before x field name names plain p = record {
   whole = ap (λ (t : List ℕ). x ∷ t) p.whole ∙ sym (plain_whole x name names);
   some = λ e. cc;
-  apart = All-cons (λ part. Contains part 124 → ⊥) (x ∷ name) names (plain_apart x name plain (All-head (λ part. Contains part 124 → ⊥) name names p.apart)) (All-tail (λ part. Contains part 124 → ⊥) name names p.apart);
+  apart = All-cons (λ part. Contains part 124 → ⊥) (x ∷ name) names (plain_apart x name plain (All-head (λ part. Contains part 124 → ⊥) name names p.apart))
+      (All-tail (λ part. Contains part 124 → ⊥) name names p.apart);
 }
 
 none_in : Contains {X = ℕ} [] 124 → ⊥
@@ -44,11 +47,13 @@ no_field = record { whole = refl; some = λ e. cc; apart = All-cons (λ part. Co
 
 -- ---- the names that are computed are the parts
 
-first_more : (x : PlacedByte) (field : List ℕ) (names : List (List PlacedByte)) → (x.0 == 124) ≡ false → PartsOf field (map bytes names) → PartsOf (x.0 ∷ field) (map bytes (with_first x names))
+first_more : (x : PlacedByte) (field : List ℕ) (names : List (List PlacedByte)) → (x.0 == 124) ≡ false → PartsOf field (map bytes names)
+    → PartsOf (x.0 ∷ field) (map bytes (with_first x names))
 first_more x field [] plain p = absurd (p.some refl)
 first_more x field (name ∷ names) plain p = plain_before x.0 field (bytes name) (map bytes names) plain p
 
-bar_more : (x : PlacedByte) (field : List ℕ) (names : List (List PlacedByte)) → (x.0 == 124) ≡ true → PartsOf field (map bytes names) → PartsOf (x.0 ∷ field) ([] ∷ map bytes names)
+bar_more : (x : PlacedByte) (field : List ℕ) (names : List (List PlacedByte)) → (x.0 == 124) ≡ true → PartsOf field (map bytes names)
+    → PartsOf (x.0 ∷ field) ([] ∷ map bytes names)
 bar_more x field [] bar p = absurd (p.some refl)
 bar_more x field (name ∷ names) bar p =
     subst (λ (b : ℕ). PartsOf (b ∷ field) ([] ∷ bytes name ∷ map bytes names)) (sym (eqb-true x.0 124 bar)) (bar_before field (bytes name) (map bytes names) p)
@@ -62,9 +67,11 @@ names_computed (x ∷ xs) =
     ]
 
 -- the parts of a text that are its names are those of the field
-pub parts_named : (text : List PlacedByte) (len : ℕ) (parts : List Part) → map (part_of text) parts ≡ names_of (take len text) → PartsOf (bytes (take len text)) (map (text_of text) parts)
+pub parts_named : (text : List PlacedByte) (len : ℕ) (parts : List Part) → map (part_of text) parts ≡ names_of (take len text)
+    → PartsOf (bytes (take len text)) (map (text_of text) parts)
 parts_named text len parts e =
-    subst (λ (names : List (List ℕ)). PartsOf (bytes (take len text)) names) (ap (map bytes) (sym e) ∙ map-map bytes (part_of text) parts) (names_computed (take len text))
+    subst (λ (names : List (List ℕ)). PartsOf (bytes (take len text)) names) (ap (map bytes) (sym e) ∙ map-map bytes (part_of text) parts)
+    (names_computed (take len text))
 
 -- ---- all names
 
@@ -79,7 +86,8 @@ names_start text len name names e =
     let size : len - 0 ≡ len = omega arith in
     sym e ∙ ap (λ (n : ℕ). names_of (take n text)) size
 
-next_byte : (text : List PlacedByte) (len at : ℕ) (d : PlacedByte) → at < len → len ≤ length text → slice_range text at len ≡ get_or text at d ∷ slice_range text (at + 1) len
+next_byte : (text : List PlacedByte) (len at : ℕ) (d : PlacedByte) → at < len → len ≤ length text
+    → slice_range text at len ≡ get_or text at d ∷ slice_range text (at + 1) len
 next_byte text len at d less within =
     let size : len - at ≡ suc (len - (at + 1)) = omega (arith, less) in
     ap (λ (n : ℕ). take n (drop at text)) size ∙ ap (λ (t : List PlacedByte). take (suc (len - (at + 1))) t) (drop_more text at d (omega (arith, less, within)))
@@ -98,19 +106,23 @@ names_plain x xs plain = rw plain
 names_bar : (x : PlacedByte) (xs : List PlacedByte) → (x.0 == 124) ≡ true → names_of (x ∷ xs) ≡ [] ∷ names_of xs
 names_bar x xs bar = rw bar
 
-pub names_go_on : (text : List PlacedByte) (len : ℕ) (parts : List Part) (start at : ℕ) (d : PlacedByte) → start ≤ at → at < len → len ≤ length text → ((get_or text at d).0 == 124) ≡ false
+pub names_go_on : (text : List PlacedByte) (len : ℕ) (parts : List Part) (start at : ℕ) (d : PlacedByte) → start ≤ at → at < len → len ≤ length text
+    → ((get_or text at d).0 == 124) ≡ false
     → NamesTo text len parts start at → NamesTo text len parts start (at + 1)
 names_go_on text len parts start at d order less within plain so name names e =
     let x = get_or text at d in
     let here = ap names_of (next_byte text len at d less within) ∙ names_plain x (slice_range text (at + 1) len) plain ∙ ap (with_first x) e in
-    ap (λ (t : List PlacedByte). map (part_of text) parts ++ t ∷ names) (sym (one_longer text start at d name order (omega (arith, less, within)))) ∙ so (x ∷ name) names here
+    ap (λ (t : List PlacedByte). map (part_of text) parts ++ t ∷ names) (sym (one_longer text start at d name order (omega (arith, less, within))))
+    ∙ so (x ∷ name) names here
 
-pub names_end : (text : List PlacedByte) (len : ℕ) (parts : List Part) (start at : ℕ) (d : PlacedByte) → at < len → len ≤ length text → (get_or text at d).0 ≡ 124
+pub names_end : (text : List PlacedByte) (len : ℕ) (parts : List Part) (start at : ℕ) (d : PlacedByte) → at < len → len ≤ length text
+    → (get_or text at d).0 ≡ 124
     → NamesTo text len parts start at → NamesTo text len (parts ++ record { start = start; end = at } ∷ []) (at + 1) (at + 1)
 names_end text len parts start at d less within bar so name names e =
     let x = get_or text at d in
     let part : Part = record { start = start; end = at } in
-    let here = ap names_of (next_byte text len at d less within) ∙ names_bar x (slice_range text (at + 1) len) (eq-eqb x.0 124 bar) ∙ ap (λ (t : List (List PlacedByte)). [] ∷ t) e in
+    let here = ap names_of (next_byte text len at d less within) ∙ names_bar x (slice_range text (at + 1) len) (eq-eqb x.0 124 bar)
+    ∙ ap (λ (t : List (List PlacedByte)). [] ∷ t) e in
     ap (λ (t : List PlacedByte). map (part_of text) (parts ++ part ∷ []) ++ (t ++ name) ∷ names) (none_of text (at + 1))
     ∙ sym (more_parts text parts part (name ∷ names)) ∙ so [] (name ∷ names) here
 

@@ -1,5 +1,6 @@
 -- A block has one folded text, and its bytes are at their offsets.
-use Rattle.std.proofs.Common.{◌≡◌, ℕ, suc, zero, ◌+◌, ◌^◌, ◌<◌, ◌==◌, All, true, false, List, [], ◌∷◌, ◌++◌, inl, inr, drop, get_or, length, add-one, refl, sym, ap, ap₂, subst, ◌∙◌, arith}
+use Rattle.std.proofs.Common.{◌≡◌, ℕ, suc, zero, ◌+◌, ◌^◌, ◌<◌, ◌==◌, All, true, false, List, [], ◌∷◌, ◌++◌, inl, inr, drop, get_or, length, add-one, refl}
+use Rattle.std.proofs.Common.{sym, ap, ap₂, subst, ◌∙◌, arith}
 use Rattle.std.proofs.lemmas.Bool.{cases_Bool, eq-eqb}
 use Rattle.std.proofs.lemmas.List.{drop_all, drop_more}
 use Rattle.std.proofs.lemmas.List.Elements.{All-append, All-cons, All-head, All-nil, All-tail, All-weaker}
@@ -28,7 +29,8 @@ record SameCut (line other rest left : List PlacedByte) (at place : ℕ) : Type 
   places : at ≡ place
   rests : rest ≡ left
 
-same_cut : (line other rest left : List PlacedByte) (at place : ℕ) → HasNoNewline line → HasNoNewline other → line ++ (10, at) ∷ rest ≡ other ++ (10, place) ∷ left → SameCut line other rest left at place
+same_cut : (line other rest left : List PlacedByte) (at place : ℕ) → HasNoNewline line → HasNoNewline other
+    → line ++ (10, at) ∷ rest ≡ other ++ (10, place) ∷ left → SameCut line other rest left at place
 same_cut [] [] rest left at place none void e =
     let heads : (10, at) ≡ (10, place) = cc in
     record { lines = refl; places = ap (λ (x : PlacedByte). x.1) heads; rests = cc }
@@ -65,7 +67,8 @@ one_lines _ _ _ _ (line_and_rest line rest at lines none are) (line_and_rest oth
 pub one_folding : OneFoldingAt
 one_folding block one other f g =
     let lines = one_lines (bytes_at 0 block) (bytes_at 0 block) f.lines g.lines f.are_lines g.are_lines refl in
-    joins_so (kept_of g.lines) one (subst (λ (ls : List (List PlacedByte)). Joins (kept_of ls) one) lines f.joins) ∙ sym (joins_so (kept_of g.lines) other g.joins)
+    joins_so (kept_of g.lines) one (subst (λ (ls : List (List PlacedByte)). Joins (kept_of ls) one) lines f.joins)
+    ∙ sym (joins_so (kept_of g.lines) other g.joins)
 
 -- ---- the bytes at their offsets
 
@@ -91,7 +94,8 @@ bytes_of block (suc n) i e =
     subst (λ (t : List ℕ). All (IsOf block) (bytes_at i t)) (sym (drop_more block i 0 within))
     (All-cons (IsOf block) (get_or block i 0, i) (bytes_at (suc i) (drop (i + 1) block)) (within, refl) later)
 
-line_kept : (P : PlacedByte → Type 0) (line : List PlacedByte) (lines : List (List PlacedByte)) → All P line → All P (kept_of lines) → All P (kept_of (line ∷ lines))
+line_kept : (P : PlacedByte → Type 0) (line : List PlacedByte) (lines : List (List PlacedByte)) → All P line → All P (kept_of lines)
+    → All P (kept_of (line ∷ lines))
 line_kept P line lines here later =
     elim (cases_Bool (is_comment line)) [
       | inl comment ↦ rw comment later
@@ -103,7 +107,8 @@ lines_kept P _ _ no_lines all = All-nil P
 lines_kept P _ _ (last_line line some none) all = line_kept P line [] all (All-nil P)
 lines_kept P _ _ (line_and_rest line rest at lines none are) all =
     let after = back_all P line ((10, at) ∷ rest) all in
-    let whole = All-append P line ((10, at) ∷ []) (front_all P line ((10, at) ∷ rest) all) (All-cons P (10, at) [] (All-head P (10, at) rest after) (All-nil P)) in
+    let whole =
+    All-append P line ((10, at) ∷ []) (front_all P line ((10, at) ∷ rest) all) (All-cons P (10, at) [] (All-head P (10, at) rest after) (All-nil P)) in
     line_kept P (line ++ (10, at) ∷ []) lines whole (lines_kept P rest lines are (All-tail P (10, at) rest after))
 
 joined_kept : (P : PlacedByte → Type 0) (text kept : List PlacedByte) → Joins text kept → All P text → All P kept
@@ -113,10 +118,12 @@ joined_kept P _ _ (piece_and_break piece run rest kept at none blank ends more) 
     All-append P piece kept (front_all P piece ((10, at) ∷ (run ++ rest)) all) (joined_kept P rest kept more (back_all P run rest after))
 
 pub offsets_lead : OffsetsLead
-offsets_lead block text f = joined_kept (IsOf block) (kept_of f.lines) text f.joins (lines_kept (IsOf block) (bytes_at 0 block) f.lines f.are_lines (bytes_of block (length block) 0 (omega arith)))
+offsets_lead block text f = joined_kept (IsOf block) (kept_of f.lines) text f.joins
+    (lines_kept (IsOf block) (bytes_at 0 block) f.lines f.are_lines (bytes_of block (length block) 0 (omega arith)))
 
 -- the offsets of a folded text are small
-pub offsets_small : (block : List ℕ) (kept text : List PlacedByte) → KeepsLines block kept → Joins kept text → length block < 2 ^ 63 → All (λ (x : PlacedByte). x.1 < 2 ^ 63) text
+pub offsets_small : (block : List ℕ) (kept text : List PlacedByte) → KeepsLines block kept → Joins kept text → length block < 2 ^ 63
+    → All (λ (x : PlacedByte). x.1 < 2 ^ 63) text
 offsets_small block kept text k joins small =
     let folds : FoldsAt block text = record { lines = k.lines; are_lines = k.are_lines; joins = subst (λ (t : List PlacedByte). Joins t text) k.kept joins } in
     All-weaker (IsOf block) (λ (x : PlacedByte). x.1 < 2 ^ 63) (λ x is. omega (arith, is.0, small)) text (offsets_lead block text folds)

@@ -1,5 +1,6 @@
 -- The items of a block as they are seen, next to those that are read.
-use Rattle.std.proofs.Common.{◌≡◌, ℕ, suc, ◌+◌, ◌==◌, ◌||◌, ◌&&◌, Bool, true, false, cond, All, List, [], ◌∷◌, length, map, slice_get, Option, Some, None, refl, sym, ap, ap₂, subst, ◌∙◌, arith, zero-add, zero, ◌++◌}
+use Rattle.std.proofs.Common.{◌≡◌, ℕ, suc, ◌+◌, ◌==◌, ◌||◌, ◌&&◌, Bool, true, false, cond, All, List, [], ◌∷◌, length, map, slice_get, Option, Some, None}
+use Rattle.std.proofs.Common.{refl, sym, ap, ap₂, subst, ◌∙◌, arith, zero-add, zero, ◌++◌}
 use Rattle.std.specs.List.{find, position_or_len}
 use Rattle.std.specs.Option.{option_and_then, option_map}
 use Rattle.std.specs.Prelude.{nat_lt}
@@ -36,7 +37,8 @@ either_way : {A B : Type 0} (f : A → B) (b : Bool) (x y : A) → f (cond b x y
 either_way f true x y = refl
 either_way f false x y = refl
 
-plain_comments : (comment : Bool) (before : ℕ) (text : List PlacedByte) → map plain (without_comments comment before text) ≡ without_comments comment before (map plain text)
+plain_comments : (comment : Bool) (before : ℕ) (text : List PlacedByte) → map plain (without_comments comment before text)
+    ≡ without_comments comment before (map plain text)
 plain_comments comment before [] = refl
 plain_comments comment before (x ∷ xs) =
     let b = in_comment comment before x.0 in
@@ -67,7 +69,8 @@ plain_items before (x ∷ y ∷ ys) =
     let cut = [] ∷ items_after 44 (y ∷ ys) in
     let pair = with_first x (with_first y (items_after y.0 ys)) in
     let single = with_first x (items_after x.0 (y ∷ ys)) in
-    let pairs = plain_first x (with_first y (items_after y.0 ys)) ∙ ap (with_first (plain x)) (plain_first y (items_after y.0 ys) ∙ ap (with_first (plain y)) (plain_items y.0 ys)) in
+    let pairs = plain_first x (with_first y (items_after y.0 ys))
+    ∙ ap (with_first (plain x)) (plain_first y (items_after y.0 ys) ∙ ap (with_first (plain y)) (plain_items y.0 ys)) in
     let singles = plain_first x (items_after x.0 (y ∷ ys)) ∙ ap (with_first (plain x)) (plain_items x.0 (y ∷ ys)) in
     either_way (map (map plain)) b cut (cond t pair single)
     ∙ ap₂ (cond b) (ap (λ (items : List (List PlacedByte)). [] ∷ items) (plain_items 44 (y ∷ ys)))
@@ -75,7 +78,8 @@ plain_items before (x ∷ y ∷ ys) =
 
 plain_front : (item : List PlacedByte) → map plain (without_front item) ≡ without_front (map plain item)
 plain_front [] = refl
-plain_front (x ∷ xs) = either_way (map plain) (is_white_space x.0) (without_front xs) (x ∷ xs) ∙ ap (λ (t : List PlacedByte). cond (is_white_space x.0) t (plain x ∷ map plain xs)) (plain_front xs)
+plain_front (x ∷ xs) = either_way (map plain) (is_white_space x.0) (without_front xs) (x ∷ xs)
+    ∙ ap (λ (t : List PlacedByte). cond (is_white_space x.0) t (plain x ∷ map plain xs)) (plain_front xs)
 
 -- the text of an item as it is read
 abbrev text_read : List PlacedByte → List ℕ
@@ -94,10 +98,13 @@ texts_in text =
     plain_reads (items_after 44 (rest_of text)) ∙ ap (map text_read) (plain_items 44 (rest_of text) ∙ ap (items_after 44) (plain_rest text))
 
 -- the same bytes have the same items and the same names field
-pub same_texts : (one other : List PlacedByte) → bytes one ≡ bytes other → map (λ (item : List PlacedByte). bytes (without_front item)) (items_after 44 (rest_of one)) ≡ map (λ (item : List PlacedByte). bytes (without_front item)) (items_after 44 (rest_of other))
+pub same_texts : (one other : List PlacedByte) → bytes one ≡ bytes other
+    → map (λ (item : List PlacedByte). bytes (without_front item)) (items_after 44 (rest_of one))
+    ≡ map (λ (item : List PlacedByte). bytes (without_front item)) (items_after 44 (rest_of other))
 same_texts one other e =
     let same : map plain one ≡ map plain other =
-    sym (map-map (λ (b : ℕ). (b, 0)) (λ (x : PlacedByte). x.0) one) ∙ ap (map (λ (b : ℕ). (b, 0))) e ∙ map-map (λ (b : ℕ). (b, 0)) (λ (x : PlacedByte). x.0) other in
+    sym (map-map (λ (b : ℕ). (b, 0)) (λ (x : PlacedByte). x.0) one) ∙ ap (map (λ (b : ℕ). (b, 0))) e
+    ∙ map-map (λ (b : ℕ). (b, 0)) (λ (x : PlacedByte). x.0) other in
     texts_in one ∙ ap (λ (t : List PlacedByte). map text_read (items_after 44 (rest_of t))) same ∙ sym (texts_in other)
 
 pub same_field : (one other : List PlacedByte) → bytes one ≡ bytes other → bytes (field_of one) ≡ bytes (field_of other)
@@ -116,7 +123,8 @@ at_plain : (offset : ℕ) (block : List ℕ) → map plain (bytes_at offset bloc
 at_plain offset [] = refl
 at_plain offset (b ∷ bs) = ap (λ (t : List PlacedByte). (b, 0) ∷ t) (at_plain (suc offset) bs)
 
-folded_plain : (text : List PlacedByte) → map plain (without_breaks false (without_comments false 10 text)) ≡ without_breaks false (without_comments false 10 (map plain text))
+folded_plain : (text : List PlacedByte) → map plain (without_breaks false (without_comments false 10 text))
+    ≡ without_breaks false (without_comments false 10 (map plain text))
 folded_plain text = plain_breaks false (without_comments false 10 text) ∙ ap (without_breaks false) (plain_comments false 10 text)
 
 -- the folded text that is read has the bytes of the one that is seen
@@ -141,7 +149,8 @@ seen_are_read block reading p =
 abbrev IsFound : ℕ → List (List ℕ) → ReadItem → Type 0
 IsFound from texts item = (at : ℕ) × (text : List ℕ) × (item.ordinal ≡ at + from) × (slice_get texts at ≡ Some text) × IsTextOf text item.said
 
-later : (from : ℕ) (text : List ℕ) (texts : List (List ℕ)) (items : List ReadItem) → All (IsFound (from + 1) texts) items → All (IsFound from (text ∷ texts)) items
+later : (from : ℕ) (text : List ℕ) (texts : List (List ℕ)) (items : List ReadItem) → All (IsFound (from + 1) texts) items
+    → All (IsFound from (text ∷ texts)) items
 later from text texts items all k d within =
     let (at, found, ordinal, is, says) = all k d within in
     (suc at, found, omega (arith, ordinal), is, says)
@@ -149,7 +158,8 @@ later from text texts items all k d within =
 one_found : (from line : ℕ) (text : List ℕ) (texts : List (List ℕ)) (said : Said) → IsTextOf text said
     → All (IsFound from (text ∷ texts)) (record { ordinal = from; line = line; said = said } ∷ [])
 one_found from line text texts said says =
-    All-cons (IsFound from (text ∷ texts)) (record { ordinal = from; line = line; said = said }) [] (0, text, sym (zero-add from), refl, says) (All-nil (IsFound from (text ∷ texts)))
+    All-cons (IsFound from (text ∷ texts)) (record { ordinal = from; line = line; said = said }) [] (0, text, sym (zero-add from), refl, says)
+    (All-nil (IsFound from (text ∷ texts)))
 
 found_by : (from line : ℕ) (text : List ℕ) (texts : List (List ℕ)) (v : Verdict) → ((said : Said) → said_by v ≡ Some said → IsTextOf text said)
     → All (IsFound from (text ∷ texts)) (items_by from line v)
@@ -157,12 +167,15 @@ found_by from line text texts (accepted said) says = one_found from line text te
 found_by from line text texts (accepted_odd said) says = one_found from line text texts said (says said refl)
 found_by from line text texts (refused code) says = All-nil (IsFound from (text ∷ texts))
 
-here : (from : ℕ) (item : List PlacedByte) (texts : List (List ℕ)) (o : Option Judged) → IsJudged item o → All (IsFound from (text_read item ∷ texts)) (items_at from o)
+here : (from : ℕ) (item : List PlacedByte) (texts : List (List ℕ)) (o : Option Judged) → IsJudged item o
+    → All (IsFound from (text_read item ∷ texts)) (items_at from o)
 here from _ texts _ (item_ignored item states) = All-nil (IsFound from (text_read item ∷ texts))
 here from _ texts _ (item_judged item s v states judges) =
-    found_by from (piece_of item).line (text_read item) texts v (λ said accepts. record { statement = s; verdict = v; states = states; judges = judges; accepts = accepts })
+    found_by from (piece_of item).line (text_read item) texts v
+    (λ said accepts. record { statement = s; verdict = v; states = states; judges = judges; accepts = accepts })
 
-all_found : (from : ℕ) (items : List (List PlacedByte)) (judged : List (Option Judged)) → AreJudged items judged → All (IsFound from (map text_read items)) (items_from from judged)
+all_found : (from : ℕ) (items : List (List PlacedByte)) (judged : List (Option Judged)) → AreJudged items judged
+    → All (IsFound from (map text_read items)) (items_from from judged)
 all_found from _ _ no_item = All-nil (IsFound from [])
 all_found from _ _ (item_and_rest {item = item} {items = items} {outcome = outcome} {outcomes = outcomes} first rest) =
     All-append (IsFound from (text_read item ∷ map text_read items)) (items_at from outcome) (items_from (from + 1) outcomes)
@@ -175,24 +188,28 @@ ordinals_of_items block k d within =
     let texts = map bytes (items_of (folded_of block)) in
     let items : (reading_of_text block).items ≡ items_from 0 p.judged = ap (λ (r : Reading). r.items) p.is in
     let all = subst (All (IsFound 0 (map text_read p.items))) (sym items) (all_found 0 p.items p.judged p.are_judged) in
-    let (at, text, ordinal, is, says) = subst (λ (t : List (List ℕ)). All (IsFound 0 t) (reading_of_text block).items) (sym (seen_are_read block (reading_of_text block) p)) all k d within in
+    let (at, text, ordinal, is, says) = subst (λ (t : List (List ℕ)). All (IsFound 0 t) (reading_of_text block).items)
+    (sym (seen_are_read block (reading_of_text block) p)) all k d within in
     (text, ap (slice_get texts) (omega (arith, ordinal)) ∙ is, says)
 
 -- what the accepted item of an ordinal says
 abbrev said_in : ℕ → List ReadItem → Option Said
 said_in ordinal items = option_map (λ (item : ReadItem). item.said) (find (λ (item : ReadItem). item.ordinal == ordinal) items)
 
-said_by_verdict : (from line : ℕ) (v : Verdict) (said : Said) (rest : List ReadItem) → said_by v ≡ Some said → said_in from (items_by from line v ++ rest) ≡ Some said
+said_by_verdict : (from line : ℕ) (v : Verdict) (said : Said) (rest : List ReadItem) → said_by v ≡ Some said
+    → said_in from (items_by from line v ++ rest) ≡ Some said
 said_by_verdict from line (accepted x) said rest e = rw (eq-eqb from from refl) e
 said_by_verdict from line (accepted_odd x) said rest e = rw (eq-eqb from from refl) e
 said_by_verdict from line (refused code) said rest e = cc
 
-past_verdict : (from line ordinal : ℕ) (v : Verdict) (rest : List ReadItem) → (from == ordinal) ≡ false → said_in ordinal (items_by from line v ++ rest) ≡ said_in ordinal rest
+past_verdict : (from line ordinal : ℕ) (v : Verdict) (rest : List ReadItem) → (from == ordinal) ≡ false
+    → said_in ordinal (items_by from line v ++ rest) ≡ said_in ordinal rest
 past_verdict from line ordinal (accepted x) rest other = rw other refl
 past_verdict from line ordinal (accepted_odd x) rest other = rw other refl
 past_verdict from line ordinal (refused code) rest other = refl
 
-past_item : (from ordinal : ℕ) (o : Option Judged) (rest : List ReadItem) → (from == ordinal) ≡ false → said_in ordinal (items_at from o ++ rest) ≡ said_in ordinal rest
+past_item : (from ordinal : ℕ) (o : Option Judged) (rest : List ReadItem) → (from == ordinal) ≡ false
+    → said_in ordinal (items_at from o ++ rest) ≡ said_in ordinal rest
 past_item from ordinal None rest other = refl
 past_item from ordinal (Some j) rest other = past_verdict from j.line ordinal j.verdict rest other
 
@@ -205,10 +222,12 @@ said_here from _ said _ rest (item_judged item s v states judges) t =
     let both : Some s ≡ Some t.statement = one_statement (text_read item) (Some s) states ∙ sym (one_statement (text_read item) (Some t.statement) t.states) in
     let same : s ≡ t.statement = cc in
     let verdicts : v ≡ t.verdict =
-    one_verdict s.name s.claim v judges ∙ ap (λ (x : Statement). verdict_of x.name x.claim) same ∙ sym (one_verdict t.statement.name t.statement.claim t.verdict t.judges) in
+    one_verdict s.name s.claim v judges ∙ ap (λ (x : Statement). verdict_of x.name x.claim) same
+    ∙ sym (one_verdict t.statement.name t.statement.claim t.verdict t.judges) in
     said_by_verdict from (piece_of item).line v said rest (ap said_by verdicts ∙ t.accepts)
 
-said_at : (from at : ℕ) (items : List (List PlacedByte)) (judged : List (Option Judged)) (text : List ℕ) (said : Said) → AreJudged items judged → slice_get (map text_read items) at ≡ Some text
+said_at : (from at : ℕ) (items : List (List PlacedByte)) (judged : List (Option Judged)) (text : List ℕ) (said : Said) → AreJudged items judged
+    → slice_get (map text_read items) at ≡ Some text
     → IsTextOf text said → said_in (at + from) (items_from from judged) ≡ Some said
 said_at from at _ _ text said no_item is t = absurd cc
 said_at from zero _ _ text said (item_and_rest {item = item} {items = items} {outcome = outcome} {outcomes = outcomes} first rest) is t =
@@ -230,7 +249,8 @@ sayings_are_read block ordinal text said is t =
 
 -- ---- the item that an offset is on
 
-found_there : {X : Type 0} (xs : List X) (at : ℕ) (b : Bool) → (b ≡ false → slice_get xs at ≡ None) → option_and_then (slice_get xs) (cond b (Some at) None) ≡ slice_get xs at
+found_there : {X : Type 0} (xs : List X) (at : ℕ) (b : Bool) → (b ≡ false → slice_get xs at ≡ None)
+    → option_and_then (slice_get xs) (cond b (Some at) None) ≡ slice_get xs at
 found_there xs at true past = refl
 found_there xs at false past = sym (past refl)
 

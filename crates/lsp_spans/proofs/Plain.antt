@@ -33,7 +33,11 @@ plain_byte x e =
         | inl t ↦ let none = rw (a, t) at e in absurd cc
         | inr b ↦ elim (cases_Bool (x == 94)) [
           | inl t ↦ let none = rw (a, b, t) at e in absurd cc
-          | inr c ↦ elim (cases_Bool (x == 10)) [ inl t ↦ let none = rw (a, b, c, t) at e in absurd cc | inr d ↦ record { comma = a; backslash = b; caret = c; newline = d } ]
+          | inr c ↦ elim (cases_Bool (x == 10)) [
+            | inl t ↦ let none = rw (a, b, c, t) at e in
+                absurd cc
+            | inr d ↦ record { comma = a; backslash = b; caret = c; newline = d }
+          ]
         ]
       ]
     ]
@@ -123,7 +127,8 @@ goes_uncut text goes =
     subst (AreItems 44 whole) (computed whole ∙ one_if_goes nothing 44 whole goes) (items_computed 44 whole)
 
 -- a comma ends the item if it did
-still_closed : (front middle back fresh : List PlacedByte) (text : List ℕ) → bytes (front ++ (fresh ++ back)) ≡ text → Goes nothing 44 (front ++ (middle ++ back)) → Goes nothing 44 (bytes_at 0 text)
+still_closed : (front middle back fresh : List PlacedByte) (text : List ℕ) → bytes (front ++ (fresh ++ back)) ≡ text
+    → Goes nothing 44 (front ++ (middle ++ back)) → Goes nothing 44 (bytes_at 0 text)
     → IsPlain (bytes (front ++ fresh)) → BeginsPlain (bytes back) → IsClosed (bytes (front ++ (middle ++ back))) → IsClosed text
 still_closed front middle [] fresh text is was goes plain begins closed =
     let same : by_after nothing 44 (bytes_at 0 text) ≡ nothing =
@@ -135,7 +140,8 @@ still_closed front middle (x ∷ xs) fresh text is was goes plain begins closed 
     let bare = bytes_at 0 (bytes item) in
     let bare_is : bytes item ≡ bytes bare = sym (bytes_of_at 0 (bytes item)) in
     let old : by_after nothing 44 bare ≡ by_after nothing 44 (x ∷ xs) =
-    sym (by_after_at nothing 44 item bare bare_is) ∙ ap (by_after nothing 44) (sym (append_assoc front middle (x ∷ xs))) ∙ after_both nothing 44 (front ++ middle) (x ∷ xs)
+    sym (by_after_at nothing 44 item bare bare_is) ∙ ap (by_after nothing 44) (sym (append_assoc front middle (x ∷ xs)))
+    ∙ after_both nothing 44 (front ++ middle) (x ∷ xs)
     ∙ back_after (by_after nothing 44 (front ++ middle)) (last_of 44 (front ++ middle)) 44 x xs begins in
     let now : by_after nothing 44 (bytes_at 0 text) ≡ by_after nothing 44 (x ∷ xs) =
     by_after_at nothing 44 (bytes_at 0 text) (front ++ (fresh ++ (x ∷ xs))) (bytes_of_at 0 text ∙ sym is)
@@ -151,14 +157,18 @@ plain_replace block ordinal front middle back part new there span plain_front pl
     let is : bytes (front ++ (fresh ++ back)) ≡ text = new_bytes front back new in
     let was = item_goes (folded_of block) ordinal item there in
     let plain_fresh : IsPlain (bytes fresh) = subst IsPlain (sym (bytes_of_at 0 new)) plain_new in
-    let plain : IsPlain (bytes (front ++ fresh)) = subst IsPlain (sym (bytes_both front fresh)) (plain_both (bytes front) (bytes fresh) plain_front plain_fresh) in
+    let plain : IsPlain (bytes (front ++ fresh)) =
+    subst IsPlain (sym (bytes_both front fresh)) (plain_both (bytes front) (bytes fresh) plain_front plain_fresh) in
     let after : Goes (by_after nothing 44 (front ++ middle)) (last_of 44 (front ++ middle)) back =
     goes_back nothing 44 (front ++ middle) back (subst (Goes nothing 44) (sym (append_assoc front middle back)) was) in
-    let later : Goes nothing (last_of 44 (front ++ fresh)) back = back_goes (by_after nothing 44 (front ++ middle)) (last_of 44 (front ++ middle)) (last_of 44 (front ++ fresh)) back begins after in
+    let later : Goes nothing (last_of 44 (front ++ fresh)) back =
+    back_goes (by_after nothing 44 (front ++ middle)) (last_of 44 (front ++ middle)) (last_of 44 (front ++ fresh)) back begins after in
     let whole : Goes nothing 44 ((front ++ fresh) ++ back) =
-    goes_both nothing 44 (front ++ fresh) back (plain_goes 44 (front ++ fresh) plain) (subst (λ (e : Escape). Goes e (last_of 44 (front ++ fresh)) back) (sym (plain_after 44 (front ++ fresh) plain)) later) in
+    goes_both nothing 44 (front ++ fresh) back (plain_goes 44 (front ++ fresh) plain)
+    (subst (λ (e : Escape). Goes e (last_of 44 (front ++ fresh)) back) (sym (plain_after 44 (front ++ fresh) plain)) later) in
     let goes : Goes nothing 44 (bytes_at 0 text) =
-    goes_at nothing 44 (front ++ (fresh ++ back)) (bytes_at 0 text) (is ∙ sym (bytes_of_at 0 text)) (subst (Goes nothing 44) (append_assoc front fresh back) whole) in
+    goes_at nothing 44 (front ++ (fresh ++ back)) (bytes_at 0 text) (is ∙ sym (bytes_of_at 0 text))
+    (subst (Goes nothing 44) (append_assoc front fresh back) whole) in
     record {
       front = front;
       middle = middle;

@@ -1,5 +1,6 @@
 -- The items of a text of which one item is exchanged.
-use Rattle.std.proofs.Common.{◌≡◌, ℕ, zero, suc, ◌==◌, true, false, List, [], ◌∷◌, ◌++◌, append_assoc, None, Some, slice_get, slice_set, inl, inr, ◌⊎◌, refl, sym, ap, subst, ◌∙◌}
+use Rattle.std.proofs.Common.{◌≡◌, ℕ, zero, suc, ◌==◌, true, false, List, [], ◌∷◌, ◌++◌, append_assoc, None, Some, slice_get, slice_set, inl, inr, ◌⊎◌}
+use Rattle.std.proofs.Common.{refl, sym, ap, subst, ◌∙◌}
 use Rattle.std.proofs.lemmas.Bool.{cases_Bool, eqb-true}
 use Rattle.std.proofs.lemmas.List.{append-nil}
 use Rattle.ti_text.specs.WhiteSpace.{is_white_space}
@@ -55,7 +56,8 @@ after_cut : List PlacedByte → List (List PlacedByte)
 after_cut [] = []
 after_cut (x ∷ xs) = items_of nothing 44 xs
 
-first_is : (by : Escape) (before : ℕ) (item tail : List PlacedByte) → Goes by before item → Ends (by_after by before item) tail → items_of by before (item ++ tail) ≡ item ∷ after_cut tail
+first_is : (by : Escape) (before : ℕ) (item tail : List PlacedByte) → Goes by before item → Ends (by_after by before item) tail
+    → items_of by before (item ++ tail) ≡ item ∷ after_cut tail
 unfolding Goes by_after Ends after_cut
 first_is by before [] [] goes ends = refl
 first_is by before [] (c ∷ tail) goes ends = rw ends refl
@@ -77,7 +79,14 @@ has_first by before (x ∷ xs) =
       | inl t ↦ record { item = []; tail = x ∷ xs; whole = refl; goes = tt; ends = t }
       | inr f ↦
           let later = has_first (escape_after by before x.0) x.0 xs in
-          record { item = x ∷ later.item; tail = later.tail; whole = ap (λ (t : List PlacedByte). x ∷ t) later.whole; goes = (f, later.goes); ends = later.ends }
+          record {
+            item = x ∷ later.item;
+            tail = later.tail;
+            whole = ap (λ (t : List PlacedByte). x ∷ t) later.whole;
+            goes = (f, later.goes);
+            ends =
+                later.ends;
+          }
     ]
 
 -- where an item of a text is, and the text's items once it is another
@@ -123,8 +132,10 @@ later_at at text item first (c ∷ t) rec whole goes ends items is =
       goes = later.goes;
       ends = later.ends;
       swap = λ other on end.
-          ap (items_of nothing 44) (inner first later.front c (other ++ later.tail)) ∙ first_is nothing 44 first (c ∷ (later.front ++ (other ++ later.tail))) goes ends
-          ∙ ap (λ (l : List (List PlacedByte)). first ∷ l) (later.swap other on end) ∙ ap (λ (l : List (List PlacedByte)). slice_set l (suc at) other) (sym items);
+          ap (items_of nothing 44) (inner first later.front c (other ++ later.tail))
+          ∙ first_is nothing 44 first (c ∷ (later.front ++ (other ++ later.tail))) goes ends
+          ∙ ap (λ (l : List (List PlacedByte)). first ∷ l) (later.swap other on end)
+          ∙ ap (λ (l : List (List PlacedByte)). slice_set l (suc at) other) (sym items);
     }
 
 pub item_is_at : (at : ℕ) (text item : List PlacedByte) → slice_get (items_of nothing 44 text) at ≡ Some item → IsAt text at item
@@ -143,7 +154,8 @@ some_items by before text e =
     let items : items_of by before text ≡ f.item ∷ after_cut f.tail = ap (items_of by before) f.whole ∙ first_is by before f.item f.tail f.goes f.ends in
     cc
 
-one_goes : (by : Escape) (before : ℕ) (text one item tail : List PlacedByte) → text ≡ item ++ tail → Goes by before item → Ends (by_after by before item) tail → items_of by before text ≡ one ∷ []
+one_goes : (by : Escape) (before : ℕ) (text one item tail : List PlacedByte) → text ≡ item ++ tail → Goes by before item
+    → Ends (by_after by before item) tail → items_of by before text ≡ one ∷ []
     → Goes by before text
 unfolding after_cut
 one_goes by before text one item [] whole goes ends e = subst (Goes by before) (sym (whole ∙ append-nil item)) goes
@@ -155,15 +167,18 @@ one_goes by before text one item (c ∷ t) whole goes ends e =
 pub goes_if_one : (by : Escape) (before : ℕ) (text one : List PlacedByte) → items_of by before text ≡ one ∷ [] → Goes by before text
 goes_if_one by before text one e = let f = has_first by before text in one_goes by before text one f.item f.tail f.whole f.goes f.ends e
 
-one_less : (x : PlacedByte) (items : List (List PlacedByte)) (one other : List PlacedByte) → with_first x items ≡ one ∷ other ∷ [] → (item : List PlacedByte) × (items ≡ item ∷ other ∷ [])
+one_less : (x : PlacedByte) (items : List (List PlacedByte)) (one other : List PlacedByte) → with_first x items ≡ one ∷ other ∷ []
+    → (item : List PlacedByte) × (items ≡ item ∷ other ∷ [])
 one_less x [] one other e = absurd cc
 one_less x (item ∷ items) one other e = let rest : items ≡ other ∷ [] = cc in (item, ap (λ (l : List (List PlacedByte)). item ∷ l) rest)
 
 -- if a byte after it begins another item, it ends there
-pub ends_if_two : (by : Escape) (before : ℕ) (text : List PlacedByte) (c : PlacedByte) (one other : List PlacedByte) → Goes by before text → items_of by before (text ++ c ∷ []) ≡ one ∷ other ∷ []
+pub ends_if_two : (by : Escape) (before : ℕ) (text : List PlacedByte) (c : PlacedByte) (one other : List PlacedByte) → Goes by before text
+    → items_of by before (text ++ c ∷ []) ≡ one ∷ other ∷ []
     → cuts (by_after by before text) c.0 ≡ true
 unfolding Goes by_after
-ends_if_two by before [] c one other goes e = elim (cases_Bool (cuts by c.0)) [ inl t ↦ t | inr f ↦ let one : with_first c ([] ∷ []) ≡ one ∷ other ∷ [] = rw f at e in absurd cc ]
+ends_if_two by before [] c one other goes e =
+    elim (cases_Bool (cuts by c.0)) [ inl t ↦ t | inr f ↦ let one : with_first c ([] ∷ []) ≡ one ∷ other ∷ [] = rw f at e in absurd cc ]
 ends_if_two by before (x ∷ xs) c one other goes e =
     let less = one_less x (items_of (escape_after by before x.0) x.0 (xs ++ c ∷ [])) one other (rw goes.0 at e) in
     ends_if_two (escape_after by before x.0) x.0 xs c less.0 other goes.1 less.1
@@ -193,11 +208,13 @@ unfolding White
 front_split [] = record { white = []; are = tt; whole = refl }
 front_split (x ∷ xs) =
     elim (cases_Bool (is_white_space x.0)) [
-      | inl t ↦ let later = front_split xs in record { white = x ∷ later.white; are = (t, later.are); whole = rw t (ap (λ (l : List PlacedByte). x ∷ l) later.whole) }
+      | inl t ↦ let later =
+          front_split xs in record { white = x ∷ later.white; are = (t, later.are); whole = rw t (ap (λ (l : List PlacedByte). x ∷ l) later.whole) }
       | inr f ↦ record { white = []; are = tt; whole = rw f refl }
     ]
 
-pub front_dropped : (white : List PlacedByte) (x : PlacedByte) (xs : List PlacedByte) → White white → is_white_space x.0 ≡ false → without_front (white ++ x ∷ xs) ≡ x ∷ xs
+pub front_dropped : (white : List PlacedByte) (x : PlacedByte) (xs : List PlacedByte) → White white → is_white_space x.0 ≡ false
+    → without_front (white ++ x ∷ xs) ≡ x ∷ xs
 unfolding White
 front_dropped [] x xs are visible = rw visible refl
 front_dropped (y ∷ ys) x xs are visible = rw are.0 (front_dropped ys x xs are.1 visible)

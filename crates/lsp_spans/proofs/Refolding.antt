@@ -1,5 +1,6 @@
 -- The folded text of a block, up to a byte that is kept and from there on.
-use Rattle.std.proofs.Common.{◌≡◌, ℕ, suc, ◌+◌, ◌==◌, ◌||◌, ◌&&◌, Bool, true, false, List, [], ◌∷◌, ◌++◌, append_assoc, length, inl, inr, refl, sym, ap, subst, ◌∙◌, arith}
+use Rattle.std.proofs.Common.{◌≡◌, ℕ, suc, ◌+◌, ◌==◌, ◌||◌, ◌&&◌, Bool, true, false, List, [], ◌∷◌, ◌++◌, append_assoc, length, inl, inr, refl, sym, ap}
+use Rattle.std.proofs.Common.{subst, ◌∙◌, arith}
 use Rattle.std.proofs.lemmas.Bool.{cases_Bool, eq-eqb, eqb-true}
 use Rattle.ti_text.specs.Texts.{last_byte}
 use Rattle.ti_text.specs.WhiteSpace.{is_white_space}
@@ -21,11 +22,13 @@ in_break joining byte = byte == 10 || (joining && is_white_space byte)
 past_comment : (c j : Bool) (b : ℕ) (x : PlacedByte) (t : List PlacedByte) → in_comment c b x.0 ≡ true → kept_after c b j (x ∷ t) ≡ kept_after true x.0 j t
 past_comment c j b x t is = rw is refl
 
-past_break : (c j : Bool) (b : ℕ) (x : PlacedByte) (t : List PlacedByte) → in_comment c b x.0 ≡ false → in_break j x.0 ≡ true → kept_after c b j (x ∷ t) ≡ kept_after false x.0 true t
+past_break : (c j : Bool) (b : ℕ) (x : PlacedByte) (t : List PlacedByte) → in_comment c b x.0 ≡ false → in_break j x.0 ≡ true
+    → kept_after c b j (x ∷ t) ≡ kept_after false x.0 true t
 unfolding in_break
 past_break c j b x t out is = rw (out, is) refl
 
-pub past_kept : (c j : Bool) (b : ℕ) (x : PlacedByte) (t : List PlacedByte) → in_comment c b x.0 ≡ false → (x.0 == 10 || (j && is_white_space x.0)) ≡ false → kept_after c b j (x ∷ t) ≡ x ∷ kept_after false x.0 false t
+pub past_kept : (c j : Bool) (b : ℕ) (x : PlacedByte) (t : List PlacedByte) → in_comment c b x.0 ≡ false → (x.0 == 10 || (j && is_white_space x.0)) ≡ false
+    → kept_after c b j (x ∷ t) ≡ x ∷ kept_after false x.0 false t
 past_kept c j b x t out plain = rw (out, plain) refl
 
 -- where a line begins and in a comment a break goes on
@@ -84,7 +87,8 @@ pub kept_safe : (y : ℕ) → (y == 10) ≡ false → IsSafe false y false
 kept_safe y plain = record { line = λ e. let is = eq-eqb y 10 e in cc; comment = λ e. cc }
 
 -- the first byte is kept
-kept_here : (c j : Bool) (b y offset : ℕ) (ys : List ℕ) (front : List PlacedByte) (x : PlacedByte) (back : List PlacedByte) → IsSafe c b j → in_comment c b y ≡ false
+kept_here : (c j : Bool) (b y offset : ℕ) (ys : List ℕ) (front : List PlacedByte) (x : PlacedByte) (back : List PlacedByte) → IsSafe c b j
+    → in_comment c b y ≡ false
     → (y == 10 || (j && is_white_space y)) ≡ false
     → ((front : List PlacedByte) → kept_after false y false (bytes_at (suc offset) ys) ≡ front ++ x ∷ back → IsKept false y false (suc offset) ys front x back)
     → (y, offset) ∷ kept_after false y false (bytes_at (suc offset) ys) ≡ front ++ x ∷ back → IsKept c b j offset (y ∷ ys) front x back
@@ -119,14 +123,16 @@ find_kept c j b offset (y ∷ ys) front x back safe e =
     elim (cases_Bool (in_comment c b y)) [
       | inl t ↦
           one_later c true j j b y offset ys [] front x back (λ rest. past_comment c j b (y, offset) rest t)
-          (find_kept true j y (suc offset) ys front x back (comment_safe c j b y safe t) (sym (past_comment c j b (y, offset) (bytes_at (suc offset) ys) t) ∙ e))
+          (find_kept true j y (suc offset) ys front x back (comment_safe c j b y safe t) (sym (past_comment c j b (y, offset) (bytes_at (suc offset) ys) t)
+          ∙ e))
       | inr out ↦
           elim (cases_Bool (in_break j y)) [
             | inl t ↦
                 one_later c false j true b y offset ys [] front x back (λ rest. past_break c j b (y, offset) rest out t)
                 (find_kept false true y (suc offset) ys front x back (break_safe y) (sym (past_break c j b (y, offset) (bytes_at (suc offset) ys) out t) ∙ e))
             | inr plain ↦
-                kept_here c j b y offset ys front x back safe out plain (λ ps left. find_kept false false y (suc offset) ys ps x back (kept_safe y (no_newline j y plain)) left)
+                kept_here c j b y offset ys front x back safe out plain
+                (λ ps left. find_kept false false y (suc offset) ys ps x back (kept_safe y (no_newline j y plain)) left)
                 (sym (past_kept c j b (y, offset) (bytes_at (suc offset) ys) out plain) ∙ e)
           ]
     ]
@@ -137,7 +143,8 @@ no_head_at : (h x : ℕ) (before after : List ℕ) → HasNoHead h (before ++ x 
 no_head_at h x [] after none = none.0
 no_head_at h x (y ∷ ys) after none = no_head_at y x ys after none.1
 
-pub no_line_begins : (c j : Bool) (b x h : ℕ) (before after : List ℕ) → b ≡ last_byte h before → HasNoHead h (before ++ x ∷ after) → IsSafe c b j → in_comment c b x ≡ false
+pub no_line_begins : (c j : Bool) (b x h : ℕ) (before after : List ℕ) → b ≡ last_byte h before → HasNoHead h (before ++ x ∷ after) → IsSafe c b j
+    → in_comment c b x ≡ false
     → (x == 10 || (j && is_white_space x)) ≡ false → (b == 10) ≡ false
 no_line_begins c j b x h before after last none safe out stays =
     elim (cases_Bool (b == 10)) [
@@ -185,7 +192,8 @@ shifted c j b o p (y ∷ ys) =
 
 pub bytes_apart : (offset : ℕ) (text more : List ℕ) → bytes_at offset (text ++ more) ≡ bytes_at offset text ++ bytes_at (offset + length text) more
 bytes_apart offset [] more = ap (λ (n : ℕ). bytes_at n more) (omega arith)
-bytes_apart offset (y ∷ ys) more = ap (λ (t : List PlacedByte). (y, offset) ∷ t) (bytes_apart (suc offset) ys more ∙ ap (λ (n : ℕ). bytes_at (suc offset) ys ++ bytes_at n more) (omega arith))
+bytes_apart offset (y ∷ ys) more = ap (λ (t : List PlacedByte). (y, offset) ∷ t) (bytes_apart (suc offset) ys more
+    ∙ ap (λ (n : ℕ). bytes_at (suc offset) ys ++ bytes_at n more) (omega arith))
 
 pub bytes_of_at : (offset : ℕ) (text : List ℕ) → bytes (bytes_at offset text) ≡ text
 bytes_of_at offset [] = refl

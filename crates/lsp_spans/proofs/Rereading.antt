@@ -1,12 +1,14 @@
 -- The items of a block are read by their texts.
-use Rattle.std.proofs.Common.{◌≡◌, ◌≢◌, ℕ, zero, suc, ◌+◌, ◌<◌, ◌==◌, ◌&&◌, not, Bool, true, false, cond, List, [], ◌∷◌, ◌++◌, length, map, slice_get, slice_set, Option, None, Some, refl, sym, ap, ◌∙◌, arith, zero-add}
+use Rattle.std.proofs.Common.{◌≡◌, ◌≢◌, ℕ, zero, suc, ◌+◌, ◌<◌, ◌==◌, ◌&&◌, not, Bool, true, false, cond, List, [], ◌∷◌, ◌++◌, length, map, slice_get}
+use Rattle.std.proofs.Common.{slice_set, Option, None, Some, refl, sym, ap, ◌∙◌, arith, zero-add}
 use Rattle.std.specs.List.{find}
 use Rattle.std.specs.Option.{option_and_then, option_map}
 use Rattle.std.proofs.lemmas.Bool.{eq-eqb, ne_eqb}
 use Rattle.ti_source.specs.Code.{is_of_header}
 use Rattle.ti_source.specs.Folding.{PlacedByte}
 use Rattle.ti_source.specs.Items.{Statement, bytes, without_front}
-use Rattle.ti_source.specs.Judging.{AreJudged, IsJudged, Judged, faults_at, faults_from, header_faults, item_and_rest, item_ignored, item_judged, items_at, items_from, no_item}
+use Rattle.ti_source.specs.Judging.{AreJudged, IsJudged, Judged, faults_at, faults_from, header_faults, item_and_rest, item_ignored, item_judged, items_at}
+use Rattle.ti_source.specs.Judging.{items_from, no_item}
 use Rattle.ti_source.specs.Parsing.{names_max, reading_of_text}
 use Rattle.ti_source.specs.Reading.{ReadFault, ReadItem, Reading, Said}
 use Rattle.ti_source.specs.Verdicts.{Verdict, accepted, accepted_odd, code_by, faults_by, header_fault, items_by, refused, said_by}
@@ -55,7 +57,8 @@ said_here m (Some j) os = by_verdict j.line j.verdict
     by_verdict line (accepted_odd x) = rw (eq-eqb m m refl) refl
     by_verdict line (refused c) = said_none m (m + 1) os (omega arith)
 
-said_among : (at m : ℕ) (judged : List (Option Judged)) → said_in (at + m) (items_from m judged) ≡ option_and_then (option_and_then (λ (j : Judged). said_by j.verdict)) (slice_get judged at)
+said_among : (at m : ℕ) (judged : List (Option Judged)) → said_in (at + m) (items_from m judged)
+    ≡ option_and_then (option_and_then (λ (j : Judged). said_by j.verdict)) (slice_get judged at)
 said_among at m [] = refl
 said_among zero m (o ∷ os) = ap (λ (n : ℕ). said_in n (items_from m (o ∷ os))) (zero-add m) ∙ said_here m o os
 said_among (suc at) m (o ∷ os) =
@@ -95,7 +98,8 @@ fault_first : (m line : ℕ) (name : List ℕ) (c : Code) (rest : List ReadFault
 fault_first m line name c rest true none is = rw (eq-eqb m m refl, is) none
 fault_first m line name c rest false none is = rw (eq-eqb m m refl, is) refl
 
-fault_here : (m : ℕ) (o : Option Judged) (os : List (Option Judged)) → fault_in m (faults_from m (o ∷ os)) ≡ option_and_then (λ (j : Judged). fault_by j.verdict) o
+fault_here : (m : ℕ) (o : Option Judged) (os : List (Option Judged)) → fault_in m (faults_from m (o ∷ os))
+    ≡ option_and_then (λ (j : Judged). fault_by j.verdict) o
 fault_here m None os = fault_none m (m + 1) os (omega arith)
 fault_here m (Some j) os = by_verdict j.line j.name j.verdict
   where
@@ -104,7 +108,8 @@ fault_here m (Some j) os = by_verdict j.line j.name j.verdict
     by_verdict line name (accepted_odd x) = rw (eq-eqb m m refl) refl
     by_verdict line name (refused c) = fault_first m line name c (faults_from (m + 1) os) (is_of_header c) (fault_none m (m + 1) os (omega arith)) refl
 
-fault_among : (at m : ℕ) (judged : List (Option Judged)) → fault_in (at + m) (faults_from m judged) ≡ option_and_then (option_and_then (λ (j : Judged). fault_by j.verdict)) (slice_get judged at)
+fault_among : (at m : ℕ) (judged : List (Option Judged)) → fault_in (at + m) (faults_from m judged)
+    ≡ option_and_then (option_and_then (λ (j : Judged). fault_by j.verdict)) (slice_get judged at)
 fault_among at m [] = refl
 fault_among zero m (o ∷ os) = ap (λ (n : ℕ). fault_in n (faults_from m (o ∷ os))) (zero-add m) ∙ fault_here m o os
 fault_among (suc at) m (o ∷ os) =
@@ -117,7 +122,8 @@ and_false : (b : Bool) → (b && false) ≡ false
 and_false true = refl
 and_false false = refl
 
-past_header : (n : ℕ) (field : List ℕ) (names : Option (List (List ℕ))) (rest : List ReadFault) → fault_in n (header_faults field names ++ rest) ≡ fault_in n rest
+past_header : (n : ℕ) (field : List ℕ) (names : Option (List (List ℕ))) (rest : List ReadFault)
+    → fault_in n (header_faults field names ++ rest) ≡ fault_in n rest
 past_header n field None rest = rw (and_false (0 == n)) refl
 past_header n field (Some names) rest =
     elim (nat_lt names_max (length field)) as (λ b. fault_in n (cond b (header_fault code.NamesTooLong ∷ []) [] ++ rest) ≡ fault_in n rest) [
@@ -141,9 +147,11 @@ verdicts_are : (at : ℕ) (items : List (List PlacedByte)) (judged : List (Optio
     → option_and_then (option_map (λ (j : Judged). j.verdict)) (slice_get judged at) ≡ option_and_then verdict_in (slice_get (map text_read items) at)
 verdicts_are at _ _ no_item = refl
 verdicts_are zero _ _ (item_and_rest {item = item} {items = items} {outcome = outcome} {outcomes = outcomes} first rest) = verdict_is item outcome first
-verdicts_are (suc at) _ _ (item_and_rest {item = item} {items = items} {outcome = outcome} {outcomes = outcomes} first rest) = verdicts_are at items outcomes rest
+verdicts_are (suc at) _ _ (item_and_rest {item = item} {items = items} {outcome = outcome} {outcomes = outcomes} first rest) =
+    verdicts_are at items outcomes rest
 
-through : {A : Type 0} (f : Verdict → Option A) (o : Option (Option Judged)) → option_and_then (option_and_then (λ (j : Judged). f j.verdict)) o ≡ option_and_then f (option_and_then (option_map (λ (j : Judged). j.verdict)) o)
+through : {A : Type 0} (f : Verdict → Option A) (o : Option (Option Judged)) → option_and_then (option_and_then (λ (j : Judged). f j.verdict)) o
+    ≡ option_and_then f (option_and_then (option_map (λ (j : Judged). j.verdict)) o)
 through f None = refl
 through f (Some None) = refl
 through f (Some (Some j)) = refl
@@ -155,7 +163,8 @@ said_is block at =
     let items : (reading_of_text block).items ≡ items_from 0 p.judged = ap (λ (r : Reading). r.items) p.is in
     let so : at ≡ at + 0 = omega arith in
     ap (said_in at) items ∙ ap (λ (n : ℕ). said_in n (items_from 0 p.judged)) so ∙ said_among at 0 p.judged ∙ through said_by (slice_get p.judged at)
-    ∙ ap (option_and_then said_by) (verdicts_are at p.items p.judged p.are_judged ∙ ap (λ (texts : List (List ℕ)). option_and_then verdict_in (slice_get texts at)) (sym (seen_are_read block (reading_of_text block) p)))
+    ∙ ap (option_and_then said_by) (verdicts_are at p.items p.judged p.are_judged
+    ∙ ap (λ (texts : List (List ℕ)). option_and_then verdict_in (slice_get texts at)) (sym (seen_are_read block (reading_of_text block) p)))
 
 pub fault_is : (block : List ℕ) (at : ℕ) → fault_at block at ≡ option_and_then fault_by (option_and_then verdict_in (slice_get (item_texts block) at))
 fault_is block at =
@@ -164,7 +173,8 @@ fault_is block at =
     let so : at ≡ at + 0 = omega arith in
     ap (fault_in at) faults ∙ past_header at (bytes p.field) p.names (faults_from 0 p.judged)
     ∙ ap (λ (n : ℕ). fault_in n (faults_from 0 p.judged)) so ∙ fault_among at 0 p.judged ∙ through fault_by (slice_get p.judged at)
-    ∙ ap (option_and_then fault_by) (verdicts_are at p.items p.judged p.are_judged ∙ ap (λ (texts : List (List ℕ)). option_and_then verdict_in (slice_get texts at)) (sym (seen_are_read block (reading_of_text block) p)))
+    ∙ ap (option_and_then fault_by) (verdicts_are at p.items p.judged p.are_judged
+    ∙ ap (λ (texts : List (List ℕ)). option_and_then verdict_in (slice_get texts at)) (sym (seen_are_read block (reading_of_text block) p)))
 
 -- ---- once an item is another
 
@@ -175,7 +185,8 @@ other_got (x ∷ xs) zero (suc at) v other = refl
 other_got (x ∷ xs) (suc k) zero v other = refl
 other_got (x ∷ xs) (suc k) (suc at) v other = other_got xs k at v (λ e. other (ap suc e))
 
-pub same_got : (items : List (List PlacedByte)) (k : ℕ) (v : List ℕ) (item : List PlacedByte) → slice_get items k ≡ Some item → slice_get (slice_set (map bytes items) k v) k ≡ Some v
+pub same_got : (items : List (List PlacedByte)) (k : ℕ) (v : List ℕ) (item : List PlacedByte) → slice_get items k ≡ Some item
+    → slice_get (slice_set (map bytes items) k v) k ≡ Some v
 same_got [] k v item e = absurd cc
 same_got (x ∷ xs) zero v item e = refl
 same_got (x ∷ xs) (suc k) v item e = same_got xs k v item e
@@ -185,8 +196,10 @@ others_read block ordinal item part new text single there replaces at other =
     let texts = (one_replaced block ordinal item part new text single there replaces).0 in
     let same : slice_get (item_texts (exchanged block part new)) at ≡ slice_get (item_texts block) at =
     ap (λ (l : List (List ℕ)). slice_get l at) texts ∙ other_got (item_texts block) ordinal at text other in (
-      said_is (exchanged block part new) at ∙ ap (λ (o : Option (List ℕ)). option_and_then said_by (option_and_then verdict_in o)) same ∙ sym (said_is block at),
-      fault_is (exchanged block part new) at ∙ ap (λ (o : Option (List ℕ)). option_and_then fault_by (option_and_then verdict_in o)) same ∙ sym (fault_is block at),
+      said_is (exchanged block part new) at ∙ ap (λ (o : Option (List ℕ)). option_and_then said_by (option_and_then verdict_in o)) same
+          ∙ sym (said_is block at),
+      fault_is (exchanged block part new) at ∙ ap (λ (o : Option (List ℕ)). option_and_then fault_by (option_and_then verdict_in o)) same
+          ∙ sym (fault_is block at),
     )
 
 pub only_code : (o : Option Code) (c : Code) → option_and_then of_item o ≡ Some c → o ≡ Some c
@@ -207,7 +220,9 @@ new_read block ordinal item part new text verdict single there replaces judged =
     ap (option_map (λ (s : Statement). verdict_of s.name s.claim)) (sym (one_statement text (Some judged.statement) judged.states))
     ∙ ap (λ (v : Verdict). Some v) (sym (one_verdict judged.statement.name judged.statement.claim verdict judged.judges)) in
     record {
-      says = said_is (exchanged block part new) ordinal ∙ ap (λ (o : Option (List ℕ)). option_and_then said_by (option_and_then verdict_in o)) got ∙ ap (option_and_then said_by) by;
+      says = said_is (exchanged block part new) ordinal ∙ ap (λ (o : Option (List ℕ)). option_and_then said_by (option_and_then verdict_in o)) got
+          ∙ ap (option_and_then said_by) by;
       fault = λ c e. only_code (code_by verdict) c
-          (sym (fault_is (exchanged block part new) ordinal ∙ ap (λ (o : Option (List ℕ)). option_and_then fault_by (option_and_then verdict_in o)) got ∙ ap (option_and_then fault_by) by) ∙ e);
+          (sym (fault_is (exchanged block part new) ordinal ∙ ap (λ (o : Option (List ℕ)). option_and_then fault_by (option_and_then verdict_in o)) got
+          ∙ ap (option_and_then fault_by) by) ∙ e);
     }

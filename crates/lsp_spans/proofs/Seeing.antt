@@ -1,5 +1,6 @@
 -- Parts of a folded text without white space at an end.
-use Rattle.std.proofs.Common.{◌≡◌, ℕ, suc, ◌+◌, ◌-◌, ◌<◌, ◌≤◌, ◌==◌, ◌&&◌, Bool, true, false, cond, List, [], ◌∷◌, ◌++◌, drop, get_or, Some, None, length, map, take, refl, sym, ap, ap₂, ◌∙◌, arith}
+use Rattle.std.proofs.Common.{◌≡◌, ℕ, suc, ◌+◌, ◌-◌, ◌<◌, ◌≤◌, ◌==◌, ◌&&◌, Bool, true, false, cond, List, [], ◌∷◌, ◌++◌, drop, get_or, Some, None, length}
+use Rattle.std.proofs.Common.{map, take, refl, sym, ap, ap₂, ◌∙◌, arith}
 use Rattle.std.specs.Prelude.{codes}
 use Rattle.std.specs.List.{list_all, slice_range}
 use Rattle.std.proofs.lemmas.Bool.{and_parts}
@@ -16,7 +17,8 @@ use Rattle.lsp_spans.specs.declared.parts.Part.{Part}
 use Rattle.lsp_spans.proofs.Parting.{longer}
 
 -- one more byte of a part
-pub part_more : (text : List PlacedByte) (start at : ℕ) (d : PlacedByte) → start ≤ at → at < length text → slice_range text start (at + 1) ≡ slice_range text start at ++ get_or text at d ∷ []
+pub part_more : (text : List PlacedByte) (start at : ℕ) (d : PlacedByte) → start ≤ at → at < length text
+    → slice_range text start (at + 1) ≡ slice_range text start at ++ get_or text at d ∷ []
 part_more text start at d order within =
     longer text start at 1 order ∙ ap (λ (t : List PlacedByte). slice_range text start at ++ take 1 t) (drop_more text at d within)
 
@@ -26,7 +28,8 @@ bytes_more text start at d order within =
     ap bytes (part_more text start at d order within) ∙ map-append (λ (x : PlacedByte). x.0) (slice_range text start at) (get_or text at d ∷ [])
 
 -- one byte less at the front
-pub part_less : (text : List PlacedByte) (at end : ℕ) (d : PlacedByte) → at < end → end ≤ length text → slice_range text at end ≡ get_or text at d ∷ slice_range text (at + 1) end
+pub part_less : (text : List PlacedByte) (at end : ℕ) (d : PlacedByte) → at < end → end ≤ length text
+    → slice_range text at end ≡ get_or text at d ∷ slice_range text (at + 1) end
 part_less text at end d less within =
     let size : end - at ≡ suc (end - (at + 1)) = omega (arith, less) in
     ap (λ (n : ℕ). take n (drop at text)) size ∙ ap (λ (t : List PlacedByte). take (suc (end - (at + 1))) t) (drop_more text at d (omega (arith, less, within)))
@@ -39,19 +42,23 @@ front_white x xs white = rw white
 front_plain : (x : PlacedByte) (xs : List PlacedByte) → is_white_space x.0 ≡ false → without_front (x ∷ xs) ≡ x ∷ xs
 front_plain x xs plain = rw plain
 
-pub front_more : (text : List PlacedByte) (at end : ℕ) (d : PlacedByte) (all : List PlacedByte) → at < end → end ≤ length text → is_white_space (get_or text at d).0 ≡ true
+pub front_more : (text : List PlacedByte) (at end : ℕ) (d : PlacedByte) (all : List PlacedByte) → at < end → end ≤ length text
+    → is_white_space (get_or text at d).0 ≡ true
     → without_front (slice_range text at end) ≡ all → without_front (slice_range text (at + 1) end) ≡ all
 front_more text at end d all less within white e =
     sym (ap without_front (part_less text at end d less within) ∙ front_white (get_or text at d) (slice_range text (at + 1) end) white) ∙ e
 
-pub front_found : (text : List PlacedByte) (at end : ℕ) (d : PlacedByte) (all : List PlacedByte) → at < end → end ≤ length text → is_white_space (get_or text at d).0 ≡ false
+pub front_found : (text : List PlacedByte) (at end : ℕ) (d : PlacedByte) (all : List PlacedByte) → at < end → end ≤ length text
+    → is_white_space (get_or text at d).0 ≡ false
     → without_front (slice_range text at end) ≡ all → slice_range text at end ≡ all
 front_found text at end d all less within plain e =
-    part_less text at end d less within ∙ sym (ap without_front (part_less text at end d less within) ∙ front_plain (get_or text at d) (slice_range text (at + 1) end) plain) ∙ e
+    part_less text at end d less within ∙ sym (ap without_front (part_less text at end d less within)
+    ∙ front_plain (get_or text at d) (slice_range text (at + 1) end) plain) ∙ e
 
 -- ---- white space at the end
 
-all_more : (xs : List PlacedByte) (x : PlacedByte) → list_all is_white_space (bytes (xs ++ x ∷ [])) ≡ (list_all is_white_space (bytes xs) && (is_white_space x.0 && true))
+all_more : (xs : List PlacedByte) (x : PlacedByte) → list_all is_white_space (bytes (xs ++ x ∷ []))
+    ≡ (list_all is_white_space (bytes xs) && (is_white_space x.0 && true))
 all_more xs x = ap (list_all is_white_space) (map-append (λ (y : PlacedByte). y.0) xs (x ∷ [])) ∙ list_all-append is_white_space (bytes xs) (x.0 ∷ [])
 
 and_true : (a b : Bool) → b ≡ true → (a && (b && true)) ≡ a
@@ -64,7 +71,8 @@ and_false true true e = cc
 and_false true false e = refl
 and_false false b e = refl
 
-end_by : (x : PlacedByte) (xs : List PlacedByte) (b : Bool) → list_all is_white_space (bytes (x ∷ xs)) ≡ b → without_end (x ∷ xs) ≡ cond b [] (x ∷ without_end xs)
+end_by : (x : PlacedByte) (xs : List PlacedByte) (b : Bool) → list_all is_white_space (bytes (x ∷ xs)) ≡ b
+    → without_end (x ∷ xs) ≡ cond b [] (x ∷ without_end xs)
 end_by x xs b e = rw e
 
 pub end_white : (xs : List PlacedByte) (x : PlacedByte) → is_white_space x.0 ≡ true → without_end (xs ++ x ∷ []) ≡ without_end xs
@@ -88,7 +96,8 @@ end_next_white text start at end d order within white e =
 pub end_next_plain : (text : List PlacedByte) (start at : ℕ) (d : PlacedByte) → start ≤ at → at < length text → is_white_space (get_or text at d).0 ≡ false
     → without_end (slice_range text start (at + 1)) ≡ slice_range text start (at + 1)
 end_next_plain text start at d order within plain =
-    ap without_end (part_more text start at d order within) ∙ end_plain (slice_range text start at) (get_or text at d) plain ∙ sym (part_more text start at d order within)
+    ap without_end (part_more text start at d order within) ∙ end_plain (slice_range text start at) (get_or text at d) plain
+    ∙ sym (part_more text start at d order within)
 
 -- ---- the bytes with which a text begins
 
@@ -101,19 +110,24 @@ begins_short [] text short = absurd (omega (arith, short))
 begins_short (byte ∷ bytes) [] short = refl
 begins_short (byte ∷ bytes) (x ∷ xs) short = ap (λ (b : Bool). x.0 == byte && b) (begins_short bytes xs (omega (arith, short))) ∙ and_none (x.0 == byte)
 
-begins_cons : (byte : ℕ) (bytes : List ℕ) (x : PlacedByte) (xs : List PlacedByte) (b : Bool) → (x.0 == byte) ≡ b → begins_with (byte ∷ bytes) (x ∷ xs) ≡ (b && begins_with bytes xs)
+begins_cons : (byte : ℕ) (bytes : List ℕ) (x : PlacedByte) (xs : List PlacedByte) (b : Bool) → (x.0 == byte) ≡ b
+    → begins_with (byte ∷ bytes) (x ∷ xs) ≡ (b && begins_with bytes xs)
 begins_cons byte bytes x xs b e = rw e
 
-begins_at : (word : List ℕ) (text : List PlacedByte) (at : ℕ) (d : PlacedByte) (b : Bool) → at < length word → at < length text → ((get_or text at d).0 == get_or word at 0) ≡ b
+begins_at : (word : List ℕ) (text : List PlacedByte) (at : ℕ) (d : PlacedByte) (b : Bool) → at < length word → at < length text
+    → ((get_or text at d).0 == get_or word at 0) ≡ b
     → begins_with (drop at word) (drop at text) ≡ (b && begins_with (drop (at + 1) word) (drop (at + 1) text))
 begins_at word text at d b less within e =
-    ap₂ begins_with (drop_more word at 0 less) (drop_more text at d within) ∙ begins_cons (get_or word at 0) (drop (at + 1) word) (get_or text at d) (drop (at + 1) text) b e
+    ap₂ begins_with (drop_more word at 0 less) (drop_more text at d within)
+    ∙ begins_cons (get_or word at 0) (drop (at + 1) word) (get_or text at d) (drop (at + 1) text) b e
 
-pub begins_next : (word : List ℕ) (text : List PlacedByte) (at : ℕ) (d : PlacedByte) (r : Bool) → at < length word → at < length text → ((get_or text at d).0 == get_or word at 0) ≡ true
+pub begins_next : (word : List ℕ) (text : List PlacedByte) (at : ℕ) (d : PlacedByte) (r : Bool) → at < length word → at < length text
+    → ((get_or text at d).0 == get_or word at 0) ≡ true
     → begins_with (drop at word) (drop at text) ≡ r → begins_with (drop (at + 1) word) (drop (at + 1) text) ≡ r
 begins_next word text at d r less within same e = sym (begins_at word text at d true less within same) ∙ e
 
-pub begins_not : (word : List ℕ) (text : List PlacedByte) (at : ℕ) (d : PlacedByte) (r : Bool) → at < length word → at < length text → ((get_or text at d).0 == get_or word at 0) ≡ false
+pub begins_not : (word : List ℕ) (text : List PlacedByte) (at : ℕ) (d : PlacedByte) (r : Bool) → at < length word → at < length text
+    → ((get_or text at d).0 == get_or word at 0) ≡ false
     → begins_with (drop at word) (drop at text) ≡ r → false ≡ r
 begins_not word text at d r less within differ e = sym (begins_at word text at d false less within differ) ∙ e
 
@@ -122,15 +136,18 @@ begins_all word text at r past e = ap (λ (w : List ℕ). begins_with w (drop at
 
 -- ---- the names that can be looked up
 
-pub names_looked_up : (text : List PlacedByte) (parts : List Part) (n count : ℕ) (field : List PlacedByte) → map (part_of text) parts ≡ names_of field → count ≡ length parts
-    → ((names : List (List PlacedByte)) → length names ≡ count → take n names ≡ lookup_parts names) → map (part_of text) (take n parts) ≡ lookup_parts (names_of field)
+pub names_looked_up : (text : List PlacedByte) (parts : List Part) (n count : ℕ) (field : List PlacedByte) → map (part_of text) parts ≡ names_of field
+    → count ≡ length parts
+    → ((names : List (List PlacedByte)) → length names ≡ count → take n names ≡ lookup_parts names)
+    → map (part_of text) (take n parts) ≡ lookup_parts (names_of field)
 names_looked_up text parts n count field e all looked =
     sym (take-map (part_of text) n parts) ∙ looked (map (part_of text) parts) (length-map parts (part_of text) ∙ sym all) ∙ ap lookup_parts e
 
 -- ---- the name that is used
 
 -- what is after the first bytes of an item
-pub value_is : (text : List PlacedByte) (item : Part) → 4 ≤ item.end - item.start → part_of text (record { start = item.start + 4; end = item.end }) ≡ drop 4 (part_of text item)
+pub value_is : (text : List PlacedByte) (item : Part) → 4 ≤ item.end - item.start → part_of text (record { start = item.start + 4; end = item.end })
+    ≡ drop 4 (part_of text item)
 value_is text item long =
     let m = item.end - (item.start + 4) in
     let size : item.end - item.start ≡ 4 + m = omega (arith, long) in
@@ -155,7 +172,8 @@ used_not item e = rw e
 
 -- ---- the last of some parts
 
-pub last_mapped : (text : List PlacedByte) (parts : List Part) (d : Part) → 0 < length parts → part_of text (get_or parts (length parts - 1) d) ≡ last_of (map (part_of text) parts)
+pub last_mapped : (text : List PlacedByte) (parts : List Part) (d : Part) → 0 < length parts
+    → part_of text (get_or parts (length parts - 1) d) ≡ last_of (map (part_of text) parts)
 last_mapped text [] d some = absurd (omega (arith, some))
 last_mapped text (part ∷ []) d some = refl
 last_mapped text (part ∷ other ∷ parts) d some =

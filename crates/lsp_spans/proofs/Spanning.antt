@@ -14,7 +14,8 @@ end_taken end (x ∷ xs) (suc n) d within = end_taken (suc x.1) xs n d (omega (a
 abbrev part_from : ℕ → ℕ → Part
 part_from start end = record { start = start; end = end }
 
-spanned_at : (xs : List PlacedByte) (n : ℕ) (d : PlacedByte) → n < length xs → spanned (take (suc n) xs) ≡ Some (part_from (get_or xs 0 d).1 (suc (get_or xs n d).1))
+spanned_at : (xs : List PlacedByte) (n : ℕ) (d : PlacedByte) → n < length xs → spanned (take (suc n) xs)
+    ≡ Some (part_from (get_or xs 0 d).1 (suc (get_or xs n d).1))
 spanned_at [] n d within = absurd (omega arith)
 spanned_at (x ∷ xs) zero d within = refl
 spanned_at (x ∷ xs) (suc n) d within = ap (λ (end : ℕ). Some (part_from x.1 end)) (end_taken (suc x.1) xs n d (omega (arith, within)))

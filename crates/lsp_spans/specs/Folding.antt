@@ -1,7 +1,8 @@
 -- The text of a block as it is read (terminfo(5); X/Open Curses Issue 7, "Terminfo Source Format"),
 -- each byte with its offset in the block: the lines that are no comments, joined.
 use Rattle.ti_text.specs.Ascii as ascii
-use Rattle.std.specs.Prelude.{ℕ, suc, ◌≡◌, ◌<◌, ◌==◌, ◌||◌, ◌&&◌, not, All, Bool, true, false, List, [], ◌∷◌, filter, flat_map, length, slice_index, if◌then◌else◌}
+use Rattle.std.specs.Prelude.{ℕ, suc, ◌≡◌, ◌<◌, ◌==◌, ◌||◌, ◌&&◌, not, All, Bool, true, false, List, [], ◌∷◌, filter, flat_map, length, slice_index}
+use Rattle.std.specs.Prelude.{if◌then◌else◌}
 use Rattle.ti_text.specs.WhiteSpace.{is_white_space}
 use Rattle.ti_source.specs.Folding.{AreLines, Joins, PlacedByte, is_comment}
 
@@ -26,7 +27,8 @@ OneFoldingAt = (block : List ℕ) (one other : List PlacedByte) → FoldsAt bloc
 
 -- each byte of a folded text is that of the block at its offset
 abbrev pub OffsetsLead : Type 0
-OffsetsLead = (block : List ℕ) (text : List PlacedByte) → FoldsAt block text → All (λ (x : PlacedByte). (x.1 < length block) × (slice_index block x.1 ≡ x.0)) text
+OffsetsLead =
+    (block : List ℕ) (text : List PlacedByte) → FoldsAt block text → All (λ (x : PlacedByte). (x.1 < length block) × (slice_index block x.1 ≡ x.0)) text
 
 -- ---- the folded text, computed
 

@@ -1,4 +1,5 @@
 -- The definitions that the contracts of this crate cite.
+pub mod Faulty
 pub mod Folding
 pub mod Ordinals
 pub mod Parts

@@ -1,7 +1,8 @@
 -- What an offset of a block is on: a name in its head, or an item `use=` (terminfo(5); which one an
 -- offset at an end is on is own).
 use Rattle.ti_text.specs.Ascii as ascii
-use Rattle.std.specs.Prelude.{ℕ, ◌-◌, ◌==◌, ◌&&◌, nat_le, Bool, true, false, List, [], ◌∷◌, codes, drop, flat_map, length, map, take, Option, None, Some, option_and_then, if◌then◌else◌}
+use Rattle.std.specs.Prelude.{ℕ, ◌-◌, ◌==◌, ◌&&◌, nat_le, Bool, true, false, List, [], ◌∷◌, codes, drop, flat_map, length, map, take, Option, None, Some}
+use Rattle.std.specs.Prelude.{option_and_then, if◌then◌else◌}
 use Rattle.std.specs.List.{find, list_all}
 use Rattle.std.specs.Option.{option_map, option_map_or, option_or, option_to_list}
 use Rattle.std.specs.Str.{bytes_eq}
@@ -124,7 +125,8 @@ touched_name name = record { span = span_or_start (spanned name); name = span_or
 
 -- an item, if it is a `use=`
 abbrev pub touched_item : List PlacedByte → Option TouchedSeen
-touched_item item = option_map (λ name. record { span = span_or_start (spanned item); name = span_or_start (spanned name); subject = used (bytes name) }) (used_name item)
+touched_item item =
+    option_map (λ name. record { span = span_or_start (spanned item); name = span_or_start (spanned name); subject = used (bytes name) }) (used_name item)
 
 -- what an offset of a folded text is on
 abbrev pub subject_in : List PlacedByte → ℕ → Option TouchedSeen

@@ -6,10 +6,12 @@
 //!   looked up
 //! - `items`: the items as they are seen, and the names that they use
 //! - `subjects`: what an offset of a block is on
+//! - `faulty`: the part of a block that each of its faults is of
 //! - `touching`: the item that an offset of a block is on, as it is written, and its ordinal
 //! - `words`: the word that an editor completes
 #![tactic(auto)]
 
+mod faulty;
 mod folding;
 mod heads;
 mod items;
@@ -21,6 +23,7 @@ mod subjects;
 mod touching;
 mod words;
 
+pub use faulty::FaultFinder;
 pub use folding::folded;
 pub use heads::{Head, head_of};
 pub use items::{Use, used_part, uses_of, visible_items, without_end};

@@ -15,7 +15,7 @@ code_of NameTaken = negsuc 32802
 
 -- the sentence of a refusal (own)
 abbrev pub sentence_of : Failure → List ℕ
-sentence_of NoJson = codes "the body is no JSON or is too long"
+sentence_of NoJson = codes "the body is not JSON or is too long"
 sentence_of NoRequest = codes "no request is expected here"
 sentence_of NoMethod = codes "there is no such method"
 sentence_of BadParameters = codes "the parameters are not those of the method"

@@ -41,7 +41,7 @@ impl Failure {
         ensures { result.now ≡ sentence_of self }
     {
         match self {
-            Failure::NoJson => "the body is no JSON or is too long",
+            Failure::NoJson => "the body is not JSON or is too long",
             Failure::NoRequest => "no request is expected here",
             Failure::NoMethod => "there is no such method",
             Failure::BadParameters => "the parameters are not those of the method",

@@ -58,18 +58,18 @@ d, use=a,";
 
 #[rattlefmt::skip]
 const ROWS: [Row; 12] = [
-    Row { line: 3, start: 0, end: 13, label: "E1", severity: Severity::Error, message: "BadHeader: " },
-    Row { line: 5, start: 1, end: 31, label: "E3", severity: Severity::Error, message: "BadNumber cols: " },
-    Row { line: 5, start: 1, end: 31, label: "E4", severity: Severity::Error, message: "NumberTooLarge lines: " },
-    Row { line: 6, start: 3, end: 26, label: "W1", severity: Severity::Warning, message: "UnknownCapability ?????????: " },
-    Row { line: 6, start: 3, end: 26, label: "W3", severity: Severity::Warning, message: "UnknownEscape bel: " },
-    Row { line: 6, start: 3, end: 26, label: "E5", severity: Severity::Error, message: "BadString cup: " },
-    Row { line: 7, start: 0, end: 19, label: "W4", severity: Severity::Warning, message: "DuplicateName a: " },
-    Row { line: 7, start: 0, end: 19, label: "W2", severity: Severity::Warning, message: "WrongKind cols: " },
-    Row { line: 8, start: 1, end: 8, label: "E6", severity: Severity::Error, message: "MissingUse zz: " },
-    Row { line: 9, start: 1, end: 7, label: "E7", severity: Severity::Error, message: "Circular c: " },
-    Row { line: 10, start: 0, end: 9, label: "E7", severity: Severity::Error, message: "Circular b: " },
-    Row { line: 11, start: 0, end: 9, label: "E8", severity: Severity::Error, message: "Unresolved a: " },
+    Row { line: 3, start: 0, end: 12, label: "E1", severity: Severity::Error, message: "BadHeader: " },
+    Row { line: 5, start: 5, end: 12, label: "E3", severity: Severity::Error, message: "BadNumber cols: " },
+    Row { line: 5, start: 14, end: 30, label: "E4", severity: Severity::Error, message: "NumberTooLarge lines: " },
+    Row { line: 6, start: 3, end: 7, label: "W1", severity: Severity::Warning, message: "UnknownCapability ?????????: " },
+    Row { line: 6, start: 9, end: 15, label: "W3", severity: Severity::Warning, message: "UnknownEscape bel: " },
+    Row { line: 6, start: 17, end: 25, label: "E5", severity: Severity::Error, message: "BadString cup: " },
+    Row { line: 7, start: 2, end: 3, label: "W4", severity: Severity::Warning, message: "DuplicateName a: " },
+    Row { line: 7, start: 12, end: 18, label: "W2", severity: Severity::Warning, message: "WrongKind cols: " },
+    Row { line: 8, start: 1, end: 7, label: "E6", severity: Severity::Error, message: "MissingUse zz: " },
+    Row { line: 9, start: 1, end: 6, label: "E7", severity: Severity::Error, message: "Circular c: " },
+    Row { line: 10, start: 3, end: 8, label: "E7", severity: Severity::Error, message: "Circular b: " },
+    Row { line: 11, start: 3, end: 8, label: "E8", severity: Severity::Error, message: "Unresolved a: " },
 ];
 
 // Whether the diagnostics of a source are these.
@@ -90,12 +90,69 @@ fn each_fault_has_its_place(rt: HostRuntime) -> Result<(), AllocError> {
     Ok(())
 }
 
+// Items of one name on one line, and items, a name and a names field that go on on another line.
+const BROKEN: &[u8] = b"a|b|x,
+c|
+ b|long,
+\tam#1, am#1, foo, cols#x
+  y, bel=\\
+\t400, use=q ,use=q,
+/|
+ d,
+";
+
+#[rattlefmt::skip]
+const BROKEN_ROWS: [Row; 9] = [
+    // The name is not on the line of the block, which is shown.
+    Row { line: 1, start: 0, end: 2, label: "W4", severity: Severity::Warning, message: "DuplicateName b: " },
+    Row { line: 3, start: 1, end: 5, label: "W2", severity: Severity::Warning, message: "WrongKind am: " },
+    Row { line: 3, start: 7, end: 11, label: "W2", severity: Severity::Warning, message: "WrongKind am: " },
+    Row { line: 3, start: 13, end: 16, label: "W1", severity: Severity::Warning, message: "UnknownCapability foo: " },
+    Row { line: 3, start: 18, end: 24, label: "E3", severity: Severity::Error, message: "BadNumber cols: " },
+    Row { line: 4, start: 5, end: 10, label: "E5", severity: Severity::Error, message: "BadString bel: " },
+    Row { line: 5, start: 6, end: 12, label: "E6", severity: Severity::Error, message: "MissingUse q: " },
+    Row { line: 5, start: 13, end: 18, label: "E6", severity: Severity::Error, message: "MissingUse q: " },
+    Row { line: 6, start: 0, end: 2, label: "E1", severity: Severity::Error, message: "BadHeader: " },
+];
+
+#[test]
+fn each_item_has_its_own_place(rt: HostRuntime) -> Result<(), AllocError> {
+    assert!(rt; are_shown(rt.alloc(), BROKEN, &BROKEN_ROWS)?);
+    Ok(())
+}
+
+// A names field that is empty is shown as its line.
+#[rattlefmt::skip]
+const NAMELESS: [Row; 1] = [
+    Row { line: 1, start: 0, end: 4, label: "E1", severity: Severity::Error, message: "BadHeader: " },
+];
+
+#[test]
+fn a_line_without_a_names_field(rt: HostRuntime) -> Result<(), AllocError> {
+    assert!(rt; are_shown(rt.alloc(), b"\n,am,\n", &NAMELESS)?);
+    Ok(())
+}
+
+// An entry over its limit is shown at its first name, after the faults of its items.
+#[rattlefmt::skip]
+const LARGE: [Row; 2] = [
+    Row { line: 0, start: 5, end: 8, label: "W1", severity: Severity::Warning, message: "UnknownCapability foo: " },
+    Row { line: 0, start: 0, end: 1, label: "E9", severity: Severity::Error, message: "TooLarge n: " },
+];
+
+#[test]
+fn a_large_entry(rt: HostRuntime) -> Result<(), AllocError> {
+    let text = with_run(rt.alloc(), b"n|m, foo, bel=", b'x', 5000)?;
+    assert!(rt; are_shown(rt.alloc(), &text, &LARGE)?);
+    Ok(())
+}
+
 // The CR of a CR LF is no column of its line. It is an item of its own, since it is no white
 // space.
 #[rattlefmt::skip]
 const RETURNS: [Row; 2] = [
-    Row { line: 1, start: 1, end: 8, label: "E3", severity: Severity::Error, message: "BadNumber cols: " },
-    Row { line: 1, start: 1, end: 8, label: "W1", severity: Severity::Warning, message: "UnknownCapability ?: " },
+    Row { line: 1, start: 1, end: 7, label: "E3", severity: Severity::Error, message: "BadNumber cols: " },
+    Row { line: 1, start: 8, end: 8, label: "W1", severity: Severity::Warning, message: "UnknownCapability ?: " },
 ];
 
 #[test]

@@ -103,7 +103,7 @@ const ROWS: [Row; 35] = [
 ];
 
 #[rattlefmt::skip]
-const CASES: [(&'static [u8], Row); 5] = [
+const CASES: [(&'static [u8], Row); 26] = [
     // the nearest name ends with a backslash, which would take the comma after it
     (b"xt\\,am,\nb,use=xtt,cols#80,\n", (((1, 3), (1, 3)), &[])),
     (b"xt\\,am,\nxts,am,\nb,use=xtt,cols#80,\n", (((2, 3), (2, 3)), &[(Wanted::Name("xtt"), ((2, 6), (2, 9)), "xts")])),
@@ -113,6 +113,35 @@ const CASES: [(&'static [u8], Row); 5] = [
     (b"a,ix#8,\n", (((0, 3), (0, 3)), &[(Wanted::Name("ix"), ((0, 2), (0, 4)), "it")])),
     // the names field has a fault too
     (b"a b,clearr=x,\n", (((0, 5), (0, 5)), &[(Wanted::Name("clearr"), ((0, 4), (0, 10)), "clear")])),
+    // the CR of a CR LF after the last item is a byte of its string, and an editor keeps it
+    (b"a,bel=x\\q\r\n", (((0, 3), (0, 3)), &[(Wanted::Spelling, ((0, 6), (0, 9)), "xq")])),
+    (b"a,bel=x\\q\r\n\t\n", (((0, 3), (0, 3)), &[(Wanted::Spelling, ((0, 6), (0, 9)), "xq")])),
+    (b"a,bel=x\\q\r\r\n", (((0, 3), (0, 3)), &[(Wanted::Spelling, ((0, 6), (0, 10)), "xq\\r")])),
+    // so it is taken by a backslash too
+    (b"a,bel=x\\\r\n", (((0, 3), (0, 3)), &[(Wanted::Spelling, ((0, 6), (0, 8)), "x")])),
+    (b"a,bel=\\\r\n", (((0, 3), (0, 3)), &[])),
+    // a CR before a comma, a string over two lines, and a CR LF after the comma
+    (b"a,bel=x\\q\r,\n", (((0, 3), (0, 3)), &[(Wanted::Spelling, ((0, 6), (0, 9)), "xq")])),
+    (b"a,bel=x\\q\r\n\ty,\r\n", (((0, 3), (0, 3)), &[(Wanted::Spelling, ((0, 6), (1, 2)), "xq\\ry")])),
+    (b"a,bel=x\\q,\r\n", (((0, 3), (0, 3)), &[(Wanted::Spelling, ((0, 6), (0, 9)), "xq")])),
+    // no editor takes the CR of a CR LF away, so a name that has it is no other then
+    (b"a,xenll\r\n", (((0, 3), (0, 3)), &[])),
+    (b"a,xenll,\r\n", (((0, 3), (0, 3)), &[(Wanted::Name("xenll"), ((0, 2), (0, 7)), "xenl")])),
+    (b"base,\nb,use=basse\r\n", (((1, 3), (1, 3)), &[])),
+    (b"base,\r\nb,use=basse,\r\n", (((1, 3), (1, 3)), &[(Wanted::Name("basse"), ((1, 6), (1, 11)), "base")])),
+    // an editor joins the lines at a name that begins with it
+    (b"a,am,\r\n\tcols#80,\r\n", (((1, 2), (1, 2)), &[(Wanted::Name("?cols"), ((0, 5), (1, 5)), "cols")])),
+    // a sign is before it, and a `^` takes it
+    (b"a,bel#x\r\n", (((0, 3), (0, 3)), &[(Wanted::Sign(Kind::Text), ((0, 5), (0, 6)), "=")])),
+    (b"a,bel=a^\r\n", (((0, 3), (0, 3)), &[])),
+    // the last item of a block has no comma
+    (b"a,xenll\n", (((0, 3), (0, 3)), &[(Wanted::Name("xenll"), ((0, 2), (0, 7)), "xenl")])),
+    (b"a,am=\n", (((0, 3), (0, 3)), &[(Wanted::Sign(Kind::Flag), ((0, 4), (0, 5)), "")])),
+    (b"a,bel=a^\n", (((0, 3), (0, 3)), &[(Wanted::Caret, ((0, 7), (0, 8)), "\\^")])),
+    (b"base,\nb,use=basse\n", (((1, 3), (1, 3)), &[(Wanted::Name("basse"), ((1, 6), (1, 11)), "base")])),
+    // the last line of a text has no newline
+    (b"a,bel=x\\q", (((0, 3), (0, 3)), &[(Wanted::Spelling, ((0, 6), (0, 9)), "xq")])),
+    (b"a,bel=x\\q\r", (((0, 3), (0, 3)), &[(Wanted::Spelling, ((0, 6), (0, 9)), "xq")])),
 ];
 
 // A range of a line and a column each.

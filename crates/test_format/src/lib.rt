@@ -1,11 +1,14 @@
 //! The worked rows of parameter strings, printf forms and padding as tests, by the manuals and by
 //! what the printf of the GNU C library prints; no code of the product.
 //!
+//! - `delays`: strings cut at a delay
 //! - `expansion`: parameter strings
 //! - `padding`: strings with delays
 //! - `printf`: forms
 #![tactic(auto)]
 
+#[cfg(test)]
+mod delays;
 #[cfg(test)]
 mod expansion;
 #[cfg(test)]

@@ -56,7 +56,8 @@ said_of text uri query = if nat_eq (length (word_of query)) 0 then said_refusal 
 abbrev pub sayings : Sayings
 sayings = record { diagnostics = diagnostics_of; answers = said_of }
 
-no_float_if : (refused : Bool) (text uri : List ℕ) (query : Query) → SaidHasNoFloat (if refused then said_refusal NoName else said_answer (answer_of text uri query))
+no_float_if : (refused : Bool) (text uri : List ℕ) (query : Query)
+    → SaidHasNoFloat (if refused then said_refusal NoName else said_answer (answer_of text uri query))
 no_float_if true text uri query = tt
 no_float_if false text uri query = refl
 

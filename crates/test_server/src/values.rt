@@ -117,10 +117,10 @@ const REFUSED: &str =
     r#"{"error":{"code":-32803,"message":"an entry has or uses the new name already"},"id":null,"jsonrpc":"2.0"}"#;
 
 const READY: &str =
-    r#"{"capabilities":{"codeActionProvider":{"codeActionKinds":["quickfix"]},"completionProvider":{"triggerCharacters":["=",","]},"definitionProvider":true,"documentSymbolProvider":true,"hoverProvider":true,"positionEncoding":"utf-16","referencesProvider":true,"renameProvider":{"prepareProvider":true},"textDocumentSync":{"change":2,"openClose":true}},"serverInfo":{"name":"ti-lsp","version":"9"}}"#;
+    r#"{"capabilities":{"codeActionProvider":{"codeActionKinds":["quickfix"]},"completionProvider":{"triggerCharacters":["="]},"definitionProvider":true,"documentSymbolProvider":true,"hoverProvider":true,"positionEncoding":"utf-16","referencesProvider":true,"renameProvider":{"prepareProvider":true},"textDocumentSync":{"change":2,"openClose":true}},"serverInfo":{"name":"ti-lsp","version":"9"}}"#;
 
 const READY_FOR_LESS: &str =
-    r#"{"capabilities":{"codeActionProvider":false,"completionProvider":{"triggerCharacters":["=",","]},"definitionProvider":true,"documentSymbolProvider":true,"hoverProvider":true,"positionEncoding":"utf-16","referencesProvider":true,"renameProvider":true,"textDocumentSync":{"change":2,"openClose":true}},"serverInfo":{"name":"ti-lsp","version":"9"}}"#;
+    r#"{"capabilities":{"codeActionProvider":false,"completionProvider":{"triggerCharacters":["="]},"definitionProvider":true,"documentSymbolProvider":true,"hoverProvider":true,"positionEncoding":"utf-16","referencesProvider":true,"renameProvider":true,"textDocumentSync":{"change":2,"openClose":true}},"serverInfo":{"name":"ti-lsp","version":"9"}}"#;
 
 // A client that asks which name a rename is of, and that takes code actions.
 const ABLE: Client = Client {

@@ -18,16 +18,20 @@ named_at k place o is within =
     rw (is, slice_get-get_or (in_name_order k) place c there) refl
 
 -- the item of one more
-pub one_more : {A B : Type 0} (f : A → B) (xs : List A) (n : ℕ) (x : A) (before : List B) → slice_get xs n ≡ Some x → (before ++ map f (take n xs)) ++ f x ∷ [] ≡ before ++ map f (take (n + 1) xs)
+pub one_more : {A B : Type 0} (f : A → B) (xs : List A) (n : ℕ) (x : A) (before : List B) → slice_get xs n ≡ Some x
+    → (before ++ map f (take n xs)) ++ f x ∷ [] ≡ before ++ map f (take (n + 1) xs)
 one_more f xs n x before e =
     let within : n < length xs = slice_get_within xs n x e in
     append_assoc before (map f (take n xs)) (f x ∷ [])
     ∙ ap (λ l. before ++ l) (sym (map_more f xs n x within ∙ ap (λ y. map f (take n xs) ++ f y ∷ []) (get_or_from_slice_get xs n x x e)))
 
 -- the items of the three kinds
-pub items_of_all : (f : Capability → Data) (a b c d : List Data) → a ≡ [] → b ≡ a ++ map f (in_name_order Flag) → c ≡ b ++ map f (in_name_order Number) → d ≡ c ++ map f (in_name_order Text) → d ≡ map f all_capabilities
+pub items_of_all : (f : Capability → Data) (a b c d : List Data) → a ≡ [] → b ≡ a ++ map f (in_name_order Flag) → c ≡ b ++ map f (in_name_order Number)
+    → d ≡ c ++ map f (in_name_order Text) → d ≡ map f all_capabilities
 unfolding all_capabilities
 items_of_all f a b c d none flags numbers texts =
     texts
-    ∙ (ap (λ (l : List Data). l ++ map f (in_name_order Text)) (numbers ∙ ap (λ (l : List Data). l ++ map f (in_name_order Number)) (flags ∙ ap (λ (l : List Data). l ++ map f (in_name_order Flag)) none))
-    ∙ sym (map-append f (in_name_order Flag ++ in_name_order Number) (in_name_order Text) ∙ ap (λ (l : List Data). l ++ map f (in_name_order Text)) (map-append f (in_name_order Flag) (in_name_order Number))))
+    ∙ (ap (λ (l : List Data). l ++ map f (in_name_order Text))
+    (numbers ∙ ap (λ (l : List Data). l ++ map f (in_name_order Number)) (flags ∙ ap (λ (l : List Data). l ++ map f (in_name_order Flag)) none))
+    ∙ sym (map-append f (in_name_order Flag ++ in_name_order Number) (in_name_order Text)
+    ∙ ap (λ (l : List Data). l ++ map f (in_name_order Text)) (map-append f (in_name_order Flag) (in_name_order Number))))

@@ -3,7 +3,8 @@ use Rattle.std.specs.Prelude.{ℕ, List, [], Option, None, Some, codes, map}
 use Rattle.serde_json.specs.Data.{Data, array, null}
 use Rattle.serde_json.specs.View.{items_of}
 use Rattle.lsp_messages.specs.Messages.{Query, completion, hover, definition, references, symbols, rename, prepare_rename, fixes}
-use Rattle.lsp_messages.specs.Shapes.{Said, said_answer, said_refusal, item_data, list_data, location_data, range_data, symbol_data, text_edit_data, workspace_edit_data}
+use Rattle.lsp_messages.specs.Shapes.{Said, said_answer, said_refusal, item_data, list_data, location_data, range_data, symbol_data, text_edit_data}
+use Rattle.lsp_messages.specs.Shapes.{workspace_edit_data}
 use Rattle.lsp_types.specs.declared.items.ItemKind.TheVariants as items
 use Rattle.lsp_types.specs.declared.places.Range.{Range}
 use Rattle.lsp_blocks.specs.Symbols.{SymbolSeen, symbols_of}

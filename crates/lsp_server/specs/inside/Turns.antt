@@ -1,8 +1,6 @@
 -- One turn of the server: a frame is read, and the answer to it is written.
 use Rattle.std.specs.Prelude.{ℕ, ◌≡◌, List, false, Option, None, Some, ◌⊎◌}
-use Rattle.std.specs.Str.{IsUtf8}
 use Rattle.serde_json.specs.Data.{Data}
-use Rattle.serde_json.specs.Read.{read}
 use Rattle.serde_json.specs.Written.{has_float}
 use Rattle.tools_devices.specs.Counted.{Observed}
 use Rattle.tools_devices.specs.Reading.{Gives}
@@ -12,14 +10,14 @@ use Rattle.lsp_frames.specs.declared.frames.FrameError.{FrameError}
 use Rattle.lsp_frames.specs.declared.frames.FrameError.TheVariants.{Memory, Broken}
 use Rattle.lsp_frames.specs.declared.frames.Frame.{Frame}
 use Rattle.lsp_frames.specs.declared.frames.Frame.TheVariants.{Body, TooLong}
+use Rattle.lsp_messages.specs.Bodies.{value_of}
 use Rattle.lsp_server.specs.Sayings.{Sayings}
 use Rattle.lsp_server.specs.Serving.{IsFrame, reply_text}
 use Rattle.lsp_server.specs.Steps.{Places, State, replied}
 
 -- what came in a frame is this value, or none
 abbrev pub IsValue : Frame → Option Data → Type 0
-IsValue (Body body) None = IsUtf8 body.items → read body.items ≡ None
-IsValue (Body body) (Some value) = IsUtf8 body.items × (read body.items ≡ Some value)
+IsValue (Body body) value = value ≡ value_of body.items
 IsValue TooLong None = Unit {0}
 IsValue TooLong (Some value) = ⊥
 

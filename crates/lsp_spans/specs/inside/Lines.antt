@@ -11,7 +11,8 @@ range_at block start end = bytes_at start (take (end - start) (drop start block)
 pub record IsLineAt (block : List ℕ) (start end : ℕ) : Type 0 where
   pub later : start < end
   pub within : end ≤ length block
-  pub line : (lines : List (List PlacedByte)) → AreLines (bytes_at end (drop end block)) lines → AreLines (bytes_at start (drop start block)) (range_at block start end ∷ lines)
+  pub line : (lines : List (List PlacedByte)) → AreLines (bytes_at end (drop end block)) lines
+      → AreLines (bytes_at start (drop start block)) (range_at block start end ∷ lines)
 
 -- these are the bytes of the lines of a block that are no comments
 pub record KeepsLines (block : List ℕ) (text : List PlacedByte) : Type 0 where

@@ -3,11 +3,10 @@ use Rattle.std.specs.List.{position}
 use Rattle.base_meaning.specs.Faults.{fault_seen, faults}
 use Rattle.base_meaning.specs.Owner.{readings}
 use Rattle.base_meaning.specs.declared.faults.Fault.{Fault}
-use Rattle.tools_sources.specs.Sources.{first_line}
-use Rattle.lsp_document.specs.Diagnostics.{diagnostic_seen, fault_diagnostic}
+use Rattle.lsp_document.specs.Diagnostics.{diagnostic_seen, diagnostics_of}
 use Rattle.lsp_document.specs.Documents.{held}
 use Rattle.lsp_blocks.specs.Causes.{is_error_of}
-use Rattle.lsp_blocks.proofs.CausesTold.{has_cause, published}
+use Rattle.lsp_blocks.proofs.CausesTold.{as_many, has_cause}
 use Rattle.lsp_blocks.proofs.Firsts.{never, told-first}
 use Rattle.lsp_blocks.proofs.causes.cause_told.Goals as goal
 
@@ -22,9 +21,10 @@ unreachable-requires c =
 pub returns : goal.returns
 returns c =
     let text = c.args.document.now in
-    told-first (is_error_of c.args.at) fault_seen (fault_diagnostic (held text) (first_line text)) diagnostic_seen
-    c.in_ok-faults.faults.items (faults (readings (held text))) c.in_ok-diagnostics.diagnostics.items c.in-Some.place c.remove.result
+    told-first (is_error_of c.args.at) fault_seen diagnostic_seen
+    c.in_ok-faults.faults.items (faults (readings (held text))) c.in_ok-diagnostics.diagnostics.items (diagnostics_of text) c.in-Some.place c.remove.result
     (c.in_ok-faults.ensures.all ∙ ap (λ bs. faults (readings bs)) c.database.ensures)
-    (c.in_ok-diagnostics.ensures ∙ published text c.args.at c.requires.within)
+    c.in_ok-diagnostics.ensures
+    (as_many c.diagnostics_are_the_faults.ensures text c.args.at c.requires.within)
     (ap (λ (fs : List Fault). position (λ fault. is_error_of c.args.at (fault_seen fault)) fs) (sym c.deref.ensures.value) ∙ sym c.in-Some.ensures)
     c.remove.ensures.value

@@ -39,4 +39,5 @@ pub returns : goal.returns
 returns c =
     let blocks = readings c.args.database.now in
     let none : length c.args.database.now - c.loop-passed._passed ≡ 0 = omega (arith, c.loop-passed-test.false) in
-    sym (walk_over blocks c.args.cap c.loop-passed.here) ∙ ap (λ (n : ℕ). decider_in blocks c.args.cap n c.loop-passed.here) (sym none) ∙ c.loop-passed.invariant.so
+    sym (walk_over blocks c.args.cap c.loop-passed.here) ∙ ap (λ (n : ℕ). decider_in blocks c.args.cap n c.loop-passed.here) (sym none)
+    ∙ c.loop-passed.invariant.so

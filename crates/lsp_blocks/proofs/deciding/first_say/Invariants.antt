@@ -5,4 +5,5 @@ use Rattle.lsp_blocks.specs.Deciding.{first_say}
 use Rattle.lsp_blocks.proofs.deciding.first_say.Given as goal
 
 abbrev pub invariant-loop-item : goal.invariant-loop-item
-invariant-loop-item l = first_say (readings l.database) l.cap (map item_of (drop l.item-index l.items)) ≡ first_say (readings l.database) l.cap (map item_of l.items)
+invariant-loop-item l =
+    first_say (readings l.database) l.cap (map item_of (drop l.item-index l.items)) ≡ first_say (readings l.database) l.cap (map item_of l.items)

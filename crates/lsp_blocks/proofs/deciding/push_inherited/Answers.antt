@@ -15,7 +15,8 @@ loop-index-init c =
 
 pub loop-index-preserved : goal.loop-index-preserved
 loop-index-preserved c =
-    let next = below_next (readings c.args.database.now) c.args.at c.args.kind c.loop-index.index c.cap_at-capability.result c.other_decider.result c.args.found.now.items c.loop-index.found.items c.match-other_decider.found.items
+    let next = below_next (readings c.args.database.now) c.args.at c.args.kind c.loop-index.index c.cap_at-capability.result c.other_decider.result
+    c.args.found.now.items c.loop-index.found.items c.match-other_decider.found.items
     c.cap_at-capability.ensures c.other_decider.ensures c.loop-index.invariant in
     elim c.match-other_decider.branch [
       | in-Some+in_ok-push w ↦

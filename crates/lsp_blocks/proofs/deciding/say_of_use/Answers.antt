@@ -8,4 +8,5 @@ said_by-requires c = owner_found c.args.database.now c.args.name.now (Some c.in-
 pub returns-then-is_some-clause-within : goal.returns-then-is_some-clause-within
 returns-then-is_some-clause-within c = λ at e.
     let same : c.in-Some.at ≡ at = cc in
-    subst (λ (n : ℕ). n < length c.args.database.now) same (owner_found c.args.database.now c.args.name.now (Some c.in-Some.at) (sym c.in-Some.is ∙ c.owner.ensures))
+    subst (λ (n : ℕ). n < length c.args.database.now) same (owner_found c.args.database.now c.args.name.now (Some c.in-Some.at)
+    (sym c.in-Some.is ∙ c.owner.ensures))

@@ -15,6 +15,14 @@ loop-index-preserved c =
     let at = c.loop-index.index in
     let told = c.is_there.ensures ∙ ap (λ (k : Capability). is_there (view_contents c.args.view k)) c.cap_at.ensures in
     elim c.if-is_there.branch [
-      | then-is_there w ↦ record { so = w.there-is ∙ count_one places at c.loop-index.there (sym told ∙ w.if-is_there.true) c.loop-index.invariant.so; few = omega arith }
-      | else-is_there w ↦ record { so = w.there-is ∙ count_no places at c.loop-index.there (sym told ∙ w.if-is_there.false) c.loop-index.invariant.so; few = omega arith }
+      | then-is_there w ↦ record {
+        so = w.there-is ∙ count_one places at c.loop-index.there (sym told ∙ w.if-is_there.true) c.loop-index.invariant.so;
+        few =
+            omega arith;
+      }
+      | else-is_there w ↦ record {
+        so = w.there-is ∙ count_no places at c.loop-index.there (sym told ∙ w.if-is_there.false) c.loop-index.invariant.so;
+        few =
+            omega arith;
+      }
     ]

@@ -12,7 +12,8 @@ held_in-requires c =
     let text = c.args.document.now in
     let at = c.args.at in
     let found = ap (λ (blocks : List (List ℕ)). compiled blocks at) (sym c.database.ensures) ∙ sym c.in-Some.ensures in
-    let f = found_entry c.each_is_well_read.ensures c.images_are_read.ensures (held text) (c.held_blocks_fit.ensures text).1 (cause_told text at) at c.requires c.in-Some.bytes.now found in
+    let f = found_entry c.each_is_well_read.ensures c.images_are_read.ensures (held text) (c.held_blocks_fit.ensures text).1
+    (cause_told text at) at c.requires c.in-Some.bytes.now found in
     (f.names, f.contents, f.reads)
 
 pub returns-in-Some : goal.returns-in-Some
@@ -20,7 +21,8 @@ returns-in-Some c =
     let text = c.args.document.now in
     let at = c.args.at in
     let found = ap (λ (blocks : List (List ℕ)). compiled blocks at) (sym c.database.ensures) ∙ sym c.in-Some.ensures in
-    let f = found_entry c.each_is_well_read.ensures c.images_are_read.ensures (held text) (c.held_blocks_fit.ensures text).1 (cause_told text at) at c.requires c.in-Some.bytes.now found in
+    let f = found_entry c.each_is_well_read.ensures c.images_are_read.ensures (held text) (c.held_blocks_fit.ensures text).1
+    (cause_told text at) at c.requires c.in-Some.bytes.now found in
     ap (λ (h : Holding). entry_held h) (c.held_in.ensures f.names f.contents f.reads) ∙ f.held
 
 pub returns-in_ok-cause_told-in-None : goal.returns-in_ok-cause_told-in-None

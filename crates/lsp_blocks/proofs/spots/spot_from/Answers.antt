@@ -8,7 +8,8 @@ use Rattle.lsp_blocks.proofs.spots.spot_from.Goals as goal
 
 pub returns-then-place-start-clause-spot : goal.returns-then-place-start-clause-spot
 returns-then-place-start-clause-spot c =
-    spot_before c.args.database.now c.loop-at.at c.loop-at.start c.args.place (spot_from 0 c.args.first c.args.place c.args.database.now) (omega arith) c.if-place-start.true c.loop-at.invariant.so
+    spot_before c.args.database.now c.loop-at.at c.loop-at.start c.args.place (spot_from 0 c.args.first c.args.place c.args.database.now)
+    (omega arith) c.if-place-start.true c.loop-at.invariant.so
 
 pub overflow_add-next : goal.overflow_add-next
 overflow_add-next c =
@@ -24,7 +25,8 @@ returns-then-place-next-clause-spot c =
     let is = text_is blocks at c.text-block.result.now c.text-block.ensures in
     let lines : c.count_lines.result ≡ line_count (text_at blocks at) = c.count_lines.ensures.lines ∙ ap line_count (sym is) in
     let offset = c.offset_in-offset.ensures ∙ ap (λ (t : List ℕ). offset_in c.loop-at.start t c.args.place) (sym is) in
-    spot_here blocks at c.loop-at.start c.offset_in-offset.result c.args.place (spot_from 0 c.args.first c.args.place blocks) (omega arith) c.if-place-start.false
+    spot_here blocks at c.loop-at.start c.offset_in-offset.result c.args.place (spot_from 0 c.args.first c.args.place blocks)
+    (omega arith) c.if-place-start.false
     (omega (arith, lines, c.if-place-next.true)) offset c.loop-at.invariant.so
 
 pub returns-then-place-next-clause-room : goal.returns-then-place-next-clause-room

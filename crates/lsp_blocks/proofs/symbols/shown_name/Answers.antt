@@ -16,7 +16,8 @@ returns-in-Some c =
     let shown = ap shown_detail c.as_slice.ensures.value ∙ sym (first_shown c.names.result.now c.in-Some.name.now field c.in-Some.ensures.value)
     ∙ ap (λ (names : List (List ℕ)). spec.shown_name names field) (sym read) in
     IfOk-weaker c.shown_detail.result (λ name. string_bytes name ≡ shown_detail c.as_slice.result.now)
-    (λ name. string_bytes name ≡ spec.shown_name (reading_of_text (text_at c.args.database.now c.args.at)).names field) (λ name e. e ∙ shown) c.shown_detail.ensures
+    (λ name. string_bytes name ≡ spec.shown_name (reading_of_text (text_at c.args.database.now c.args.at)).names field)
+    (λ name e. e ∙ shown) c.shown_detail.ensures
 
 pub returns-in-None : goal.returns-in-None
 returns-in-None c =
@@ -24,4 +25,5 @@ returns-in-None c =
     let read = names_read c.args.database.now c.args.at (map rc_slice_items c.names.result.now) c.requires c.names.ensures in
     let shown = sym (field_shown c.names.result.now field c.in-None.ensures.value) ∙ ap (λ (names : List (List ℕ)). spec.shown_name names field) (sym read) in
     IfOk-weaker c.shown_detail-in-None.result (λ name. string_bytes name ≡ shown_detail field)
-    (λ name. string_bytes name ≡ spec.shown_name (reading_of_text (text_at c.args.database.now c.args.at)).names field) (λ name e. e ∙ shown) c.shown_detail-in-None.ensures
+    (λ name. string_bytes name ≡ spec.shown_name (reading_of_text (text_at c.args.database.now c.args.at)).names field)
+    (λ name e. e ∙ shown) c.shown_detail-in-None.ensures

@@ -6,5 +6,6 @@ use Rattle.lsp_document.proofs.document.texts_of.Goals as goal
 
 pub returns : goal.returns
 returns c =
-    sym (append-nil (map text_of c.loop-text.texts.items)) ∙ ap (λ (rest : List (List ℕ)). map text_of c.loop-text.texts.items ++ rest) (sym c.in_default.ensures.steps.0.0) ∙ c.loop-text.invariant
+    sym (append-nil (map text_of c.loop-text.texts.items)) ∙ ap (λ (rest : List (List ℕ)). map text_of c.loop-text.texts.items ++ rest)
+    (sym c.in_default.ensures.steps.0.0) ∙ c.loop-text.invariant
     ∙ sym (texts_of-ended c.args.ended.now c.requires)

@@ -17,7 +17,13 @@ returns-in_ok-remove_each-clause-made c =
     let put = length c.args.texts.now - c.args.front - c.args.back in
     let out = c.len.result - c.args.front - c.args.back in
     let p : Parts c.args.database.now c.args.texts.now c.args.front c.args.back put out =
-    record { at_front = c.requires.at_front; at_back = c.requires.at_back; put_is = refl; out_is = ap (λ (n : ℕ). n - c.args.front - c.args.back) c.len.ensures } in
+    record {
+      at_front = c.requires.at_front;
+      at_back = c.requires.at_back;
+      put_is = refl;
+      out_is =
+          ap (λ (n : ℕ). n - c.args.front - c.args.back) c.len.ensures;
+    } in
     let less : put ≤ out = omega arith in
     shorter_made c.args.database.now c.replace_each.new.database c.remove_each.new.database c.args.texts.now c.args.front c.args.back put out p less
     c.in_ok-replace_each.ensures.made c.in_ok-remove_each.ensures.made
@@ -27,7 +33,13 @@ returns-in_ok-remove_each-clause-lead c =
     let put = length c.args.texts.now - c.args.front - c.args.back in
     let out = c.len.result - c.args.front - c.args.back in
     let p : Parts c.args.database.now c.args.texts.now c.args.front c.args.back put out =
-    record { at_front = c.requires.at_front; at_back = c.requires.at_back; put_is = refl; out_is = ap (λ (n : ℕ). n - c.args.front - c.args.back) c.len.ensures } in
+    record {
+      at_front = c.requires.at_front;
+      at_back = c.requires.at_back;
+      put_is = refl;
+      out_is =
+          ap (λ (n : ℕ). n - c.args.front - c.args.back) c.len.ensures;
+    } in
     let less : put ≤ out = omega arith in
     leads_on c.args.database.now c.replace_each.new.database c.remove_each.new.database c.args.texts.now c.args.front put out
     (put_within c.args.database.now c.args.texts.now c.args.front c.args.back put out p) less c.in_ok-replace_each.ensures.lead c.in_ok-remove_each.ensures.lead
@@ -37,7 +49,13 @@ returns-in_ok-insert_each-clause-made c =
     let put = length c.args.texts.now - c.args.front - c.args.back in
     let out = c.len.result - c.args.front - c.args.back in
     let p : Parts c.args.database.now c.args.texts.now c.args.front c.args.back put out =
-    record { at_front = c.requires.at_front; at_back = c.requires.at_back; put_is = refl; out_is = ap (λ (n : ℕ). n - c.args.front - c.args.back) c.len.ensures } in
+    record {
+      at_front = c.requires.at_front;
+      at_back = c.requires.at_back;
+      put_is = refl;
+      out_is =
+          ap (λ (n : ℕ). n - c.args.front - c.args.back) c.len.ensures;
+    } in
     let less : out ≤ put = omega arith in
     longer_made c.args.database.now c.replace_each-else-out-put.new.database c.insert_each.new.database c.args.texts.now c.args.front c.args.back put out p less
     c.in_ok-replace_each-2.ensures.made c.in_ok-insert_each.ensures.made
@@ -47,7 +65,14 @@ returns-in_ok-insert_each-clause-lead c =
     let put = length c.args.texts.now - c.args.front - c.args.back in
     let out = c.len.result - c.args.front - c.args.back in
     let p : Parts c.args.database.now c.args.texts.now c.args.front c.args.back put out =
-    record { at_front = c.requires.at_front; at_back = c.requires.at_back; put_is = refl; out_is = ap (λ (n : ℕ). n - c.args.front - c.args.back) c.len.ensures } in
+    record {
+      at_front = c.requires.at_front;
+      at_back = c.requires.at_back;
+      put_is = refl;
+      out_is =
+          ap (λ (n : ℕ). n - c.args.front - c.args.back) c.len.ensures;
+    } in
     let less : out ≤ put = omega arith in
     leads_further c.args.database.now c.replace_each-else-out-put.new.database c.insert_each.new.database c.args.texts.now c.args.front out put
-    (put_within c.args.database.now c.args.texts.now c.args.front c.args.back put out p) less c.in_ok-replace_each-2.ensures.lead c.in_ok-insert_each.ensures.lead
+    (put_within c.args.database.now c.args.texts.now c.args.front c.args.back put out p) less c.in_ok-replace_each-2.ensures.lead
+    c.in_ok-insert_each.ensures.lead

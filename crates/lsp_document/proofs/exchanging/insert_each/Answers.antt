@@ -7,7 +7,8 @@ use Rattle.lsp_document.proofs.exchanging.insert_each.Goals as goal
 
 pub loop-k-preserved : goal.loop-k-preserved
 loop-k-preserved c = record {
-  made = insert_next c.args.database.now c.loop-k.database c.insert.new.self c.args.texts.now c.args.at c.loop-k.k _ (omega arith) (omega arith) c.loop-k.invariant.made c.in_ok-insert.ensures.step.1;
+  made = insert_next c.args.database.now c.loop-k.database c.insert.new.self c.args.texts.now c.args.at c.loop-k.k _ (omega arith)
+      (omega arith) c.loop-k.invariant.made c.in_ok-insert.ensures.step.1;
   lead = lead_more c.loop-k.k c.args.database.now c.loop-k.database c.insert.new.self _ c.loop-k.invariant.lead c.in_ok-insert.ensures.step;
 }
 
@@ -17,4 +18,5 @@ returns-in_err-insert-clause-refused c =
     let len : length c.loop-k.database ≡ length c.args.database.now + c.loop-k.k =
     length_inserting c.args.database.now c.loop-k.database c.args.texts.now c.args.at c.loop-k.k (omega arith) (omega arith) c.loop-k.invariant.made in
     rw (p.1, p.2) (memory_alone c.loop-k.database _ _ c.insert.new.self c.in_err-insert.ensures.step
-    (insertion_sound c.loop-k.database c.args.texts.now (c.args.at + c.loop-k.k) c.loop-k.k _ (omega arith) (omega (arith, len)) (omega (arith, len)) c.requires.short))
+    (insertion_sound c.loop-k.database c.args.texts.now (c.args.at + c.loop-k.k) c.loop-k.k _ (omega arith) (omega (arith, len))
+    (omega (arith, len)) c.requires.short))

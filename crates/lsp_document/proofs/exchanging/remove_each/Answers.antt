@@ -7,7 +7,8 @@ use Rattle.lsp_document.proofs.exchanging.remove_each.Goals as goal
 
 pub loop-k-preserved : goal.loop-k-preserved
 loop-k-preserved c = record {
-  made = c.in_ok-remove.ensures.step.1 ∙ ap (λ (b : List (List ℕ)). remove b c.args.at) c.loop-k.invariant.made ∙ removed c.args.database.now c.args.at c.loop-k._k (omega arith);
+  made = c.in_ok-remove.ensures.step.1 ∙ ap (λ (b : List (List ℕ)). remove b c.args.at) c.loop-k.invariant.made
+      ∙ removed c.args.database.now c.args.at c.loop-k._k (omega arith);
   lead = lead_more c.loop-k._k c.args.database.now c.loop-k.database c.remove.new.self _ c.loop-k.invariant.lead c.in_ok-remove.ensures.step;
 }
 

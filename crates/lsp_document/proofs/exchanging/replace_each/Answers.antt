@@ -7,7 +7,8 @@ use Rattle.lsp_document.proofs.exchanging.replace_each.Goals as goal
 
 pub loop-k-preserved : goal.loop-k-preserved
 loop-k-preserved c = record {
-  made = replace_next c.args.database.now c.loop-k.database c.replace.new.self c.args.texts.now c.args.at c.loop-k.k _ (omega arith) (omega arith) c.loop-k.invariant.made c.in_ok-replace.ensures.step.1;
+  made = replace_next c.args.database.now c.loop-k.database c.replace.new.self c.args.texts.now c.args.at c.loop-k.k _ (omega arith)
+      (omega arith) c.loop-k.invariant.made c.in_ok-replace.ensures.step.1;
   lead = lead_more c.loop-k.k c.args.database.now c.loop-k.database c.replace.new.self _ c.loop-k.invariant.lead c.in_ok-replace.ensures.step;
 }
 

@@ -13,7 +13,8 @@ loop-at-preserved c =
     let right = min-le_right c.args.offset (length text) in
     let before : i < c.args.offset = omega (arith, left) in
     let within : i < length text = omega (arith, right) in
-    let step = ap (λ place. place_after place (drop (i + 1) text) (c.args.offset - (i + 1))) (c.step_over-place.ensures.next ∙ ap (λ t. step_over t c.loop-at.place) (take_rest text i)) in
+    let step = ap (λ place. place_after place (drop (i + 1) text) (c.args.offset - (i + 1)))
+    (c.step_over-place.ensures.next ∙ ap (λ t. step_over t c.loop-at.place) (take_rest text i)) in
     record {
       leads = step ∙ sym (place_next text c.loop-at.place i c.args.offset within before) ∙ c.loop-at.invariant.leads;
       line = c.step_over-place.ensures.line;

@@ -9,4 +9,5 @@ use Rattle.lsp_features.proofs.completions.push_names.Given as goal
 abbrev pub invariant-loop-name : goal.invariant-loop-name
 invariant-loop-name l = map string_bytes l.names.items
     ≡ map string_bytes l.fn.names.items
-    ++ map shown_detail (filter can_be_given (filter (λ (name : List ℕ). is_owner (readings l.database) name l.at) (map (λ name. rc_slice_items name.now) (take l.name-index l.name-items))))
+    ++ map shown_detail (filter can_be_given (filter (λ (name : List ℕ). is_owner (readings l.database) name l.at)
+    (map (λ name. rc_slice_items name.now) (take l.name-index l.name-items))))

@@ -10,4 +10,5 @@ use Rattle.lsp_features.proofs.meanings.spelled.Goals as goal
 pub unreachable-requires : goal.unreachable-requires
 unreachable-requires c =
     let items = c.in_ok-shown.ensures in
-    absurd (false≢true (c.in-Err.ensures.succeeds (subst IsUtf8 (sym items) (IsUtf8-from_ascii (map printed c.deref.result.now) (ascii_printed c.deref.result.now)))))
+    absurd (false≢true (c.in-Err.ensures.succeeds
+    (subst IsUtf8 (sym items) (IsUtf8-from_ascii (map printed c.deref.result.now) (ascii_printed c.deref.result.now)))))

@@ -16,6 +16,7 @@ loop-at-preserved c =
     let lines = c.count_lines-line.ensures.lines ∙ ap line_count (sym is) in
     record {
       so = ap (λ (n : ℕ). c.push_sought.new.ranges.items ++ ranges_from blocks sought (at + 1) (c.loop-at.line + n) (drop (at + 1) blocks)) lines
-          ∙ ranges_next blocks sought c.loop-at.ranges.items c.push_sought.new.ranges.items c.loop-at.line at _ (omega arith) c.loop-at.invariant.so c.in_ok-push_sought.ensures;
+          ∙ ranges_next blocks sought c.loop-at.ranges.items c.push_sought.new.ranges.items c.loop-at.line at _
+          (omega arith) c.loop-at.invariant.so c.in_ok-push_sought.ensures;
       room = omega (arith, short, c.count_lines-line.ensures.within, ap length is);
     }

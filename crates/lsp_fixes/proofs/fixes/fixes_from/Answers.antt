@@ -3,7 +3,7 @@ use Rattle.std.proofs.lemmas.Result.{IfOk-weaker}
 use Rattle.lsp_blocks.proofs.Outlines.{text_is}
 use Rattle.lsp_fixes.specs.Edits.{edit_seen}
 use Rattle.lsp_fixes.specs.Fixes as spec
-use Rattle.lsp_fixes.specs.Fixes.{edits_in, fix_of, fix_seen}
+use Rattle.lsp_fixes.specs.Fixes.{edits_in, fix_seen, fixes_in}
 use Rattle.lsp_fixes.proofs.Ranging.{fixes_held}
 use Rattle.lsp_fixes.proofs.fixes.fixes_from.Goals as goal
 
@@ -13,7 +13,7 @@ returns c =
     let block = c.text-block.result.now in
     let line = c.args.spot.line in
     let edits = c.in_ok-edits.edits.items in
-    IfOk-weaker c.fixes_of_edits.result (λ fixes. map fix_seen fixes.items ≡ map (λ edit. fix_of line block (edit_seen edit)) edits)
+    IfOk-weaker c.fixes_of_edits.result (λ fixes. map fix_seen fixes.items ≡ fixes_in line block (map edit_seen edits))
     (λ fixes. map fix_seen fixes.items ≡ spec.fixes_from blocks c.args.end c.args.spot)
     (λ fixes e. fixes_held blocks c.args.end c.args.spot block edits (map fix_seen fixes.items) (text_is blocks c.args.spot.at block c.text-block.ensures)
     (c.in_ok-edits.ensures ∙ ap (edits_in blocks) c.stretch_to.ensures) e)

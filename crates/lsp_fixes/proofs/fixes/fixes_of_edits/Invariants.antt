@@ -1,7 +1,7 @@
 use Rattle.std.proofs.Common.{◌≡◌, map}
 use Rattle.lsp_fixes.specs.Edits.{edit_seen}
-use Rattle.lsp_fixes.specs.Fixes.{fix_of, fix_seen}
+use Rattle.lsp_fixes.specs.Fixes.{fix_seen, fixes_in}
 use Rattle.lsp_fixes.proofs.fixes.fixes_of_edits.Given as goal
 
 abbrev pub invariant-loop-edit : goal.invariant-loop-edit
-invariant-loop-edit l = map fix_seen l.fixes.items ≡ map (λ edit. fix_of l.line l.block (edit_seen edit)) l.yielded
+invariant-loop-edit l = map fix_seen l.fixes.items ≡ fixes_in l.line l.block (map edit_seen l.yielded)

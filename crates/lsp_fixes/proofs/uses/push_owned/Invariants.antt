@@ -5,4 +5,5 @@ use Rattle.lsp_fixes.proofs.uses.push_owned.Given as goal
 
 abbrev pub invariant-loop-name : goal.invariant-loop-name
 invariant-loop-name l = map (λ name. name.now) l.names.items
-    ≡ map (λ name. name.now) l.fn.names.items ++ filter (λ (name : List ℕ). is_owner (readings l.database) name l.at) (map (λ name. rc_slice_items name.now) (take l.name-index l.name-items))
+    ≡ map (λ name. name.now) l.fn.names.items ++ filter (λ (name : List ℕ). is_owner (readings l.database) name l.at)
+    (map (λ name. rc_slice_items name.now) (take l.name-index l.name-items))

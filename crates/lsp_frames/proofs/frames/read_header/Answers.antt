@@ -2,7 +2,8 @@ use Rattle.std.proofs.Common.{◌≡◌, ◌≢◌, length, option_map, refl, ar
 use Rattle.std.proofs.lemmas.Grind.{common_steps}
 use Rattle.std.proofs.lemmas.Result.{IfErr-weaker, IfOk-weaker, err_from_is_err_and}
 use Rattle.tools_devices.specs.Counted.{observation}
-use Rattle.lsp_frames.proofs.HeaderLines.{HeaderSoFar-more, HeaderSoFar-none, IsHeader-ended, ReadingStops-ended, ReadingStops-full, ReadingStops-in_line, ReadingStops-line}
+use Rattle.lsp_frames.proofs.HeaderLines.{HeaderSoFar-more, HeaderSoFar-none, IsHeader-ended, ReadingStops-ended, ReadingStops-full, ReadingStops-in_line}
+use Rattle.lsp_frames.proofs.HeaderLines.{ReadingStops-line}
 use Rattle.lsp_frames.specs.declared.frames.FrameError.TheVariants.{Memory}
 use Rattle.lsp_frames.proofs.frames.read_header.Goals as goal
 
@@ -19,7 +20,8 @@ returns-then-is_empty-clause-read g c =
     let empty : length c.in_ok-line.line.items ≡ 0 = grind (arith, common_steps) in
     IfOk-weaker c.announced.result _ _
     (λ len h.
-    IsHeader-ended _ _ _ _ _ c.loop-room.invariant c.in_ok-line.line.items c.in_ok-line.ensures.read c.in_ok-line.ensures.line c.in_ok-line.ensures.short len empty h)
+    IsHeader-ended _ _ _ _ _ c.loop-room.invariant c.in_ok-line.line.items c.in_ok-line.ensures.read c.in_ok-line.ensures.line c.in_ok-line.ensures.short
+    len empty h)
     c.announced.ensures.number
 
 pub returns-then-is_empty-clause-stops : goal.returns-then-is_empty-clause-stops
@@ -42,7 +44,8 @@ pub loop-room-preserved : goal.loop-room-preserved
 loop-room-preserved g c =
     let some : length c.in_ok-line.line.items ≢ 0 = grind (arith, common_steps) in
     HeaderSoFar-more _ _ _ _ _ c.loop-room.invariant c.in_ok-line.line.items c.in_ok-line.ensures.read c.in_ok-line.ensures.line c.in_ok-line.ensures.short
-    (option_map (λ v. v.items) c.in_ok-value.value) c.deref.result.now c.len.result some c.deref.ensures.value (grind (arith, common_steps)) c.in_ok-value.ensures
+    (option_map (λ v. v.items) c.in_ok-value.value) c.deref.result.now c.len.result some c.deref.ensures.value
+    (grind (arith, common_steps)) c.in_ok-value.ensures
 
 pub returns-clause-stops : goal.returns-clause-stops
 returns-clause-stops g c = ReadingStops-full _ _ _ _ c.loop-room.invariant (omega arith)

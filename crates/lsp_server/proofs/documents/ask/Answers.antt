@@ -12,7 +12,8 @@ pub returns-in_ok-reply-in-Some : goal.returns-in_ok-reply-in-Some
 returns-in_ok-reply-in-Some g c =
     let f = open_view g.D.HeldText.text_of in
     let document = c.index-documents-at.result in
-    let is : f document ≡ get_or (documents_view g.D.HeldText.text_of c.args.documents.now) c.in-Some.at (f document) = ap f c.index-documents-at.is ∙ sym (get_or-map f c.args.documents.now c.in-Some.at document) in
+    let is : f document ≡ get_or (documents_view g.D.HeldText.text_of c.args.documents.now) c.in-Some.at (f document) =
+    ap f c.index-documents-at.is ∙ sym (get_or-map f c.args.documents.now c.in-Some.at document) in
     let found = open_found (documents_view g.D.HeldText.text_of c.args.documents.now) c.args.uri.now c.in-Some.at c.in-Some.ensures.place (f document) is in
     let answered = rw c.as_str.ensures.value at c.in_ok-reply-in-Some.ensures in
     rw found (ap (λ (d : Said). Some d) answered)

@@ -11,7 +11,8 @@ use Rattle.lsp_server.proofs.documents.change.Goals as goal
 pub returns-in-None : goal.returns-in-None
 returns-in-None g c =
     let place = rw c.deref.ensures.value at c.in-None.ensures.place in
-    let h = change_none (with_edits g.D.HeldText.place_in c.args.version (map edit_view c.args.changes.now)) (documents_view g.D.HeldText.text_of c.args.documents.now.items) c.args.uri.now place in
+    let h = change_none (with_edits g.D.HeldText.place_in c.args.version (map edit_view c.args.changes.now))
+    (documents_view g.D.HeldText.text_of c.args.documents.now.items) c.args.uri.now place in
     (sym h.0, rw h.1 refl)
 
 pub returns-in_ok-shown-in-Some : goal.returns-in_ok-shown-in-Some

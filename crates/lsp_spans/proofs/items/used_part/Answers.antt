@@ -8,4 +8,5 @@ use Rattle.lsp_spans.proofs.items.used_part.Goals as goal
 pub returns-clause-name : goal.returns-clause-name
 returns-clause-name c =
     let begins = sym c.begins_with.ensures.begins ∙ c.if-not-begins_with.false in
-    ap (λ (t : List PlacedByte). Some t) (c.without_end.ensures.part ∙ ap without_end c.value_part.ensures.part) ∙ sym (used_is (part_of c.args.text.now c.args.item) begins)
+    ap (λ (t : List PlacedByte). Some t) (c.without_end.ensures.part ∙ ap without_end c.value_part.ensures.part)
+    ∙ sym (used_is (part_of c.args.text.now c.args.item) begins)

@@ -9,4 +9,5 @@ without_front-requires c =
     (omega (arith, long), c.requires.within.1)
 
 pub returns-clause-part : goal.returns-clause-part
-returns-clause-part c = c.without_front.ensures.part ∙ ap without_front (value_is c.args.text.now c.args.item (use_long c.args.text.now c.args.item c.requires.begins))
+returns-clause-part c =
+    c.without_front.ensures.part ∙ ap without_front (value_is c.args.text.now c.args.item (use_long c.args.text.now c.args.item c.requires.begins))

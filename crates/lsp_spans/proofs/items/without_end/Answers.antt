@@ -17,7 +17,8 @@ loop-at-preserved c =
         within = omega arith;
       }
       | else-not-is_white_space w ↦ record {
-        so = end_next_white text start at c.loop-at.end (0, 0) (omega arith) (omega arith) (sym c.is_white_space.ensures ∙ w.if-not-is_white_space.false) c.loop-at.invariant.so
+        so = end_next_white text start at c.loop-at.end (0, 0) (omega arith) (omega arith) (sym c.is_white_space.ensures ∙ w.if-not-is_white_space.false)
+            c.loop-at.invariant.so
             ∙ ap (λ (n : ℕ). slice_range text start n) (sym w.end-is);
         order = omega arith;
         within = omega arith;

@@ -55,4 +55,5 @@ returns-clause-computed c =
     let l = c.loop-at in
     let all : l.at ≡ length text = (let within = l.invariant.within in omega arith) in
     ap (map (part_of text)) c.in_ok-push-2.ensures.items
-    ∙ items_are 44 (drop c.args.from text) (map (part_of text) (l.parts.items ++ record { start = l.start; end = length text } ∷ [])) (parts_last text c.args.from l.parts.items l.start l.at l.before all l.invariant.so)
+    ∙ items_are 44 (drop c.args.from text) (map (part_of text) (l.parts.items ++ record { start = l.start; end = length text } ∷ []))
+    (parts_last text c.args.from l.parts.items l.start l.at l.before all l.invariant.so)

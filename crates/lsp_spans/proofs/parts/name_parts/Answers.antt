@@ -29,7 +29,8 @@ loop-at-preserved c =
     let l = c.loop-at in
     let order = l.invariant.order in
     record {
-      so = names_go_on text c.args.len l.parts.items l.start l.at (0, 0) order (omega arith) (omega arith) (ne_eqb (get_or text l.at (0, 0)).0 124 c.if-text-at-eq124.false) l.invariant.so;
+      so = names_go_on text c.args.len l.parts.items l.start l.at (0, 0) order (omega arith) (omega arith)
+          (ne_eqb (get_or text l.at (0, 0)).0 124 c.if-text-at-eq124.false) l.invariant.so;
       order = omega (arith, order);
       within = omega arith;
       parts = l.invariant.parts;
@@ -48,4 +49,5 @@ returns-clause-names c =
     let l = c.loop-at in
     let all : l.at ≡ c.args.len = (let within = l.invariant.within in omega arith) in
     subst (λ (parts : List Part). PartsOf (bytes (take c.args.len text)) (map (text_of text) parts)) (sym c.in_ok-push-2.ensures.items)
-    (parts_named text c.args.len (l.parts.items ++ record { start = l.start; end = c.args.len } ∷ []) (names_last text c.args.len l.parts.items l.start l.at all l.invariant.so))
+    (parts_named text c.args.len (l.parts.items ++ record { start = l.start; end = c.args.len } ∷ [])
+    (names_last text c.args.len l.parts.items l.start l.at all l.invariant.so))

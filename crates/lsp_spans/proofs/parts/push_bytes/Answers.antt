@@ -20,4 +20,5 @@ loop-at-preserved c =
     let at = c.loop-at.at in
     let x = get_or text at (0, 0) in
     c.in_ok-push.ensures.items ∙ ap (λ (t : List ℕ). t ++ x.0 ∷ []) c.loop-at.invariant
-    ∙ append_assoc old (bytes (slice_range text start at)) (x.0 ∷ []) ∙ ap (λ (t : List ℕ). old ++ t) (sym (bytes_more text start at (0, 0) (omega arith) (omega arith)))
+    ∙ append_assoc old (bytes (slice_range text start at)) (x.0 ∷ [])
+    ∙ ap (λ (t : List ℕ). old ++ t) (sym (bytes_more text start at (0, 0) (omega arith) (omega arith)))

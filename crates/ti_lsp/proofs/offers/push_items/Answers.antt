@@ -26,4 +26,5 @@ pub returns : goal.returns
 returns c =
     let caps = in_name_order c.args.kind in
     let all : length caps ≤ c.loop-place.place = omega (arith, length-in_name_order c.args.kind, c.loop-place-test.false, c.count-place-end.ensures.value) in
-    c.loop-place.invariant ∙ ap (λ (l : List Capability). map view c.args.items.now.items ++ map (capability_item c.args.range) l) (take_all c.loop-place.place caps all)
+    c.loop-place.invariant ∙ ap (λ (l : List Capability). map view c.args.items.now.items ++ map (capability_item c.args.range) l)
+    (take_all c.loop-place.place caps all)
