@@ -1,5 +1,6 @@
 -- The step of a path search that closes a component: the nodes from its start on leave the path.
-use Rattle.std.proofs.Common.{◌≡◌, ℕ, suc, ◌+◌, ◌-◌, ◌<◌, ◌≤◌, ◌⊎◌, inl, inr, List, ◌++◌, length, take, drop, Option, Some, slice_get, sym, ◌∙◌, arith, length-append, length-drop, length-take}
+use Rattle.std.proofs.Common.{◌≡◌, ℕ, suc, ◌+◌, ◌-◌, ◌<◌, ◌≤◌, ◌⊎◌, inl, inr, List, ◌++◌, length, take, drop, Option, Some, slice_get, sym, ◌∙◌, arith}
+use Rattle.std.proofs.Common.{length-append, length-drop, length-take}
 use Rattle.std.proofs.lemmas.Bool.{cases_lt, cases_eq}
 use Rattle.std.proofs.lemmas.Option.{slice_get_within}
 use Rattle.base_components.specs.Graph.{Rows, HasEdge}
@@ -22,7 +23,8 @@ pub record IsDone (g : Rows) (progress : List Progress) (cursors path starts act
   pub start_last : slice_get starts last ≡ Some k
   pub gone : (v i : ℕ) (row : List (Option ℕ)) → slice_get path k ≡ Some v → slice_get cursors v ≡ Some i → slice_get g v ≡ Some row → length row ≤ i
 
-module _ (g : Rows) (p q : List Progress) (cursors path starts active order : List ℕ) (top last k : ℕ) (h : IsDone g p cursors path starts active order top last k) (m : IsMarked p q (drop k path) (length order)) where
+module _ (g : Rows) (p q : List Progress) (cursors path starts active order : List ℕ) (top last k : ℕ)
+    (h : IsDone g p cursors path starts active order top last k) (m : IsMarked p q (drop k path) (length order)) where
   within_path : k < length path
   within_path = h.walk.going.within k (top, h.active_last)
 
@@ -55,7 +57,8 @@ module _ (g : Rows) (p q : List Progress) (cursors path starts active order : Li
   was : (v c : ℕ) → slice_get q v ≡ Some (Closed c) → (slice_get p v ≡ Some (Closed c)) ⊎ ((j : ℕ) × (k ≤ j) × (slice_get path j ≡ Some v) × (c ≡ length order))
   was v c e =
       let x = item_at p v (omega (arith, slice_get_within q v (Closed c) e, m.as_many)) in from x.0 x.1 where
-        from : (x : Progress) → slice_get p v ≡ Some x → (slice_get p v ≡ Some (Closed c)) ⊎ ((j : ℕ) × (k ≤ j) × (slice_get path j ≡ Some v) × (c ≡ length order))
+        from : (x : Progress) → slice_get p v ≡ Some x → (slice_get p v ≡ Some (Closed c))
+            ⊎ ((j : ℕ) × (k ≤ j) × (slice_get path j ≡ Some v) × (c ≡ length order))
         from Unseen f =
             let same = kept v (λ j l a. unseen_on_path (slice_get p v) j f (h.walk.going.stands j v a)) in
             absurd (unseen_closed (slice_get q v) c (same ∙ f) e)
@@ -215,7 +218,8 @@ module _ (g : Rows) (p q : List Progress) (cursors path starts active order : Li
             | inl old ↦ let t = o.closed j u old in
                 absurd (on_path_closed (slice_get p u) (k + new.0) t.0 (w.stands (k + new.0) u (drop_get k path new.0 u new.2)) t.1)
             | inr also ↦
-                let one = same_place (slice_get p u) (k + new.0) (k + also.0) (w.stands (k + new.0) u (drop_get k path new.0 u new.2)) (w.stands (k + also.0) u (drop_get k path also.0 u also.2)) in
+                let one = same_place (slice_get p u) (k + new.0) (k + also.0) (w.stands (k + new.0) u (drop_get k path new.0 u new.2))
+                (w.stands (k + also.0) u (drop_get k path also.0 u also.2)) in
                 let a = new.1 in let b = also.1 in omega arith
           ]
         ];

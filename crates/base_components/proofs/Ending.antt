@@ -16,7 +16,8 @@ use Rattle.base_components.proofs.Searching.{no_path}
 
 -- ---- numbers
 
-pub numbers_more : (p : List Progress) (numbers : List ℕ) (i number : ℕ) → AreClosedNumbers (take i p) numbers → slice_get p i ≡ Some (Closed number) → AreClosedNumbers (take (i + 1) p) (numbers ++ number ∷ [])
+pub numbers_more : (p : List Progress) (numbers : List ℕ) (i number : ℕ) → AreClosedNumbers (take i p) numbers → slice_get p i ≡ Some (Closed number)
+    → AreClosedNumbers (take (i + 1) p) (numbers ++ number ∷ [])
 numbers_more p numbers i number h e =
     let l = slice_get_within p i (Closed number) e in
     rw (take_more p i (Closed number) l, get_or_from_slice_get p i (Closed number) (Closed number) e) (record {
@@ -41,7 +42,8 @@ closed_all g s h v l = let x = item_at s.progress.items v (omega (arith, h.idle.
   from (Closed c) e = (c, e)
 
 -- along a walk no number rises
-falls_along : (g : Rows) (p : List Progress) (n : ℕ) → AreGroups g p n → (way : List ℕ) (u w c d : ℕ) → IsWay g u way w → slice_get p u ≡ Some (Closed c) → slice_get p w ≡ Some (Closed d) → d ≤ c
+falls_along : (g : Rows) (p : List Progress) (n : ℕ) → AreGroups g p n → (way : List ℕ) (u w c d : ℕ) → IsWay g u way w → slice_get p u ≡ Some (Closed c)
+    → slice_get p w ≡ Some (Closed d) → d ≤ c
 falls_along g p n h [] u w c d same e f =
     let one = same_number (slice_get p w) c d (ap (slice_get p) (sym same) ∙ e) f in omega arith
 falls_along g p n h (x ∷ way) u w c d walk e f =

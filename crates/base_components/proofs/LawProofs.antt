@@ -13,7 +13,8 @@ shared_numbers g cs u w c d h e f edge =
     let same = h.same u w c d e f in
     ((λ one. (same.0 one).1), λ back. same.1 (leads_edge g u w edge, back))
 
-falling : (g : Rows) (cs : List ℕ) → IsGraph g → AreComponents g cs → (way : List ℕ) (u w c d : ℕ) → IsWay g u way w → slice_get cs u ≡ Some c → slice_get cs w ≡ Some d → d ≤ c
+falling : (g : Rows) (cs : List ℕ) → IsGraph g → AreComponents g cs → (way : List ℕ) (u w c d : ℕ) → IsWay g u way w → slice_get cs u ≡ Some c
+    → slice_get cs w ≡ Some d → d ≤ c
 falling g cs whole h [] u w c d same e f =
     let one : c ≡ d = same_Some c d (sym e ∙ (ap (slice_get cs) same ∙ f)) in omega arith
 falling g cs whole h (x ∷ way) u w c d walk e f =

@@ -1,5 +1,6 @@
 -- The rows of a graph that is kept as one list of edges and the places where the rows start.
-use Rattle.std.proofs.Common.{◌≡◌, ℕ, zero, suc, ◌+◌, ◌-◌, ◌≤◌, ◌⊎◌, inl, inr, List, [], ◌∷◌, ◌++◌, length, take, drop, Option, Some, slice_get, refl, sym, ap, arith, length-drop, length-append, length-take, get_or, sum_by, false, ◌==◌, ◌∙◌}
+use Rattle.std.proofs.Common.{◌≡◌, ℕ, zero, suc, ◌+◌, ◌-◌, ◌≤◌, ◌⊎◌, inl, inr, List, [], ◌∷◌, ◌++◌, length, take, drop, Option, Some, slice_get, refl, sym}
+use Rattle.std.proofs.Common.{ap, arith, length-drop, length-append, length-take, get_or, sum_by, false, ◌==◌, ◌∙◌}
 use Rattle.std.proofs.lemmas.List.{drop_all, take_rest, drop-append-le, take-append-le}
 use Rattle.std.proofs.lemmas.List.Sums.{sum_by-cons}
 use Rattle.std.proofs.lemmas.Bool.{false≢true}
@@ -13,7 +14,8 @@ length-rows_of targets (s ∷ starts) = ap suc (length-rows_of targets starts)
 
 -- ---- one more node
 
-pub rows_of-push_start : (targets : List (Option ℕ)) (starts : List ℕ) → AreStarts targets starts → rows_of targets (starts ++ length targets ∷ []) ≡ rows_of targets starts ++ [] ∷ []
+pub rows_of-push_start : (targets : List (Option ℕ)) (starts : List ℕ) → AreStarts targets starts
+    → rows_of targets (starts ++ length targets ∷ []) ≡ rows_of targets starts ++ [] ∷ []
 rows_of-push_start targets [] h = rw (drop_all (length targets) targets (omega arith)) refl
 rows_of-push_start targets (s ∷ []) h = rw (take_rest targets s, drop_all (length targets) targets (omega arith)) refl
 rows_of-push_start targets (s ∷ (next ∷ starts)) h =
@@ -39,7 +41,8 @@ no_rows : (before : Rows) (row : List (Option ℕ)) → [] ≡ before ++ row ∷
 no_rows [] row e = cc
 no_rows (b ∷ before) row e = cc
 
-pub rows_of-push_target : (targets : List (Option ℕ)) (t : Option ℕ) (starts : List ℕ) → AreStarts targets starts → AddsEdge (rows_of targets starts) (rows_of (targets ++ t ∷ []) starts) t
+pub rows_of-push_target : (targets : List (Option ℕ)) (t : Option ℕ) (starts : List ℕ) → AreStarts targets starts
+    → AddsEdge (rows_of targets starts) (rows_of (targets ++ t ∷ []) starts) t
 rows_of-push_target targets t [] h before row e = absurd (no_rows before row e)
 rows_of-push_target targets t (s ∷ []) h [] row e =
     let same : drop s targets ≡ row = cc in
@@ -53,7 +56,8 @@ rows_of-push_target targets t (s ∷ (next ∷ starts)) h (b ∷ before) row e =
     let first : take (next - s) (drop s targets) ≡ b = cc in
     let rest : rows_of targets (next ∷ starts) ≡ before ++ row ∷ [] = cc in
     let short : next - s ≤ length (drop s targets) = omega (arith, length-drop s targets) in
-    let kept : take (next - s) (drop s (targets ++ t ∷ [])) ≡ b = rw (drop-append-le s targets (t ∷ []) here, take-append-le (next - s) (drop s targets) (t ∷ []) short) first in
+    let kept : take (next - s) (drop s (targets ++ t ∷ [])) ≡ b =
+    rw (drop-append-le s targets (t ∷ []) here, take-append-le (next - s) (drop s targets) (t ∷ []) short) first in
     let tail = rows_of-push_target targets t (next ∷ starts) h.1 before row rest in
     cc
 
@@ -63,7 +67,8 @@ rows_of-push_target targets t (s ∷ (next ∷ starts)) h (b ∷ before) row e =
 abbrev pub EndsAt : List (Option ℕ) → List ℕ → ℕ → ℕ → Type 0
 EndsAt targets starts i end = (slice_get starts (suc i) ≡ Some end) ⊎ ((length starts ≤ suc i) × (end ≡ length targets))
 
-pub row_read : (targets : List (Option ℕ)) (starts : List ℕ) (i start end : ℕ) → AreStarts targets starts → slice_get starts i ≡ Some start → EndsAt targets starts i end → IsRow targets starts i start end
+pub row_read : (targets : List (Option ℕ)) (starts : List ℕ) (i start end : ℕ) → AreStarts targets starts → slice_get starts i ≡ Some start
+    → EndsAt targets starts i end → IsRow targets starts i start end
 row_read targets [] i start end h e f = absurd (none-some start e)
 row_read targets (s ∷ []) zero start end h e (inl f) = absurd (none-some end f)
 row_read targets (s ∷ []) zero start end h e (inr f) =
@@ -82,7 +87,8 @@ row_read targets (s ∷ (next ∷ starts)) (suc i) start end h e f =
 -- ---- all edges
 
 -- the rows have the edges from the first start on
-pub edges_from : (targets : List (Option ℕ)) (start : ℕ) (starts : List ℕ) → AreStarts targets (start ∷ starts) → start + sum_by length (rows_of targets (start ∷ starts)) ≡ length targets
+pub edges_from : (targets : List (Option ℕ)) (start : ℕ) (starts : List ℕ) → AreStarts targets (start ∷ starts)
+    → start + sum_by length (rows_of targets (start ∷ starts)) ≡ length targets
 edges_from targets s [] h =
     let one = sum_by-cons length (drop s targets) [] in
     omega (arith, one, length-drop s targets)

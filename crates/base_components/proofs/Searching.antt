@@ -1,12 +1,14 @@
 -- The steps of a path search, over the search's own lists.
-use Rattle.std.proofs.Common.{◌≡◌, ℕ, zero, suc, ◌+◌, ◌-◌, ◌<◌, ◌≤◌, inl, inr, List, [], ◌∷◌, length, set, take, drop, replicate, get_or, Option, Some, None, slice_get, refl, sym, ◌∙◌, ap, arith, length-set, length-append, length-take}
+use Rattle.std.proofs.Common.{◌≡◌, ℕ, zero, suc, ◌+◌, ◌-◌, ◌<◌, ◌≤◌, inl, inr, List, [], ◌∷◌, length, set, take, drop, replicate, get_or, Option, Some}
+use Rattle.std.proofs.Common.{None, slice_get, refl, sym, ◌∙◌, ap, arith, length-set, length-append, length-take}
 use Rattle.std.proofs.lemmas.Bool.{cases_lt, cases_eq}
 use Rattle.std.proofs.lemmas.List.{take_more}
 use Rattle.std.proofs.lemmas.Option.{same_Some, none-some, slice_get_within, slice_get-get_or, slice_get_read}
 use Rattle.base_components.specs.Graph.{Rows}
 use Rattle.base_components.specs.Leading.{Leads}
 use Rattle.ti_text.specs.Lists.{Has, AreBelow}
-use Rattle.base_components.specs.inside.Search.{ClosesPath, Enters, Follows, IsCutOffAt, IsFresh, IsIdle, IsMarked, IsSearched, IsTop, IsWalkOf, KeepsMet, Leaves, Rises, Steps, WalksFrom, edges_left}
+use Rattle.base_components.specs.inside.Search.{ClosesPath, Enters, Follows, IsCutOffAt, IsFresh, IsIdle, IsMarked, IsSearched, IsTop, IsWalkOf, KeepsMet}
+use Rattle.base_components.specs.inside.Search.{Leaves, Rises, Steps, WalksFrom, edges_left}
 use Rattle.base_components.specs.declared.search.Progress.{Progress}
 use Rattle.base_components.specs.declared.search.Progress.TheVariants.{Unseen, OnPath, Closed}
 use Rattle.base_components.specs.declared.search.Search.{Search}
@@ -35,7 +37,8 @@ above_more xs place count h some more = record {
   ];
 }
 
-pub cut_done : (xs : List ℕ) (place count : ℕ) → Rises xs → AreAbove xs place count → (0 < count → get_or xs (count - 1) 0 ≤ place) → IsCutOffAt xs (take count xs) place
+pub cut_done : (xs : List ℕ) (place count : ℕ) → Rises xs → AreAbove xs place count → (0 < count → get_or xs (count - 1) 0 ≤ place)
+    → IsCutOffAt xs (take count xs) place
 cut_done xs place count rises h stop = record {
   rises = Rises_take count xs rises;
   kept = λ s f.
@@ -65,7 +68,8 @@ marks_none p number = record {
   kept = λ v none. refl;
 }
 
-pub marks_more : (old p : List Progress) (nodes : List ℕ) (i number : ℕ) → IsMarked old p (take i nodes) number → i < length nodes → AreBelow nodes (length old) → IsMarked old (set p (get_or nodes i 0) (Closed number)) (take (i + 1) nodes) number
+pub marks_more : (old p : List Progress) (nodes : List ℕ) (i number : ℕ) → IsMarked old p (take i nodes) number → i < length nodes
+    → AreBelow nodes (length old) → IsMarked old (set p (get_or nodes i 0) (Closed number)) (take (i + 1) nodes) number
 marks_more old p nodes i number h l known =
     let node = get_or nodes i 0 in
     let within : node < length p = (let k = known i node (slice_get-get_or nodes i 0 l) in omega (arith, h.as_many)) in
@@ -96,7 +100,8 @@ length-copies : {X : Type 0} (n : ℕ) (x : X) → length (replicate n x) ≡ n
 length-copies zero x = refl
 length-copies (suc n) x = ap suc (length-copies n x)
 
-pub copies_fresh : (s : Search) (n : ℕ) → s.progress.items ≡ replicate n Unseen → s.cursors.items ≡ replicate n 0 → s.path.items ≡ [] → s.starts.items ≡ [] → s.active.items ≡ [] → s.order.items ≡ [] → IsFresh s n
+pub copies_fresh : (s : Search) (n : ℕ) → s.progress.items ≡ replicate n Unseen → s.cursors.items ≡ replicate n 0 → s.path.items ≡ [] → s.starts.items ≡ []
+    → s.active.items ≡ [] → s.order.items ≡ [] → IsFresh s n
 copies_fresh s n p c path starts active order = record {
   progress_each = ap length p ∙ length-copies n Unseen;
   cursor_each = ap length c ∙ length-copies n 0;
@@ -115,7 +120,8 @@ top_place active place rises top s f = rising_last active top.top place s rises 
 -- ---- an edge is followed
 
 -- each node of the path leads to the node at the last active place
-leads_top : (g : Rows) (s : Search) (place node : ℕ) → IsWalkOf g s → IsTop s.active.items place → slice_get s.path.items place ≡ Some node → (j u : ℕ) → slice_get s.path.items j ≡ Some u → Leads g u node
+leads_top : (g : Rows) (s : Search) (place node : ℕ) → IsWalkOf g s → IsTop s.active.items place → slice_get s.path.items place ≡ Some node → (j u : ℕ)
+    → slice_get s.path.items j ≡ Some u → Leads g u node
 leads_top g s place node h top here j u e = elim (cases_lt place j) [
   | inl up ↦ h.going.back place j node u (omega arith) here e (λ t f n.
       (let below = top_place s.active.items place h.going.active_rises top t (h.going.held t f) in absurd (omega arith)))
@@ -126,7 +132,8 @@ pub follow_entered : (old new : Search) (target : ℕ) → slice_get old.progres
 follow_entered old new target e h = record {
   cursors = h.cursors;
   met = λ v f. elim (cases_eq v target) [
-    | inl same ↦ absurd (unseen_on_path (slice_get new.progress.items v) (length old.path.items) f (rw (h.progress, same) (get-set_same old.progress.items target Unseen (OnPath (length old.path.items)) e)))
+    | inl same ↦ absurd (unseen_on_path (slice_get new.progress.items v) (length old.path.items) f
+        (rw (h.progress, same) (get-set_same old.progress.items target Unseen (OnPath (length old.path.items)) e)))
     | inr other ↦ sym (get-set_other old.progress.items target v (OnPath (length old.path.items)) other) ∙ rw h.progress at f
   ];
   few = rw h.active (omega (arith, length-append old.active.items (length old.path.items ∷ [])));
@@ -172,7 +179,8 @@ follow_cut old new target m e cut p c path active order = record {
       let below : (s : ℕ) → Has old.starts.items s → s ≤ place = λ s f. top_place old.active.items place walk.going.active_rises top s (walk.going.held s f) in
       record {
         walk = rw (p, c, path, active, order) (record {
-          going = path_cut g old.progress.items old.cursors.items old.path.items old.starts.items new.starts.items old.active.items m place target node walk.going cut back here below (edge target refl);
+          going = path_cut g old.progress.items old.cursors.items old.path.items old.starts.items new.starts.items old.active.items m place target node
+              walk.going cut back here below (edge target refl);
           shut = walk.shut;
           listing = walk.listing;
         });
@@ -195,8 +203,10 @@ leave_only old new top last place start n a m b other p c path starts active ord
       let same_top : is_top.top ≡ top = (let s = is_top.count in omega arith) in
       let same : place ≡ at_place = same_Some place at_place (sym a ∙ rw same_top at is_top.stands) in
       rw (p, c, path, starts, active, order) (record {
-        going = path_left g old.progress.items old.cursors.items old.path.items old.starts.items old.active.items top at_place walk.going n (rw same_top at is_top.stands)
-            (no_start old.starts.items old.active.items top last at_place start walk.going.starts_rise walk.going.active_rises walk.going.held n (rw same_top at is_top.stands) m b (λ s. other (s ∙ sym same))) gone;
+        going = path_left g old.progress.items old.cursors.items old.path.items old.starts.items old.active.items top at_place walk.going n
+            (rw same_top at is_top.stands)
+            (no_start old.starts.items old.active.items top last at_place start walk.going.starts_rise walk.going.active_rises walk.going.held n
+            (rw same_top at is_top.stands) m b (λ s. other (s ∙ sym same))) gone;
         shut = walk.shut;
         listing = walk.listing;
       });
@@ -224,12 +234,14 @@ leave_closed old mid new top last place n a m b p c path starts active order clo
             gone = rw same at gone;
           } in
           rw (closes.cursors, c, closes.path, path, closes.starts, starts, closes.active, active, closes.order, order, path)
-          (walk_closed g old.progress.items new.progress.items old.cursors.items old.path.items old.starts.items old.active.items old.order.items top last place done marked);
+          (walk_closed g old.progress.items new.progress.items old.cursors.items old.path.items old.starts.items old.active.items old.order.items top last
+          place done marked);
     }
 
 -- ---- a step
 
-edges_left-advanced : (g : Rows) (cursors : List ℕ) (u i : ℕ) (row : List (Option ℕ)) → slice_get g u ≡ Some row → slice_get cursors u ≡ Some i → i < length row → suc (edges_left g (set cursors u (i + 1))) ≡ edges_left g cursors
+edges_left-advanced : (g : Rows) (cursors : List ℕ) (u i : ℕ) (row : List (Option ℕ)) → slice_get g u ≡ Some row → slice_get cursors u ≡ Some i
+    → i < length row → suc (edges_left g (set cursors u (i + 1))) ≡ edges_left g cursors
 edges_left-advanced [] cursors u i row e c l = absurd (none-some row e)
 edges_left-advanced (r ∷ g) [] u i row e c l = absurd (none-some i c)
 edges_left-advanced (r ∷ g) (k ∷ cursors) zero i row e c l =
@@ -249,7 +261,8 @@ step_followed g old mid new place node next row edge walk top here cursor stands
     let cursor_mid : slice_get mid.cursors.items node ≡ Some next = rw h.cursors cursor in
     record {
       walk = rw (p, c, path, starts, active, order) (record {
-        going = path_advanced g mid.progress.items mid.cursors.items mid.path.items mid.starts.items mid.active.items place node next row f.walk.going f.stays cursor_mid stands
+        going = path_advanced g mid.progress.items mid.cursors.items mid.path.items mid.starts.items mid.active.items place node next row f.walk.going
+            f.stays cursor_mid stands
             (λ w a. f.explored w (same_Some edge (Some w) (sym e ∙ a)));
         shut = f.walk.shut;
         listing = f.walk.listing;
@@ -295,7 +308,8 @@ no_path g s h e k v f =
     let place = h.going.held 0 start in
     none-some 0 (rw e at place.1)
 
-pub walking_begun : (g : Rows) (old new : Search) (root : ℕ) → IsIdle g old → slice_get old.progress.items root ≡ Some Unseen → Enters old new root → IsWalking g old new root
+pub walking_begun : (g : Rows) (old new : Search) (root : ℕ) → IsIdle g old → slice_get old.progress.items root ≡ Some Unseen → Enters old new root
+    → IsWalking g old new root
 walking_begun g old new root h e enters =
     let f = follow_entered old new root e enters in
     record {
@@ -303,7 +317,8 @@ walking_begun g old new root h e enters =
           (walk_pushed g old.progress.items old.cursors.items old.path.items old.starts.items old.active.items old.order.items root h.walk e
           (λ j u a. absurd (no_path g old h.walk h.idle j u a)));
       met = f.met;
-      root_met = λ a. unseen_on_path (slice_get new.progress.items root) (length old.path.items) a (rw enters.progress (get-set_same old.progress.items root Unseen (OnPath (length old.path.items)) e));
+      root_met = λ a. unseen_on_path (slice_get new.progress.items root) (length old.path.items) a
+          (rw enters.progress (get-set_same old.progress.items root Unseen (OnPath (length old.path.items)) e));
     }
 
 pub walking_more : (g : Rows) (first old new : Search) (root : ℕ) → IsWalking g first old root → Steps g old new → IsWalking g first new root
@@ -392,7 +407,8 @@ pub record IsAt (g : Rows) (s : Search) (place node : ℕ) : Type 0 where
   pub known : node < length g
   pub some_start : 0 < length s.starts.items
 
-pub place_read : (g : Rows) (s : Search) (last place : ℕ) → IsWalkOf g s → length s.active.items ≡ suc last → place ≡ get_or s.active.items last place → IsTop s.active.items place × (place < length s.path.items)
+pub place_read : (g : Rows) (s : Search) (last place : ℕ) → IsWalkOf g s → length s.active.items ≡ suc last → place ≡ get_or s.active.items last place
+    → IsTop s.active.items place × (place < length s.path.items)
 place_read g s last place walk n e =
     let here = slice_get_read s.active.items (length s.active.items) last place refl (omega arith) e in
     (record { top = last; count = n; stands = here }, walk.going.within place (last, here))
@@ -400,7 +416,8 @@ place_read g s last place walk n e =
 pub path_known : (g : Rows) (s : Search) (k v : ℕ) → IsWalkOf g s → slice_get s.path.items k ≡ Some v → v < length g
 path_known g s k v walk e = rw (← walk.going.nodes) (slice_get_within s.progress.items v (OnPath k) (walk.going.stands k v e))
 
-pub is_at : (g : Rows) (s : Search) (last place node : ℕ) → IsWalkOf g s → length s.active.items ≡ suc last → place ≡ get_or s.active.items last place → node ≡ get_or s.path.items place node → IsAt g s place node
+pub is_at : (g : Rows) (s : Search) (last place node : ℕ) → IsWalkOf g s → length s.active.items ≡ suc last → place ≡ get_or s.active.items last place
+    → node ≡ get_or s.path.items place node → IsAt g s place node
 is_at g s last place node walk n e f =
     let p = place_read g s last place walk n e in
     let here = slice_get_read s.path.items (length s.path.items) place node refl p.1 f in

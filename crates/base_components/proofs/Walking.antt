@@ -1,5 +1,6 @@
 -- The steps of a path search, each over plain lists.
-use Rattle.std.proofs.Common.{◌≡◌, ℕ, suc, ◌+◌, ◌<◌, ◌≤◌, inl, inr, List, [], ◌∷◌, ◌++◌, length, set, take, Option, Some, slice_get, sym, ◌∙◌, ap, arith, length-set, length-append}
+use Rattle.std.proofs.Common.{◌≡◌, ℕ, suc, ◌+◌, ◌<◌, ◌≤◌, inl, inr, List, [], ◌∷◌, ◌++◌, length, set, take, Option, Some, slice_get, sym, ◌∙◌, ap, arith}
+use Rattle.std.proofs.Common.{length-set, length-append}
 use Rattle.std.proofs.lemmas.Bool.{cases_lt, cases_eq}
 use Rattle.std.proofs.lemmas.Option.{same_Some, slice_get_within}
 use Rattle.base_components.specs.Graph.{Rows, HasEdge}
@@ -32,7 +33,8 @@ same_number o c d e f = cc
 -- ---- what was closed is what is closed
 
 abbrev pub SameClosed : List Progress → List Progress → Type 0
-SameClosed old new = (v c : ℕ) → (slice_get old v ≡ Some (Closed c) → slice_get new v ≡ Some (Closed c)) × (slice_get new v ≡ Some (Closed c) → slice_get old v ≡ Some (Closed c))
+SameClosed old new = (v c : ℕ) → (slice_get old v ≡ Some (Closed c) → slice_get new v ≡ Some (Closed c))
+    × (slice_get new v ≡ Some (Closed c) → slice_get old v ≡ Some (Closed c))
 
 groups_kept : (g : Rows) (p q : List Progress) (n : ℕ) → SameClosed p q → AreGroups g p n → AreGroups g q n
 groups_kept g p q n s h = record {
@@ -123,7 +125,11 @@ path_pushed g p cursors path starts active v h e leads =
       explored = λ j u i place w row a c l r f. elim (push_cases path v j u a) [
         | inl old ↦ elim (h.explored j u i place w row old c l r f) [
           | inl closed ↦
-              inl (closed.0, get-set_other p v w (OnPath k) (λ same. unseen_closed (slice_get p v) closed.0 e (ap (slice_get p) (sym same) ∙ closed.1)) ∙ closed.1)
+              inl (
+                closed.0,
+                get-set_other p v w (OnPath k) (λ same. unseen_closed (slice_get p v) closed.0 e (ap (slice_get p) (sym same) ∙ closed.1))
+                    ∙ closed.1,
+              )
           | inr on ↦ inr (
             on.0,
             get_front path (v ∷ []) on.0 w on.1,
@@ -273,7 +279,8 @@ path_left g p cursors path starts active top k h n e no_start gone = record {
 }
 
 -- the greatest start is not at the last active place, so none is
-pub no_start : (starts active : List ℕ) (top last k s : ℕ) → Rises starts → Rises active → ((x : ℕ) → Has starts x → Has active x) → length active ≡ suc top → slice_get active top ≡ Some k → length starts ≡ suc last → slice_get starts last ≡ Some s → (s ≡ k → ⊥) → Has starts k → ⊥
+pub no_start : (starts active : List ℕ) (top last k s : ℕ) → Rises starts → Rises active → ((x : ℕ) → Has starts x → Has active x) → length active ≡ suc top
+    → slice_get active top ≡ Some k → length starts ≡ suc last → slice_get starts last ≡ Some s → (s ≡ k → ⊥) → Has starts k → ⊥
 no_start starts active top last k s hs ha held n e m f other has =
     let below = rising_last starts last s k hs m f has in
     let above = rising_last active top k s ha n e (held s (last, f)) in

@@ -26,7 +26,8 @@ adds_same A B xs ys h to from = record {
 }
 
 -- what is added in two steps
-pub adds_more : (A B C : ℕ → Type 0) (xs ys zs : List ℕ) → AddsPassing A xs ys → AddsPassing B ys zs → ((id : ℕ) → A id → C id) → ((id : ℕ) → B id → C id) → ((id : ℕ) → C id → A id ⊎ B id) → AddsPassing C xs zs
+pub adds_more : (A B C : ℕ → Type 0) (xs ys zs : List ℕ) → AddsPassing A xs ys → AddsPassing B ys zs → ((id : ℕ) → A id → C id) → ((id : ℕ) → B id → C id)
+    → ((id : ℕ) → C id → A id ⊎ B id) → AddsPassing C xs zs
 adds_more A B C xs ys zs h k one two either = record {
   added = h.added ++ k.added;
   behind = k.behind ∙ (ap (λ us. us ++ k.added) h.behind ∙ append_assoc xs h.added k.added);
@@ -61,7 +62,8 @@ adds_one xs ys q e =
 
 -- ---- one more of a list of ids
 
-pub adds_item : (users : List ℕ) (user : ℕ) (xs ys zs : List ℕ) → AddsPassing (Has users) xs ys → zs ≡ cond (list_any (nat_eq user) ys) ys (ys ++ user ∷ []) → AddsPassing (Has (users ++ user ∷ [])) xs zs
+pub adds_item : (users : List ℕ) (user : ℕ) (xs ys zs : List ℕ) → AddsPassing (Has users) xs ys → zs ≡ cond (list_any (nat_eq user) ys) ys (ys ++ user ∷ [])
+    → AddsPassing (Has (users ++ user ∷ [])) xs zs
 adds_item users user xs ys zs h e =
     adds_more (Has users) (λ id. id ≡ user) (Has (users ++ user ∷ [])) xs ys zs h (adds_one ys zs user e)
     (Has_front users (user ∷ []))
@@ -69,7 +71,8 @@ adds_item users user xs ys zs h e =
     (λ id a. elim (Has_split users (user ∷ []) id a) [ inl before ↦ inl before | inr here ↦ inr (Has_one user id here) ])
 
 -- all of them
-pub adds_all : (slots : Slots) (name users : List ℕ) (k : ℕ) (xs ys : List ℕ) → users ≡ users_of slots name → length users ≤ k → AddsPassing (Has (take k users)) xs ys → AddsPassing (IsUserOf slots name) xs ys
+pub adds_all : (slots : Slots) (name users : List ℕ) (k : ℕ) (xs ys : List ℕ) → users ≡ users_of slots name → length users ≤ k
+    → AddsPassing (Has (take k users)) xs ys → AddsPassing (IsUserOf slots name) xs ys
 adds_all slots name users k xs ys e l h =
     let P : List ℕ → Type 0 = λ us. AddsPassing (Has us) xs ys in subst P (take_all k users l ∙ e) h
 
@@ -78,7 +81,8 @@ adds_all slots name users k xs ys e l h =
 one_front : (slots : Slots) (names : List (List ℕ)) (name : List ℕ) (id : ℕ) → IsUserOfOne slots names id → IsUserOfOne slots (names ++ name ∷ []) id
 one_front slots names name id h = (h.0, h.1, get_front names (name ∷ []) h.0 h.1 h.2, h.3)
 
-pub adds_users : (slots : Slots) (names : List (List ℕ)) (name : List ℕ) (xs ys zs : List ℕ) → AddsPassing (IsUserOfOne slots names) xs ys → AddsPassing (IsUserOf slots name) ys zs → AddsPassing (IsUserOfOne slots (names ++ name ∷ [])) xs zs
+pub adds_users : (slots : Slots) (names : List (List ℕ)) (name : List ℕ) (xs ys zs : List ℕ) → AddsPassing (IsUserOfOne slots names) xs ys
+    → AddsPassing (IsUserOf slots name) ys zs → AddsPassing (IsUserOfOne slots (names ++ name ∷ [])) xs zs
 adds_users slots names name xs ys zs h k =
     adds_more (IsUserOfOne slots names) (IsUserOf slots name) (IsUserOfOne slots (names ++ name ∷ [])) xs ys zs h k
     (one_front slots names name)
@@ -101,7 +105,9 @@ adds_owned slots holder names name xs ys zs h first k =
     ])
 
 -- a name that another block owns adds nothing
-pub adds_not_owned : (slots : Slots) (holder : ℕ) (names : List (List ℕ)) (name : List ℕ) (xs ys : List ℕ) → AddsPassing (IsUserOfOwned slots holder names) xs ys → (IsOwnerId slots name holder → ⊥) → AddsPassing (IsUserOfOwned slots holder (names ++ name ∷ [])) xs ys
+pub adds_not_owned : (slots : Slots) (holder : ℕ) (names : List (List ℕ)) (name : List ℕ) (xs ys : List ℕ)
+    → AddsPassing (IsUserOfOwned slots holder names) xs ys → (IsOwnerId slots name holder → ⊥)
+    → AddsPassing (IsUserOfOwned slots holder (names ++ name ∷ [])) xs ys
 adds_not_owned slots holder names name xs ys h other =
     adds_same (IsUserOfOwned slots holder names) (IsUserOfOwned slots holder (names ++ name ∷ [])) xs ys h
     (λ id a. (a.0, a.1, get_front names (name ∷ []) a.0 a.1 a.2, a.3, a.4))
@@ -112,7 +118,8 @@ adds_not_owned slots holder names name xs ys h other =
 
 -- ---- a name in two spellings
 
-pub adds_users_of : (slots : Slots) (names : List (List ℕ)) (name other : List ℕ) (xs ys zs : List ℕ) → AddsPassing (IsUserOfOne slots names) xs ys → other ≡ name → AddsPassing (IsUserOf slots other) ys zs → AddsPassing (IsUserOfOne slots (names ++ name ∷ [])) xs zs
+pub adds_users_of : (slots : Slots) (names : List (List ℕ)) (name other : List ℕ) (xs ys zs : List ℕ) → AddsPassing (IsUserOfOne slots names) xs ys
+    → other ≡ name → AddsPassing (IsUserOf slots other) ys zs → AddsPassing (IsUserOfOne slots (names ++ name ∷ [])) xs zs
 adds_users_of slots names name other xs ys zs h same k =
     adds_users slots names name xs ys zs h (let P : List ℕ → Type 0 = λ n. AddsPassing (IsUserOf slots n) ys zs in subst P same k)
 
@@ -124,13 +131,16 @@ adds_owned_of slots holder names name one other xs ys zs h same first also k =
     (let P : List ℕ → Type 0 = λ n. IsOwnerId slots n holder in subst P same first)
     (let P : List ℕ → Type 0 = λ n. AddsPassing (IsUserOf slots n) ys zs in subst P also k)
 
-pub adds_not_owned_of : (slots : Slots) (holder : ℕ) (names : List (List ℕ)) (name one : List ℕ) (xs ys : List ℕ) → AddsPassing (IsUserOfOwned slots holder names) xs ys → one ≡ name → (IsOwnerId slots one holder → ⊥) → AddsPassing (IsUserOfOwned slots holder (names ++ name ∷ [])) xs ys
+pub adds_not_owned_of : (slots : Slots) (holder : ℕ) (names : List (List ℕ)) (name one : List ℕ) (xs ys : List ℕ)
+    → AddsPassing (IsUserOfOwned slots holder names) xs ys → one ≡ name → (IsOwnerId slots one holder → ⊥)
+    → AddsPassing (IsUserOfOwned slots holder (names ++ name ∷ [])) xs ys
 adds_not_owned_of slots holder names name one xs ys h same other =
     adds_not_owned slots holder names name xs ys h (let P : List ℕ → Type 0 = λ n. IsOwnerId slots n holder → ⊥ in subst P same other)
 
 -- ---- a block and the users of its names
 
-pub adds_with_users : (slots : Slots) (put : ℕ) (names : List (List ℕ)) (xs ys zs : List ℕ) → ys ≡ cond (list_any (nat_eq put) xs) xs (xs ++ put ∷ []) → AddsPassing (IsUserOfOne slots names) ys zs → names ≡ (reading_at slots put).names → AddsPassing (IsPutOrUser slots put) xs zs
+pub adds_with_users : (slots : Slots) (put : ℕ) (names : List (List ℕ)) (xs ys zs : List ℕ) → ys ≡ cond (list_any (nat_eq put) xs) xs (xs ++ put ∷ [])
+    → AddsPassing (IsUserOfOne slots names) ys zs → names ≡ (reading_at slots put).names → AddsPassing (IsPutOrUser slots put) xs zs
 adds_with_users slots put names xs ys zs e h same =
     adds_more (λ id. id ≡ put) (IsUserOfOne slots names) (IsPutOrUser slots put) xs ys zs (adds_one xs ys put e) h
     (λ id one. inl one)

@@ -1,5 +1,6 @@
 -- All that depends on the edit was found at the end of a search.
-use Rattle.std.proofs.Common.{◌≡◌, ℕ, inl, inr, true, suc, List, [], ◌∷◌, length, nat_eq, Option, Some, None, slice_get, Contains, refl, sym, ◌∙◌, ap, subst, arith}
+use Rattle.std.proofs.Common.{◌≡◌, ℕ, inl, inr, true, suc, List, [], ◌∷◌, length, nat_eq, Option, Some, None, slice_get, Contains, refl, sym, ◌∙◌, ap}
+use Rattle.std.proofs.Common.{subst, arith}
 use Rattle.std.specs.List.{IsDistinct}
 use Rattle.std.proofs.lemmas.Bool.{or_cases, false≢true}
 use Rattle.std.proofs.lemmas.Option.{same_Some, slice_get_within, slice_get-get_or, get_or_from_slice_get}
@@ -39,9 +40,11 @@ among_place (n ∷ names) name e =
 
 -- ---- the block put in
 
-put_within : (rest : List Reading) (o : Option PlacedBlock) (at : ℕ) → HasPlace rest o → IsPutAt o at → (block : Reading) × (slice_get (with_block rest o) at ≡ Some block) × (lookup_names_of o ≡ block.names)
+put_within : (rest : List Reading) (o : Option PlacedBlock) (at : ℕ) → HasPlace rest o → IsPutAt o at → (block : Reading)
+    × (slice_get (with_block rest o) at ≡ Some block) × (lookup_names_of o ≡ block.names)
 put_within rest None at l p = absurd p
-put_within rest (Some placed) at l p = (placed.block, subst (λ (k : ℕ). slice_get (with_block rest (Some placed)) k ≡ Some placed.block) p (get-with_put rest placed l), refl)
+put_within rest (Some placed) at l p =
+    (placed.block, subst (λ (k : ℕ). slice_get (with_block rest (Some placed)) k ≡ Some placed.block) p (get-with_put rest placed l), refl)
 
 put_somewhere : (o : Option PlacedBlock) (name : List ℕ) → is_among name (lookup_names_of o) ≡ true → (at : ℕ) × IsPutAt o at
 put_somewhere None name e = absurd (false≢true e)
@@ -111,12 +114,14 @@ module _ (s : Slots) (put : Option ℕ) (out : List (List ℕ)) (ids positions :
     has_put : (p id : ℕ) → put ≡ Some p → IsPutOrUser s p id → Has ids id
     has_put p id is a = h.ended.has_put id (let P : Option ℕ → Type 0 = λ o. IsPutOrUserIn s o id in subst P (sym is) a)
 
-    user_found : (user : ℕ) (block : Reading) (name : List ℕ) → slice_get (new_list e) user ≡ Some block → Uses block.items name → is_among name (touched_names e) ≡ true → Has positions user
+    user_found : (user : ℕ) (block : Reading) (name : List ℕ) → slice_get (new_list e) user ≡ Some block → Uses block.items name
+        → is_among name (touched_names e) ≡ true → Has positions user
     user_found user block name f u t =
         let me = new_id user block f in
         let uses = uses_user s name user me.id block me.stands (ap (λ bs. slice_get bs user) (sym x.new) ∙ f) u in
         place_of user me.id me.stands
-        (elim (or_cases (is_among name (lookup_names_of e.out)) (is_among name (lookup_names_of e.put)) (sym (list_any-append name (lookup_names_of e.out) (lookup_names_of e.put)) ∙ t)) [
+        (elim (or_cases (is_among name (lookup_names_of e.out)) (is_among name (lookup_names_of e.put))
+        (sym (list_any-append name (lookup_names_of e.out) (lookup_names_of e.put)) ∙ t)) [
           | inl old ↦ (let w = among_place out name (ap (is_among name) (sym x.out_names) ∙ old) in h.ended.has_out me.id (w.0, name, w.1, uses))
           | inr new ↦
               let where_put = put_somewhere e.put name new in
@@ -155,7 +160,9 @@ module _ (s : Slots) (put : Option ℕ) (out : List (List ℕ)) (ids positions :
 
 -- ---- the answer, in lists that were copied
 
-pub copied_ids : (s : Slots) (put : Option ℕ) (out : List (List ℕ)) (found ids positions : List ℕ) → IsSearch s put out found (length found) → ArePlaced (ids_of s) found ids positions → AreDependentIds s put out ids positions
+pub copied_ids : (s : Slots) (put : Option ℕ) (out : List (List ℕ)) (found ids positions : List ℕ) → IsSearch s put out found (length found)
+    → ArePlaced (ids_of s) found ids positions → AreDependentIds s put out ids positions
 copied_ids s put out found ids positions ended h =
     let P : List ℕ → Type 0 = λ xs. AreDependentIds s put out xs positions in
-    subst P (sym h.ids_found) (dependent_ids s put out found positions (record { distinct = h.listed_once; unique = h.found_once; ended = ended; positions_are = h.are_positions }))
+    subst P (sym h.ids_found) (dependent_ids s put out found positions
+    (record { distinct = h.listed_once; unique = h.found_once; ended = ended; positions_are = h.are_positions }))

@@ -31,10 +31,12 @@ among_behind : (name : List ℕ) (xs ys : List (List ℕ)) → is_among name ys 
 among_behind name xs ys t = list_any-append name xs ys ∙ or_right (is_among name xs) (is_among name ys) t
 
 -- the names of the block put in are those of the block that is there
-pub names_put : (rest : List Reading) (o : Option PlacedBlock) (at : ℕ) (block : Reading) → HasPlace rest o → IsPutAt o at → slice_get (with_block rest o) at ≡ Some block → lookup_names_of o ≡ block.names
+pub names_put : (rest : List Reading) (o : Option PlacedBlock) (at : ℕ) (block : Reading) → HasPlace rest o → IsPutAt o at
+    → slice_get (with_block rest o) at ≡ Some block → lookup_names_of o ≡ block.names
 names_put rest None at block l put e = absurd put
 names_put rest (Some placed) at block l put e =
-    let here : slice_get (with_block rest (Some placed)) at ≡ Some placed.block = subst (λ (p : ℕ). slice_get (with_block rest (Some placed)) p ≡ Some placed.block) put (get-with_put rest placed l) in
+    let here : slice_get (with_block rest (Some placed)) at ≡ Some placed.block =
+    subst (λ (p : ℕ). slice_get (with_block rest (Some placed)) p ≡ Some placed.block) put (get-with_put rest placed l) in
     ap (λ b. b.names) (same_Some placed.block block (sym here ∙ e))
 
 -- ---- one exchange
@@ -58,7 +60,8 @@ module _ (s : Slots) (put : Option ℕ) (out : List (List ℕ)) (e : Exchange) (
       let there : is_among u.1 (lookup_names_of e.out) ≡ true = ap (is_among u.1) h.out_names ∙ among_at out u.0 u.1 u.2 in
       touched_user id u.1 u.3 (among_front u.1 (lookup_names_of e.out) (lookup_names_of e.put) there)
 
-  put_user : (id p place : ℕ) (block : Reading) → put ≡ Some p → StandsAt s place p → slice_get (blocks_of s) place ≡ Some block → IsUserOfOne s block.names id → DependsOn s e id
+  put_user : (id p place : ℕ) (block : Reading) → put ≡ Some p → StandsAt s place p → slice_get (blocks_of s) place ≡ Some block
+      → IsUserOfOne s block.names id → DependsOn s e id
   put_user id p place block is ps b u =
       let same = names_put e.rest e.put place block h.fits.put ((h.put_id place p ps).1 is) (new_block place block b) in
       let there : is_among u.1 (lookup_names_of e.put) ≡ true = ap (is_among u.1) same ∙ among_at block.names u.0 u.1 u.2 in
@@ -84,8 +87,10 @@ put_depends s put out id is there = λ e h. put_itself s put out e h id is there
 pub out_depends : (s : Slots) (put : Option ℕ) (out : List (List ℕ)) (id : ℕ) → IsUserOfOne s out id → Depends s put out id
 out_depends s put out id u = λ e h. out_user s put out e h id u
 
-pub names_depend : (s : Slots) (put : Option ℕ) (out : List (List ℕ)) (p id : ℕ) → put ≡ Some p → Has (ids_of s) p → IsUserOfOne s (reading_at s p).names id → Depends s put out id
+pub names_depend : (s : Slots) (put : Option ℕ) (out : List (List ℕ)) (p id : ℕ) → put ≡ Some p → Has (ids_of s) p → IsUserOfOne s (reading_at s p).names id
+    → Depends s put out id
 names_depend s put out p id is there u = λ e h. let w = block_somewhere s p there in put_user s put out e h id p w.0 (reading_at s p) is w.1 w.2 u
 
-pub owned_depends : (s : Slots) (put : Option ℕ) (out : List (List ℕ)) (p id : ℕ) (names : List (List ℕ)) → AreDistinct (ids_of s) → Depends s put out p → IsUserOfOwned s p names id → Depends s put out id
+pub owned_depends : (s : Slots) (put : Option ℕ) (out : List (List ℕ)) (p id : ℕ) (names : List (List ℕ)) → AreDistinct (ids_of s) → Depends s put out p
+    → IsUserOfOwned s p names id → Depends s put out id
 owned_depends s put out p id names once d u = λ e h. owned_user s put out e h id p names once (d e h) u

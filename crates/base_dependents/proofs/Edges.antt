@@ -1,5 +1,6 @@
 -- The edges of the graph of the blocks found, item by item.
-use Rattle.std.proofs.Common.{◌≡◌, ℕ, ◌≤◌, inl, inr, List, [], ◌∷◌, ◌++◌, length, take, nat_eq, position, Option, Some, is_some, refl, sym, ◌∙◌, ap, subst, arith}
+use Rattle.std.proofs.Common.{◌≡◌, ℕ, ◌≤◌, inl, inr, List, [], ◌∷◌, ◌++◌, length, take, nat_eq, position, Option, Some, is_some, refl, sym, ◌∙◌, ap, subst}
+use Rattle.std.proofs.Common.{arith}
 use Rattle.std.specs.List.{list_any, IsDistinct}
 use Rattle.std.proofs.lemmas.List.{length-append, take_all}
 use Rattle.std.proofs.lemmas.Option.{same_Some, none-some, slice_get_within}
@@ -36,7 +37,8 @@ row_begun s ids old new e = record {
   behind = e;
 }
 
-row_of_more : (s : Slots) (ids : List ℕ) (items : List ReadItem) (row : List (Option ℕ)) (item : ReadItem) (edge : Option ℕ) → IsEdgeRowOf s ids items row → IsEdgeOf s ids item edge → IsEdgeRowOf s ids (items ++ item ∷ []) (row ++ edge ∷ [])
+row_of_more : (s : Slots) (ids : List ℕ) (items : List ReadItem) (row : List (Option ℕ)) (item : ReadItem) (edge : Option ℕ) → IsEdgeRowOf s ids items row
+    → IsEdgeOf s ids item edge → IsEdgeRowOf s ids (items ++ item ∷ []) (row ++ edge ∷ [])
 row_of_more s ids items row item edge h k = record {
   as_many = (let n = h.as_many in omega (arith, length-append row (edge ∷ []), length-append items (item ∷ [])));
   edges = λ at i e f g.
@@ -52,7 +54,8 @@ row_of_more s ids items row item edge h k = record {
       ];
 }
 
-pub row_more : (s : Slots) (ids : List ℕ) (items : List ReadItem) (item : ReadItem) (edge : Option ℕ) (old mid new : Rows) → AddsRow s ids items old mid → AddsEdge mid new edge → IsEdgeOf s ids item edge → AddsRow s ids (items ++ item ∷ []) old new
+pub row_more : (s : Slots) (ids : List ℕ) (items : List ReadItem) (item : ReadItem) (edge : Option ℕ) (old mid new : Rows) → AddsRow s ids items old mid
+    → AddsEdge mid new edge → IsEdgeOf s ids item edge → AddsRow s ids (items ++ item ∷ []) old new
 row_more s ids items item edge old mid new h adds k = record {
   row = h.row ++ edge ∷ [];
   of_items = row_of_more s ids items h.row item edge h.of_items k;
@@ -67,7 +70,8 @@ rows_begun s ids graph e = record {
   rows = λ i id row f. absurd (none-some id f);
 }
 
-pub rows_more : (s : Slots) (ids done : List ℕ) (id : ℕ) (items : List ReadItem) (old new : Rows) → AreRowsOf s ids done old → items ≡ (reading_at s id).items → AddsRow s ids items old new → AreRowsOf s ids (done ++ id ∷ []) new
+pub rows_more : (s : Slots) (ids done : List ℕ) (id : ℕ) (items : List ReadItem) (old new : Rows) → AreRowsOf s ids done old
+    → items ≡ (reading_at s id).items → AddsRow s ids items old new → AreRowsOf s ids (done ++ id ∷ []) new
 rows_more s ids done id items old new h same adds = rw adds.behind (record {
   as_many = (let n = h.as_many in omega (arith, length-append old (adds.row ∷ []), length-append done (id ∷ [])));
   rows = λ at x row f g.
@@ -83,7 +87,8 @@ rows_more s ids done id items old new h same adds = rw adds.behind (record {
       ];
 })
 
-pub rows_ended : (s : Slots) (ids items : List ℕ) (k : ℕ) (graph : Rows) → items ≡ ids → length items ≤ k → AreRowsOf s ids (take k items) graph → IsGraphOfUses s ids graph
+pub rows_ended : (s : Slots) (ids items : List ℕ) (k : ℕ) (graph : Rows) → items ≡ ids → length items ≤ k → AreRowsOf s ids (take k items) graph
+    → IsGraphOfUses s ids graph
 rows_ended s ids items k graph e l h =
     let P : List ℕ → Type 0 = λ done. AreRowsOf s ids done graph in
     let all : AreRowsOf s ids ids graph = subst P (take_all k items l ∙ e) h in

@@ -1,5 +1,6 @@
 -- Places in a list that has no number twice.
-use Rattle.std.proofs.Common.{◌≡◌, ℕ, ◌<◌, inl, inr, true, false, List, get_or, nat_eq, position, Option, Some, None, is_some, slice_get, refl, sym, ◌∙◌, ap, arith}
+use Rattle.std.proofs.Common.{◌≡◌, ℕ, ◌<◌, inl, inr, true, false, List, get_or, nat_eq, position, Option, Some, None, is_some, slice_get, refl, sym, ◌∙◌}
+use Rattle.std.proofs.Common.{ap, arith}
 use Rattle.std.specs.List.{list_any, IsDistinct}
 use Rattle.std.proofs.lemmas.Bool.{false≢true, cases_lt, eqb-true, eq-eqb}
 use Rattle.std.proofs.lemmas.Option.{slice_get_within, slice_get-get_or, get_or_from_slice_get}
@@ -34,7 +35,8 @@ place_given xs x place i e f =
     let p = position-Some (nat_eq x) xs i x (sym e ∙ f) in
     slice_get-get_or xs i x p.0 ∙ ap (λ y. Some y) (sym (eqb-true x (get_or xs i x) p.1))
 
-pub place_found : (xs : List ℕ) (x : ℕ) (place : Option ℕ) (i : ℕ) → IsDistinct nat_eq xs → place ≡ position (nat_eq x) xs → is_some place ≡ list_any (nat_eq x) xs → slice_get xs i ≡ Some x → place ≡ Some i
+pub place_found : (xs : List ℕ) (x : ℕ) (place : Option ℕ) (i : ℕ) → IsDistinct nat_eq xs → place ≡ position (nat_eq x) xs
+    → is_some place ≡ list_any (nat_eq x) xs → slice_get xs i ≡ Some x → place ≡ Some i
 place_found xs x place i d e some f =
     let there = is_there place (some ∙ any_passes_from_place (nat_eq x) xs i x f (eq-eqb x x refl)) in
     let same : there.0 ≡ i = once xs there.0 i x d (place_given xs x place there.0 e there.1) f in

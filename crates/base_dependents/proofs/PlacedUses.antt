@@ -24,12 +24,14 @@ edge_from graph i j h = (h.row, h.stands, (h.place, h.leads))
 
 -- ---- used names by the positions of their items
 
-pub use_place : (items : List ReadItem) (name : List ℕ) → Uses items name → (k : ℕ) × (item : ReadItem) × (slice_get items k ≡ Some item) × (used_name item.said ≡ Some name)
+pub use_place : (items : List ReadItem) (name : List ℕ) → Uses items name → (k : ℕ) × (item : ReadItem) × (slice_get items k ≡ Some item)
+    × (used_name item.said ≡ Some name)
 use_place [] name u = absurd u
 use_place (item ∷ items) name (inl here) = (0, item, refl, here)
 use_place (item ∷ items) name (inr later) = let w = use_place items name later in (suc w.0, w.1, w.2, w.3)
 
-pub place_uses : (items : List ReadItem) (k : ℕ) (item : ReadItem) (name : List ℕ) → slice_get items k ≡ Some item → used_name item.said ≡ Some name → Uses items name
+pub place_uses : (items : List ReadItem) (k : ℕ) (item : ReadItem) (name : List ℕ) → slice_get items k ≡ Some item → used_name item.said ≡ Some name
+    → Uses items name
 place_uses [] k item name e u = absurd (none-some item e)
 place_uses (x ∷ items) zero item name e u = inl (ap (λ y. used_name y.said) (same_Some x item e) ∙ u)
 place_uses (x ∷ items) (suc k) item name e u = inr (place_uses items k item name e u)
@@ -40,7 +42,9 @@ owner_place s name id at once (place, owns, stands) here = owns ∙ ap (λ p. So
 
 -- ---- an edge for each use of a dependent by another
 
-module _ (s : Slots) (ids positions : List ℕ) (graph : Rows) (many : length positions ≡ length ids) (stands : (i id at : ℕ) → slice_get ids i ≡ Some id → slice_get positions i ≡ Some at → StandsAt s at id) (once : AreDistinct (ids_of s)) (h : IsGraphOfUses s ids graph) where
+module _ (s : Slots) (ids positions : List ℕ) (graph : Rows) (many : length positions ≡ length ids)
+    (stands : (i id at : ℕ) → slice_get ids i ≡ Some id → slice_get positions i ≡ Some at → StandsAt s at id) (once : AreDistinct (ids_of s))
+    (h : IsGraphOfUses s ids graph) where
   -- the block of a place among the ids
   id_of : (i at : ℕ) → slice_get positions i ≡ Some at → (id : ℕ) × (slice_get ids i ≡ Some id) × StandsAt s at id
   id_of i at e =
@@ -61,7 +65,8 @@ module _ (s : Slots) (ids positions : List ℕ) (graph : Rows) (many : length po
       let there = item_at graph i (omega arith) in
       (there.0, there.1, h.rows i id there.0 e there.1)
 
-  edge_uses : (i j : ℕ) → HasOptionalEdge graph i j → (at used : ℕ) × (slice_get positions i ≡ Some at) × (slice_get positions j ≡ Some used) × UsesBlock (blocks_of s) at used
+  edge_uses : (i j : ℕ) → HasOptionalEdge graph i j → (at used : ℕ) × (slice_get positions i ≡ Some at) × (slice_get positions j ≡ Some used)
+      × UsesBlock (blocks_of s) at used
   edge_uses i j (row, stands_row, (place, leads)) =
       let n = h.as_many in
       let l = slice_get_within graph i row stands_row in
@@ -73,10 +78,20 @@ module _ (s : Slots) (ids positions : List ℕ) (graph : Rows) (many : length po
       let item = item_at (reading_at s id.0).items place (omega arith) in
       let w = (is.edges place item.0 (Some j) item.1 leads j).0 refl in
       let you = place_of j w.1 w.4 in
-      let own = owner_place s w.0 w.1 you.0 once w.3 you.2 in
-      (me.0, you.0, me.1, you.1, (reading_at s id.0, block_at s me.0 id.0 once me.2, (w.0, place_uses (reading_at s id.0).items place item.0 w.0 item.1 w.2, own)))
+      let own = owner_place s w.0 w.1 you.0 once w.3 you.2 in (
+        me.0,
+        you.0,
+        me.1,
+        you.1,
+        (
+          reading_at s id.0,
+          block_at s me.0 id.0 once me.2,
+          (w.0, place_uses (reading_at s id.0).items place item.0 w.0 item.1 w.2, own),
+        ),
+      )
 
-  uses_edge : (i j at used : ℕ) → slice_get positions i ≡ Some at → slice_get positions j ≡ Some used → UsesBlock (blocks_of s) at used → HasOptionalEdge graph i j
+  uses_edge : (i j at used : ℕ) → slice_get positions i ≡ Some at → slice_get positions j ≡ Some used → UsesBlock (blocks_of s) at used
+      → HasOptionalEdge graph i j
   uses_edge i j at used e f u =
       let me = id_of i at e in
       let you = id_of j used f in
@@ -93,5 +108,6 @@ module _ (s : Slots) (ids positions : List ℕ) (graph : Rows) (many : length po
   graph_of_positions i j = ((λ e. edge_uses i j e), λ w. uses_edge i j w.0 w.1 w.2 w.3 w.4)
 
 -- no id is twice in a list (`Slots::ids`)
-pub placed_uses : (s : Slots) (put : Option ℕ) (out : List (List ℕ)) (ids positions : List ℕ) (graph : Rows) → AreDependentIds s put out ids positions → AreDistinct (ids_of s) → IsGraphOfUses s ids graph → IsGraphOf (blocks_of s) positions (HasOptionalEdge graph)
+pub placed_uses : (s : Slots) (put : Option ℕ) (out : List (List ℕ)) (ids positions : List ℕ) (graph : Rows) → AreDependentIds s put out ids positions
+    → AreDistinct (ids_of s) → IsGraphOfUses s ids graph → IsGraphOf (blocks_of s) positions (HasOptionalEdge graph)
 placed_uses s put out ids positions graph d once h = graph_of_positions s ids positions graph d.as_many d.stands once h

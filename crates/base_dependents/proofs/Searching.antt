@@ -1,5 +1,6 @@
 -- What holds of a search from its beginning on, and what it has found at its end.
-use Rattle.std.proofs.Common.{◌≡◌, ℕ, zero, suc, ◌+◌, ◌<◌, ◌≤◌, ◌⊎◌, inl, inr, List, [], ◌∷◌, ◌++◌, length, nat_eq, Option, Some, None, slice_get, refl, sym, ◌∙◌, ap, subst, arith}
+use Rattle.std.proofs.Common.{◌≡◌, ℕ, zero, suc, ◌+◌, ◌<◌, ◌≤◌, ◌⊎◌, inl, inr, List, [], ◌∷◌, ◌++◌, length, nat_eq, Option, Some, None, slice_get, refl}
+use Rattle.std.proofs.Common.{sym, ◌∙◌, ap, subst, arith}
 use Rattle.std.specs.Cmp.{nat_eq_equiv}
 use Rattle.std.specs.List.{IsDistinct}
 use Rattle.std.proofs.lemmas.Bool.{cases_lt, eq-eqb}
@@ -33,7 +34,8 @@ put_sound s (Some p) out id there (inl same) = let w = there p refl in put_depen
 put_sound s (Some p) out id there (inr u) = let w = there p refl in names_depend s (Some p) out p id refl (w.0, w.1) u
 
 -- the block put in and the users of touched names were added to nothing
-pub search_begun : (s : Slots) (put : Option ℕ) (out : List (List ℕ)) (first found : List ℕ) → StandsPut s put → AddsPassing (IsPutOrUserIn s put) [] first → AddsPassing (IsUserOfOne s out) first found → IsSearch s put out found 0
+pub search_begun : (s : Slots) (put : Option ℕ) (out : List (List ℕ)) (first found : List ℕ) → StandsPut s put → AddsPassing (IsPutOrUserIn s put) [] first
+    → AddsPassing (IsUserOfOne s out) first found → IsSearch s put out found 0
 search_begun s put out first found there h k = record {
   within = λ id f. elim (origin id f) [ inl a ↦ put_stands s put id there a | inr u ↦ user_stands s u.1 id u.3 ];
   sound = λ id f. elim (origin id f) [ inl a ↦ put_sound s put out id there a | inr u ↦ out_depends s put out id u ];
@@ -58,7 +60,9 @@ get_old (z ∷ zs) ys (suc i) zero x y l e f = absurd (omega arith)
 get_old (z ∷ zs) ys (suc i) (suc k) x y l e f = get_old zs ys i k x y (omega arith) e f
 
 -- the users of the names of one more block were added
-pub search_more : (s : Slots) (put : Option ℕ) (out : List (List ℕ)) (found new : List ℕ) (next p : ℕ) → AreDistinct (ids_of s) → IsSearch s put out found next → slice_get found next ≡ Some p → AddsPassing (IsUserOfOwned s p (reading_at s p).names) found new → IsSearch s put out new (next + 1)
+pub search_more : (s : Slots) (put : Option ℕ) (out : List (List ℕ)) (found new : List ℕ) (next p : ℕ) → AreDistinct (ids_of s)
+    → IsSearch s put out found next → slice_get found next ≡ Some p → AddsPassing (IsUserOfOwned s p (reading_at s p).names) found new
+    → IsSearch s put out new (next + 1)
 search_more s put out found new next p x h here adds = rw adds.behind (record {
   within = λ id f. elim (Has_split found adds.added id f) [
     | inl before ↦ h.within id before
@@ -85,7 +89,8 @@ search_more s put out found new next p x h here adds = rw adds.behind (record {
 
 -- ---- the beginning, whether a block was put in or not
 
-pub first_put : (s : Slots) (put : Option ℕ) (p : ℕ) (none first : List ℕ) → none ≡ [] → put ≡ Some p → AddsPassing (IsPutOrUser s p) none first → AddsPassing (IsPutOrUserIn s put) [] first
+pub first_put : (s : Slots) (put : Option ℕ) (p : ℕ) (none first : List ℕ) → none ≡ [] → put ≡ Some p → AddsPassing (IsPutOrUser s p) none first
+    → AddsPassing (IsPutOrUserIn s put) [] first
 first_put s put p none first empty is h =
     let P : Option ℕ → Type 0 = λ o. AddsPassing (IsPutOrUserIn s o) [] first in
     let Q : List ℕ → Type 0 = λ xs. AddsPassing (IsPutOrUser s p) xs first in
@@ -100,12 +105,14 @@ first_none s put none empty is =
 -- ---- on the way, and at the end
 
 -- no more blocks are found than there are
-pub found_few : (s : Slots) (put : Option ℕ) (out : List (List ℕ)) (found : List ℕ) (next : ℕ) → IsSearch s put out found next → IsDistinct nat_eq found → length found ≤ length (ids_of s)
+pub found_few : (s : Slots) (put : Option ℕ) (out : List (List ℕ)) (found : List ℕ) (next : ℕ) → IsSearch s put out found next → IsDistinct nat_eq found
+    → length found ≤ length (ids_of s)
 found_few s put out found next h d =
     length-le_from_is_member nat_eq_equiv found (ids_of s) d
     (λ q e. let f = Has_from_any found q e in let w = h.within q (f.0, f.1) in any_passes_from_place (nat_eq q) (ids_of s) w.0 q w.1 (eq-eqb q q refl))
 
-pub search_ended : (s : Slots) (put : Option ℕ) (out : List (List ℕ)) (found : List ℕ) (next : ℕ) → IsSearch s put out found next → length found ≤ next → IsSearch s put out found (length found)
+pub search_ended : (s : Slots) (put : Option ℕ) (out : List (List ℕ)) (found : List ℕ) (next : ℕ) → IsSearch s put out found next → length found ≤ next
+    → IsSearch s put out found (length found)
 search_ended s put out found next h l = record {
   within = h.within;
   sound = h.sound;

@@ -1,5 +1,6 @@
 -- Lists of the ids that pass a test, in the order of all.
-use Rattle.std.proofs.Common.{◌≡◌, ℕ, zero, suc, ◌+◌, ◌<◌, ◌≤◌, inl, inr, Bool, true, false, cond, ◌&&◌, ◌||◌, not, List, [], ◌∷◌, ◌++◌, length, filter, insert, remove, take, drop, get_or, nat_eq, ltb, Some, slice_get, refl, sym, ◌∙◌, ap, arith}
+use Rattle.std.proofs.Common.{◌≡◌, ℕ, zero, suc, ◌+◌, ◌<◌, ◌≤◌, inl, inr, Bool, true, false, cond, ◌&&◌, ◌||◌, not, List, [], ◌∷◌, ◌++◌, length, filter}
+use Rattle.std.proofs.Common.{insert, remove, take, drop, get_or, nat_eq, ltb, Some, slice_get, refl, sym, ◌∙◌, ap, arith}
 use Rattle.std.specs.List.Sorted.{IsPartitionedBy, IsPartitionPoint}
 use Rattle.std.proofs.lemmas.Bool.{cases_lt, cases_eq, cases_Bool, false≢true, eqb-true, eq-eqb, ltb-true, lt-ltb}
 use Rattle.std.proofs.lemmas.List.{length-take-le}
@@ -17,7 +18,8 @@ use Rattle.ti_text.proofs.Lists.{get_back, take_get, drop_get}
 -- fewer pass before
 -- it than before that place
 abbrev pub IsPlaced : (ℕ → Bool) → List ℕ → ℕ → ℕ → Type 0
-IsPlaced test xs k x = (q : ℕ) × (slice_get xs q ≡ Some x) × ((p : ℕ) → (q < p → k < length (filter test (take p xs))) × (k < length (filter test (take p xs)) → q < p))
+IsPlaced test xs k x =
+    (q : ℕ) × (slice_get xs q ≡ Some x) × ((p : ℕ) → (q < p → k < length (filter test (take p xs))) × (k < length (filter test (take p xs)) → q < p))
 
 -- how many pass, with one more in front
 count_cons : (test : ℕ → Bool) (y : ℕ) (xs : List ℕ) (b : Bool) → test y ≡ b → length (filter test (y ∷ xs)) ≡ cond b 1 0 + length (filter test xs)
@@ -32,14 +34,16 @@ placed_first test y xs t = (0, refl, before) where
 
 placed_behind : (test : ℕ → Bool) (y : ℕ) (xs : List ℕ) (b : Bool) (k x : ℕ) → test y ≡ b → IsPlaced test xs k x → IsPlaced test (y ∷ xs) (cond b 1 0 + k) x
 placed_behind test y xs b k x t (q, e, h) = (suc q, e, before) where
-  before : (p : ℕ) → (suc q < p → cond b 1 0 + k < length (filter test (take p (y ∷ xs)))) × (cond b 1 0 + k < length (filter test (take p (y ∷ xs))) → suc q < p)
+  before : (p : ℕ) → (suc q < p → cond b 1 0 + k < length (filter test (take p (y ∷ xs))))
+      × (cond b 1 0 + k < length (filter test (take p (y ∷ xs))) → suc q < p)
   before zero = ((λ l. absurd (omega arith)), λ l. absurd (omega arith))
   before (suc p) =
       let many = count_cons test y (take p xs) b t in
       let f = h p in
       ((λ l. (let m = f.0 (omega arith) in omega arith)), λ l. (let m = f.1 (omega arith) in omega arith))
 
-placed_passing : (test : ℕ → Bool) (y : ℕ) (xs : List ℕ) (x : ℕ) → test y ≡ true → ((k : ℕ) → slice_get (filter test xs) k ≡ Some x → IsPlaced test xs k x) → (k : ℕ) → slice_get (y ∷ filter test xs) k ≡ Some x → IsPlaced test (y ∷ xs) k x
+placed_passing : (test : ℕ → Bool) (y : ℕ) (xs : List ℕ) (x : ℕ) → test y ≡ true → ((k : ℕ) → slice_get (filter test xs) k ≡ Some x → IsPlaced test xs k x)
+    → (k : ℕ) → slice_get (y ∷ filter test xs) k ≡ Some x → IsPlaced test (y ∷ xs) k x
 placed_passing test y xs x t rest zero f = let same : y ≡ x = same_Some y x f in rw (← same) (placed_first test y xs t)
 placed_passing test y xs x t rest (suc k) f = let z : cond true 1 0 + k ≡ suc k = omega arith in rw z at (placed_behind test y xs true k x t (rest k f))
 
@@ -61,7 +65,8 @@ pub passing_first : {X : Type 0} (p : X → Bool) (xs : List X) (n : ℕ) → Pa
 passing_first p xs n h i j d l m t = let f = (h j d m).0 t in (h i d (omega arith)).1 (omega arith)
 
 -- a search for the first that fails finds it
-pub point_is : {X : Type 0} (p : X → Bool) (xs : List X) (n i : ℕ) (d : X) → n ≤ length xs → i ≤ length xs → PassesBelow p xs n → IsPartitionPoint (λ y. p y ≡ true) (λ y. p y ≡ false) xs i → i ≡ n
+pub point_is : {X : Type 0} (p : X → Bool) (xs : List X) (n i : ℕ) (d : X) → n ≤ length xs → i ≤ length xs → PassesBelow p xs n
+    → IsPartitionPoint (λ y. p y ≡ true) (λ y. p y ≡ false) xs i → i ≡ n
 point_is p xs n i d a b h w =
     elim (cases_lt i n) [
       | inl less ↦ absurd (false≢true (sym (w.1 i d (omega arith) (omega arith)) ∙ (h i d (omega arith)).1 less))
@@ -85,7 +90,8 @@ abbrev pub is_below : List ℕ → ℕ → ℕ → Bool
 is_below labels label x = ltb (get_or labels x 0) label
 
 -- of a list in the order of all, those whose labels are below that of an id are before it
-labels_pass : (ids labels list : List ℕ) (id : ℕ) (test : ℕ → Bool) (place : ℕ) → AreLabelled ids labels → AreBelow ids (length labels) → list ≡ filter test ids → slice_get ids place ≡ Some id → PassesBelow (is_below labels (get_or labels id 0)) list (length (filter test (take place ids)))
+labels_pass : (ids labels list : List ℕ) (id : ℕ) (test : ℕ → Bool) (place : ℕ) → AreLabelled ids labels → AreBelow ids (length labels)
+    → list ≡ filter test ids → slice_get ids place ≡ Some id → PassesBelow (is_below labels (get_or labels id 0)) list (length (filter test (take place ids)))
 labels_pass ids labels list id test place labelled known e f k d l =
     let x = get_or list k d in
     let p = filter_place test ids k x (ap (λ xs. slice_get xs k) (sym e) ∙ slice_get-get_or list k d l) in
@@ -96,7 +102,8 @@ labels_pass ids labels list id test place labelled known e f k d l =
 
 -- the place that a search by labels gives counts those before the id
 pub counted : (ids labels list : List ℕ) (id i : ℕ) → AreLabelled ids labels → AreBelow ids (length labels) → i ≤ length list
-    → (IsPartitionedBy (is_below labels (get_or labels id 0)) list → IsPartitionPoint (λ x. is_below labels (get_or labels id 0) x ≡ true) (λ x. is_below labels (get_or labels id 0) x ≡ false) list i)
+    → (IsPartitionedBy (is_below labels (get_or labels id 0)) list
+    → IsPartitionPoint (λ x. is_below labels (get_or labels id 0) x ≡ true) (λ x. is_below labels (get_or labels id 0) x ≡ false) list i)
     → ListsBefore ids list id i
 counted ids labels list id i labelled known within point test place e f =
     let p = is_below labels (get_or labels id 0) in
@@ -135,7 +142,8 @@ filter_all : (t u : ℕ → Bool) (xs : List ℕ) → ((x : ℕ) → t x ≡ u x
 filter_all t u [] same = refl
 filter_all t u (x ∷ xs) same = rw (same x, filter_all t u xs same) refl
 
-has_first : (t : ℕ → Bool) (y : ℕ) (xs : List ℕ) (x : ℕ) → t y ≡ true → ((k : ℕ) → slice_get xs k ≡ Some x → t x ≡ true) → (k : ℕ) → slice_get (y ∷ xs) k ≡ Some x → t x ≡ true
+has_first : (t : ℕ → Bool) (y : ℕ) (xs : List ℕ) (x : ℕ) → t y ≡ true → ((k : ℕ) → slice_get xs k ≡ Some x → t x ≡ true) → (k : ℕ)
+    → slice_get (y ∷ xs) k ≡ Some x → t x ≡ true
 has_first t y xs x passes rest zero f = let same : y ≡ x = same_Some y x f in rw (← same) passes
 has_first t y xs x passes rest (suc k) f = rest k f
 
@@ -175,7 +183,8 @@ without_id : (t : ℕ → Bool) (id x : ℕ) → (x ≡ id → ⊥) → (not (na
 without_id t id x n = rw (neq_false x id n) refl
 
 -- if the id passes, it is in the list after those before it
-passing_at : (listed list : List ℕ) (t : ℕ → Bool) (id count place : ℕ) → list ≡ filter t listed → slice_get listed place ≡ Some id → ListsBefore listed list id count → t id ≡ true → slice_get list count ≡ Some id
+passing_at : (listed list : List ℕ) (t : ℕ → Bool) (id count place : ℕ) → list ≡ filter t listed → slice_get listed place ≡ Some id
+    → ListsBefore listed list id count → t id ≡ true → slice_get list count ≡ Some id
 passing_at listed list t id count place e f before passes =
     let b = before t place e f in
     let back = get_back (filter t (take place listed)) (id ∷ filter t (drop (suc place) listed)) 0 id refl in
@@ -183,7 +192,8 @@ passing_at listed list t id count place e f before passes =
     let all : list ≡ filter t (take place listed) ++ id ∷ filter t (drop (suc place) listed) = e ∙ (filter_split t listed place id f ∙ (rw passes refl)) in
     rw all (rw z at back)
 
-pub lists_at : (listed list : List ℕ) (id count place : ℕ) → Lists listed list id → slice_get listed place ≡ Some id → ListsBefore listed list id count → slice_get list count ≡ Some id
+pub lists_at : (listed list : List ℕ) (id count place : ℕ) → Lists listed list id → slice_get listed place ≡ Some id → ListsBefore listed list id count
+    → slice_get list count ≡ Some id
 lists_at listed list id count place (t, e, passes) f before = passing_at listed list t id count place e f before passes
 
 pub put_there : (listed list : List ℕ) (id k : ℕ) → slice_get list k ≡ Some id → ListsToo listed list list id
@@ -194,7 +204,8 @@ put_there listed list id k h t e =
       | inr other ↦ sym (with_id t id x other)
     ])
 
-pub put_new : (listed list : List ℕ) (id count place : ℕ) → AreDistinct listed → slice_get listed place ≡ Some id → ListsBefore listed list id count → (slice_get list count ≡ Some id → ⊥) → ListsToo listed list (insert list count id) id
+pub put_new : (listed list : List ℕ) (id count place : ℕ) → AreDistinct listed → slice_get listed place ≡ Some id → ListsBefore listed list id count
+    → (slice_get list count ≡ Some id → ⊥) → ListsToo listed list (insert list count id) id
 put_new listed list id count place d f before lacks t e =
     elim (cases_Bool (t id)) [
       | inl passes ↦ absurd (lacks (passing_at listed list t id count place e f before passes))
@@ -205,13 +216,15 @@ put_new listed list id count place d f before lacks t e =
           let old : list ≡ front ++ back = e ∙ (filter_split t listed place id f ∙ (rw fails refl)) in
           let passes : u id ≡ true = rw (eq-eqb id id refl) refl in
           let same_front : filter u (take place listed) ≡ front = filter_off u t id (take place listed) (lacks_front listed place id d f) (with_id t id) in
-          let same_back : filter u (drop (suc place) listed) ≡ back = filter_off u t id (drop (suc place) listed) (lacks_back listed place id d f) (with_id t id) in
+          let same_back : filter u (drop (suc place) listed) ≡ back =
+          filter_off u t id (drop (suc place) listed) (lacks_back listed place id d f) (with_id t id) in
           let new : filter u listed ≡ front ++ id ∷ back = filter_split u listed place id f ∙ (rw (passes, same_front, same_back) refl) in
           let b = before t place e f in
           rw (old, b) (insert_at front back id) ∙ sym new
     ]
 
-pub take_not : (listed list : List ℕ) (id count place : ℕ) → slice_get listed place ≡ Some id → ListsBefore listed list id count → (slice_get list count ≡ Some id → ⊥) → ListsNoMore listed list list id
+pub take_not : (listed list : List ℕ) (id count place : ℕ) → slice_get listed place ≡ Some id → ListsBefore listed list id count
+    → (slice_get list count ≡ Some id → ⊥) → ListsNoMore listed list list id
 take_not listed list id count place f before lacks t e =
     elim (cases_Bool (t id)) [
       | inl passes ↦ absurd (lacks (passing_at listed list t id count place e f before passes))
@@ -221,7 +234,8 @@ take_not listed list id count place f before lacks t e =
       ])
     ]
 
-pub take_there : (listed list : List ℕ) (id count place : ℕ) → AreDistinct listed → slice_get listed place ≡ Some id → ListsBefore listed list id count → slice_get list count ≡ Some id → ListsNoMore listed list (remove list count) id
+pub take_there : (listed list : List ℕ) (id count place : ℕ) → AreDistinct listed → slice_get listed place ≡ Some id → ListsBefore listed list id count
+    → slice_get list count ≡ Some id → ListsNoMore listed list (remove list count) id
 take_there listed list id count place d f before h t e =
     let u : ℕ → Bool = λ x. not (nat_eq x id) && t x in
     let front = filter t (take place listed) in
@@ -230,7 +244,8 @@ take_there listed list id count place d f before h t e =
     let old : list ≡ front ++ id ∷ back = e ∙ (filter_split t listed place id f ∙ (rw passes refl)) in
     let fails : u id ≡ false = rw (eq-eqb id id refl) refl in
     let same_front : filter u (take place listed) ≡ front = filter_off u t id (take place listed) (lacks_front listed place id d f) (without_id t id) in
-    let same_back : filter u (drop (suc place) listed) ≡ back = filter_off u t id (drop (suc place) listed) (lacks_back listed place id d f) (without_id t id) in
+    let same_back : filter u (drop (suc place) listed) ≡ back =
+    filter_off u t id (drop (suc place) listed) (lacks_back listed place id d f) (without_id t id) in
     let new : filter u listed ≡ front ++ back = filter_split u listed place id f ∙ (rw (fails, same_front, same_back) refl) in
     let b = before t place e f in
     rw (old, b) (remove_at front back id) ∙ sym new

@@ -1,5 +1,6 @@
 -- What an order of ids keeps as an id is put in or taken out.
-use Rattle.std.proofs.Common.{◌≡◌, ℕ, zero, suc, ◌+◌, ◌^◌, ◌<◌, ◌≤◌, ◌⊎◌, inl, inr, List, [], ◌∷◌, ◌++◌, length, set, Some, slice_get, refl, sym, ◌∙◌, ap, arith, length-set, length-append}
+use Rattle.std.proofs.Common.{◌≡◌, ℕ, zero, suc, ◌+◌, ◌^◌, ◌<◌, ◌≤◌, ◌⊎◌, inl, inr, List, [], ◌∷◌, ◌++◌, length, set, Some, slice_get, refl, sym, ◌∙◌, ap}
+use Rattle.std.proofs.Common.{arith, length-set, length-append}
 use Rattle.std.specs.List.{insert, remove}
 use Rattle.std.proofs.lemmas.Option.{same_Some, none-some, slice_get_within}
 use Rattle.base_index.specs.inside.Labels.{HasLabel, AreLabelled, FitsAt}
@@ -9,7 +10,8 @@ use Rattle.ti_text.proofs.Lists.{get_front, get_last, push_cases, get-set_same, 
 
 -- ---- elements of a list that one was put into, or taken out of
 
-pub insert_cases : (xs : List ℕ) (p x i y : ℕ) → p ≤ length xs → slice_get (insert xs p x) i ≡ Some y → ((i < p) × (slice_get xs i ≡ Some y)) ⊎ (((i ≡ p) × (y ≡ x)) ⊎ ((j : ℕ) × (i ≡ suc j) × (p ≤ j) × (slice_get xs j ≡ Some y)))
+pub insert_cases : (xs : List ℕ) (p x i y : ℕ) → p ≤ length xs → slice_get (insert xs p x) i ≡ Some y → ((i < p) × (slice_get xs i ≡ Some y))
+    ⊎ (((i ≡ p) × (y ≡ x)) ⊎ ((j : ℕ) × (i ≡ suc j) × (p ≤ j) × (slice_get xs j ≡ Some y)))
 insert_cases xs zero x zero y l e = inr (inl (refl, sym (same_Some x y e)))
 insert_cases xs zero x (suc i) y l e = inr (inr (i, refl, omega arith, e))
 insert_cases [] (suc p) x i y l e = absurd (omega arith)
@@ -23,7 +25,8 @@ insert_cases (z ∷ xs) (suc p) x (suc i) y l e =
       ]
     ]
 
-pub remove_cases : (xs : List ℕ) (p i y : ℕ) → slice_get (remove xs p) i ≡ Some y → ((i < p) × (slice_get xs i ≡ Some y)) ⊎ ((p ≤ i) × (slice_get xs (suc i) ≡ Some y))
+pub remove_cases : (xs : List ℕ) (p i y : ℕ) → slice_get (remove xs p) i ≡ Some y → ((i < p) × (slice_get xs i ≡ Some y))
+    ⊎ ((p ≤ i) × (slice_get xs (suc i) ≡ Some y))
 remove_cases [] zero i y e = absurd (none-some y e)
 remove_cases [] (suc p) i y e = absurd (none-some y e)
 remove_cases (z ∷ xs) zero i y e = inr (omega arith, e)
@@ -46,7 +49,8 @@ length-remove_at (z ∷ xs) (suc p) l = ap suc (length-remove_at xs p (omega ari
 
 -- ---- labels given anew
 
-pub order_relabelled : (ids labels new free : List ℕ) (m n : ℕ) → IsOrder ids labels free m n → AreLabelled ids new → length new ≡ length labels → IsOrder ids new free m n
+pub order_relabelled : (ids labels new free : List ℕ) (m n : ℕ) → IsOrder ids labels free m n → AreLabelled ids new → length new ≡ length labels
+    → IsOrder ids new free m n
 order_relabelled ids labels new free m n h labelled same = record {
   labelled = labelled;
   ids_known = rw same h.ids_known;
@@ -85,7 +89,8 @@ label_cases ids labels free rest m n p id x h f l i y (a, e, b) =
       ]
     ]
 
-labelled_inserted : (ids labels free rest : List ℕ) (m n p id x : ℕ) → IsOrder ids labels free m n → free ≡ rest ++ id ∷ [] → p ≤ length ids → FitsAt ids labels p x → AreLabelled (insert ids p id) (set labels id x)
+labelled_inserted : (ids labels free rest : List ℕ) (m n p id x : ℕ) → IsOrder ids labels free m n → free ≡ rest ++ id ∷ [] → p ≤ length ids
+    → FitsAt ids labels p x → AreLabelled (insert ids p id) (set labels id x)
 labelled_inserted ids labels free rest m n p id x h f l fits =
     let cases = label_cases ids labels free rest m n p id x h f l in
     record {
@@ -130,7 +135,8 @@ labelled_inserted ids labels free rest m n p id x h f l fits =
       ];
     }
 
-pub order_inserted : (ids labels free rest : List ℕ) (m n o q p id x : ℕ) → IsOrder ids labels free m n → free ≡ rest ++ id ∷ [] → p ≤ length ids → FitsAt ids labels p x → m ≤ o → n ≤ q → IsOrder (insert ids p id) (set labels id x) rest o q
+pub order_inserted : (ids labels free rest : List ℕ) (m n o q p id x : ℕ) → IsOrder ids labels free m n → free ≡ rest ++ id ∷ [] → p ≤ length ids
+    → FitsAt ids labels p x → m ≤ o → n ≤ q → IsOrder (insert ids p id) (set labels id x) rest o q
 order_inserted ids labels free rest m n o q p id x h f l fits wide wide_free =
     let known = h.free_known (length rest) id (rw f (get_last rest id)) in
     let many = length-set labels id x in
@@ -151,7 +157,8 @@ order_inserted ids labels free rest m n o q p id x h f l fits wide wide_free =
           | inl j_before ↦ h.ids_distinct i j a i_before.1 j_before.1
           | inr j_late ↦ elim j_late [
             | inl j_here ↦ absurd (lacks (i, rw j_here.1 at i_before.1))
-            | inr j_behind ↦ (let same = h.ids_distinct i j_behind.0 a i_before.1 j_behind.3 in let r = i_before.0 in let s = j_behind.2 in absurd (omega arith))
+            | inr j_behind ↦ (let same = h.ids_distinct i j_behind.0 a i_before.1 j_behind.3 in let r = i_before.0 in let s = j_behind.2 in
+                absurd (omega arith))
           ]
         ]
         | inr i_late ↦ elim i_late [
@@ -163,7 +170,8 @@ order_inserted ids labels free rest m n o q p id x h f l fits wide wide_free =
             ]
           ]
           | inr i_behind ↦ elim (insert_cases ids p id j a l g) [
-            | inl j_before ↦ (let same = h.ids_distinct i_behind.0 j a i_behind.3 j_before.1 in let r = i_behind.2 in let s = j_before.0 in absurd (omega arith))
+            | inl j_before ↦ (let same = h.ids_distinct i_behind.0 j a i_behind.3 j_before.1 in let r = i_behind.2 in let s = j_before.0 in
+                absurd (omega arith))
             | inr j_late ↦ elim j_late [
               | inl j_here ↦ absurd (lacks (i_behind.0, rw j_here.1 at i_behind.3))
               | inr j_behind ↦ i_behind.1 ∙ (ap suc (h.ids_distinct i_behind.0 j_behind.0 a i_behind.3 j_behind.3) ∙ sym j_behind.1)
@@ -189,7 +197,8 @@ order_inserted ids labels free rest m n o q p id x h f l fits wide wide_free =
 
 -- ---- an id is taken out
 
-remove_places : (xs : List ℕ) (p i y : ℕ) → slice_get (remove xs p) i ≡ Some y → (j : ℕ) × (slice_get xs j ≡ Some y) × (((i < p) × (j ≡ i)) ⊎ ((p ≤ i) × (j ≡ suc i)))
+remove_places : (xs : List ℕ) (p i y : ℕ) → slice_get (remove xs p) i ≡ Some y → (j : ℕ) × (slice_get xs j ≡ Some y)
+    × (((i < p) × (j ≡ i)) ⊎ ((p ≤ i) × (j ≡ suc i)))
 remove_places xs p i y e = elim (remove_cases xs p i y e) [
   | inl before ↦ (i, before.1, inl (before.0, refl))
   | inr behind ↦ (suc i, behind.1, inr (behind.0, refl))
@@ -208,7 +217,8 @@ places_once p i j a b l (inl x) (inr y) = (let q = x in let r = y in omega (arit
 places_once p i j a b l (inr x) (inl y) = omega (arith, x.0, x.1, y.0, y.1)
 places_once p i j a b l (inr x) (inr y) = (let q = x.1 in let r = y.1 in omega arith)
 
-pub order_removed : (ids labels free : List ℕ) (m n o q p id : ℕ) → IsOrder ids labels free m n → slice_get ids p ≡ Some id → m ≤ o → n ≤ q → IsOrder (remove ids p) labels (free ++ id ∷ []) o q
+pub order_removed : (ids labels free : List ℕ) (m n o q p id : ℕ) → IsOrder ids labels free m n → slice_get ids p ≡ Some id → m ≤ o → n ≤ q
+    → IsOrder (remove ids p) labels (free ++ id ∷ []) o q
 order_removed ids labels free m n o q p id h here wide wide_free = record {
   labelled = record {
     rises = λ i j x y l a b.
@@ -253,7 +263,8 @@ order_removed ids labels free m n o q p id h here wide wide_free = record {
 
 -- ---- one more id
 
-pub order_reserved : (ids labels free : List ℕ) (m n o q : ℕ) → IsOrder ids labels free m n → length free ≡ 0 → length ids < 2 ^ 31 → length labels + 1 ≤ o → length labels + 1 ≤ q → IsOrder ids (labels ++ 0 ∷ []) (free ++ length labels ∷ []) o q
+pub order_reserved : (ids labels free : List ℕ) (m n o q : ℕ) → IsOrder ids labels free m n → length free ≡ 0 → length ids < 2 ^ 31 → length labels + 1 ≤ o
+    → length labels + 1 ≤ q → IsOrder ids (labels ++ 0 ∷ []) (free ++ length labels ∷ []) o q
 order_reserved ids labels free m n o q h empty few wide wide_free =
     let none : (i a : ℕ) → slice_get free i ≡ Some a → ⊥ = λ i a e. (let l = slice_get_within free i a e in omega arith) in
     let old : (i x : ℕ) → HasLabel ids (labels ++ 0 ∷ []) i x → HasLabel ids labels i x = λ i x (a, e, b). (

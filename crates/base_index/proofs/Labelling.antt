@@ -13,7 +13,8 @@ pub record AreSpaced (ids labels : List ℕ) (step count : ℕ) : Type 0 where
 pub spaced_none : (ids labels : List ℕ) (step : ℕ) → AreSpaced ids labels step 0
 spaced_none ids labels step = record { spaced = λ i id l. absurd (omega arith) }
 
-pub spaced_more : (ids labels : List ℕ) (step i id : ℕ) → AreSpaced ids labels step i → slice_get ids i ≡ Some id → id < length labels → AreDistinct ids → AreSpaced ids (set labels id ((i + 1) * step)) step (i + 1)
+pub spaced_more : (ids labels : List ℕ) (step i id : ℕ) → AreSpaced ids labels step i → slice_get ids i ≡ Some id → id < length labels → AreDistinct ids
+    → AreSpaced ids (set labels id ((i + 1) * step)) step (i + 1)
 spaced_more ids labels step i id h here within distinct =
     let x = item_at labels id within in
     let new = get-set_same labels id x.0 ((i + 1) * step) x.1 in
@@ -46,7 +47,8 @@ spaced_labelled ids labels h few = record {
       omega arith;
 }
 
-pub spaced_gap : (ids labels : List ℕ) (position low high : ℕ) → AreSpaced ids labels 4294967296 (length ids) → length ids < 2147483648 → position ≤ length ids → IsGap ids labels position low high → low + 1 < high
+pub spaced_gap : (ids labels : List ℕ) (position low high : ℕ) → AreSpaced ids labels 4294967296 (length ids) → length ids < 2147483648
+    → position ≤ length ids → IsGap ids labels position low high → low + 1 < high
 spaced_gap ids labels position low high h few within gap =
     elim gap.low_label [
       | inl first ↦ elim gap.high_label [
@@ -68,7 +70,8 @@ same_label ids labels i x y (a, e, f) (b, p, q) =
     same_Some x y (sym f ∙ (ap (slice_get labels) same ∙ q))
 
 -- what lies between the neighbours' labels fits
-pub gap_fits : (ids labels : List ℕ) (position low high label : ℕ) → AreLabelled ids labels → IsGap ids labels position low high → position ≤ length ids → low < label → label < high → FitsAt ids labels position label
+pub gap_fits : (ids labels : List ℕ) (position low high label : ℕ) → AreLabelled ids labels → IsGap ids labels position low high → position ≤ length ids
+    → low < label → label < high → FitsAt ids labels position label
 gap_fits ids labels position low high label h gap within above below = record {
   behind = λ i x l e. elim gap.low_label [
     | inl first ↦ (let a = first.0 in absurd (omega arith))

@@ -19,7 +19,8 @@ filter-inserted (x ∷ listed) (suc p) id test fails =
       | inr t ↦ rw (t, rest) refl
     ]
 
-filter-removed : (listed : List ℕ) (position id : ℕ) (test : ℕ → Bool) → slice_get listed position ≡ Some id → test id ≡ false → filter test (remove listed position) ≡ filter test listed
+filter-removed : (listed : List ℕ) (position id : ℕ) (test : ℕ → Bool) → slice_get listed position ≡ Some id → test id ≡ false
+    → filter test (remove listed position) ≡ filter test listed
 filter-removed [] p id test e fails = absurd (none-some id e)
 filter-removed (x ∷ listed) zero id test e fails =
     let same : test x ≡ false = ap test (same_Some x id e) ∙ fails in rw same refl
@@ -40,13 +41,15 @@ agreeing_lists (x ∷ listed) test other same =
     let rest = agreeing_lists listed test other (λ i id e. same (suc i) id e) in
     rw (here, rest) refl
 
-passes_later : (x : ℕ) (listed : List ℕ) (test : ℕ → Bool) (id : ℕ) → test x ≡ false → (position : ℕ) × IsFirstPassing listed test position id → (position : ℕ) × IsFirstPassing (x ∷ listed) test position id
+passes_later : (x : ℕ) (listed : List ℕ) (test : ℕ → Bool) (id : ℕ) → test x ≡ false → (position : ℕ) × IsFirstPassing listed test position id
+    → (position : ℕ) × IsFirstPassing (x ∷ listed) test position id
 passes_later x listed test id fails (p, h) = (suc p, record { stands = h.stands; passes = h.passes; first = before }) where
   before : (b other : ℕ) → b < suc p → slice_get (x ∷ listed) b ≡ Some other → test other ≡ false
   before zero other l e = ap test (sym (same_Some x other e)) ∙ fails
   before (suc b) other l e = h.first b other (omega arith) e
 
-first_passing : (listed : List ℕ) (test : ℕ → Bool) (id : ℕ) → slice_get (filter test listed) 0 ≡ Some id → (position : ℕ) × IsFirstPassing listed test position id
+first_passing : (listed : List ℕ) (test : ℕ → Bool) (id : ℕ) → slice_get (filter test listed) 0 ≡ Some id → (position : ℕ)
+    × IsFirstPassing listed test position id
 first_passing [] test id e = absurd (none-some id e)
 first_passing (x ∷ listed) test id e =
     elim (cases_Bool (test x)) [
@@ -63,7 +66,8 @@ none_passing (x ∷ listed) test e p id f =
       | inl t ↦ (let some : x ∷ filter test listed ≡ [] = rw t at e in cc)
       | inr t ↦ fails_on t (rw t at e) (none_passing listed test (rw t at e)) p f
     ] where
-      fails_on : test x ≡ false → filter test listed ≡ [] → ((q y : ℕ) → slice_get listed q ≡ Some y → test y ≡ false) → (q : ℕ) → slice_get (x ∷ listed) q ≡ Some id → test id ≡ false
+      fails_on : test x ≡ false → filter test listed ≡ [] → ((q y : ℕ) → slice_get listed q ≡ Some y → test y ≡ false) → (q : ℕ)
+          → slice_get (x ∷ listed) q ≡ Some id → test id ≡ false
       fails_on t g rest zero h = ap test (sym (same_Some x id h)) ∙ t
       fails_on t g rest (suc q) h = rest q id h
 

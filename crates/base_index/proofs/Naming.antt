@@ -1,5 +1,6 @@
 -- What a change at one name leaves at the others.
-use Rattle.std.proofs.Common.{◌≡◌, ◌≢◌, ℕ, ◌≤◌, ◌⊎◌, inl, inr, Bool, true, false, cond, not, ◌&&◌, nat_eq, List, [], ◌∷◌, length, filter, Option, Some, None, refl, sym, ◌∙◌, ap, arith}
+use Rattle.std.proofs.Common.{◌≡◌, ◌≢◌, ℕ, ◌≤◌, ◌⊎◌, inl, inr, Bool, true, false, cond, not, ◌&&◌, nat_eq, List, [], ◌∷◌, length, filter, Option, Some}
+use Rattle.std.proofs.Common.{None, refl, sym, ◌∙◌, ap, arith}
 use Rattle.std.specs.Option.{option_map_or, is_some}
 use Rattle.std.specs.Vec.{vec_capacity}
 use Rattle.std.specs.Ordering.{is_eq, nat_cmp, eq_by_cmp}
@@ -18,20 +19,25 @@ use Rattle.base_index.specs.Listing.{ListsNoMore}
 use Rattle.base_index.specs.Laws.{ListsFit}
 use Rattle.base_index.specs.Names.{found_in, mentions_at, holders_at, users_at, IsSeenSame, KeepsCapacity, KeepsOthers}
 
-other_entries : {K X : Type 0} (eq : K → K → Bool) (test : K → Bool) (old new : List (K × X)) → KeepsOtherKeys eq test old new → (other : K → Bool) → IsKeyTest eq other → AreApart test other → lookup other new ≡ lookup other old
+other_entries : {K X : Type 0} (eq : K → K → Bool) (test : K → Bool) (old new : List (K × X)) → KeepsOtherKeys eq test old new → (other : K → Bool)
+    → IsKeyTest eq other → AreApart test other → lookup other new ≡ lookup other old
 unfolding KeepsOtherKeys
 other_entries eq test old new h = h
 
 apart : (name other key : List ℕ) → bytes_eq name other ≡ false → bytes_eq name key ≡ true → bytes_eq other key ≡ false
 apart name other key n y = nat_list_eq_equiv.symm other key ∙ (sym (nat_list_eq_equiv.congr name key other y) ∙ n)
 
-apart_in_order : (name other key : List ℕ) → bytes_eq name other ≡ false → is_eq (slice_cmp nat_cmp name key) ≡ true → is_eq (slice_cmp nat_cmp other key) ≡ false
+apart_in_order : (name other key : List ℕ) → bytes_eq name other ≡ false → is_eq (slice_cmp nat_cmp name key) ≡ true
+    → is_eq (slice_cmp nat_cmp other key) ≡ false
 apart_in_order name other key n y = is_eq-slice_cmp other key ∙ apart name other key n (sym (is_eq-slice_cmp name key) ∙ y)
 
-pub others_kept : (name : List ℕ) (old new : BTreeMap (Vec ℕ Global) Mentions) (value : Option Mentions) → UpdatesBy (λ x y. slice_cmp nat_cmp x.items y.items) (λ key. slice_cmp nat_cmp name key.items) old new value → (other : List ℕ) → other ≢ name → found_in new other ≡ found_in old other
+pub others_kept : (name : List ℕ) (old new : BTreeMap (Vec ℕ Global) Mentions) (value : Option Mentions)
+    → UpdatesBy (λ x y. slice_cmp nat_cmp x.items y.items) (λ key. slice_cmp nat_cmp name key.items) old new value → (other : List ℕ) → other ≢ name
+    → found_in new other ≡ found_in old other
 others_kept name old new value h other n =
     let different : bytes_eq name other ≡ false = false_from_ne_true (bytes_eq name other) (λ t. n (sym ((bytes_decides name other).0 t))) in
-    other_entries (eq_by_cmp (λ (x y : Vec ℕ Global). slice_cmp nat_cmp x.items y.items)) (is_at (λ (key : Vec ℕ Global). slice_cmp nat_cmp name key.items)) old.entries new.entries h.3
+    other_entries (eq_by_cmp (λ (x y : Vec ℕ Global). slice_cmp nat_cmp x.items y.items)) (is_at (λ (key : Vec ℕ Global). slice_cmp nat_cmp name key.items))
+    old.entries new.entries h.3
     (is_at (λ (key : Vec ℕ Global). slice_cmp nat_cmp other key.items))
     (λ x y. (eq_by_cmp_equiv nat_list_cmp_total).congr other x.items y.items) (λ key. apart_in_order name other key.items different)
 

@@ -10,7 +10,8 @@ label_read : (ids labels : List ℕ) (i id : ℕ) → AreBelow ids (length label
 label_read ids labels i id known e = (id, e, slice_get-get_or labels id 0 (known i id e))
 
 -- labels say which of two is first
-pub labels_decide_before : (ids labels : List ℕ) (i j one other : ℕ) → AreLabelled ids labels → AreBelow ids (length labels) → slice_get ids i ≡ Some one → slice_get ids j ≡ Some other → (get_or labels one 0 < get_or labels other 0 → i < j) × (i < j → get_or labels one 0 < get_or labels other 0)
+pub labels_decide_before : (ids labels : List ℕ) (i j one other : ℕ) → AreLabelled ids labels → AreBelow ids (length labels) → slice_get ids i ≡ Some one
+    → slice_get ids j ≡ Some other → (get_or labels one 0 < get_or labels other 0 → i < j) × (i < j → get_or labels one 0 < get_or labels other 0)
 labels_decide_before ids labels i j one other labelled known e f =
     let a = label_read ids labels i one known e in
     let b = label_read ids labels j other known f in (

@@ -1,5 +1,6 @@
 -- The owner of a name that leads back to its user does not resolve.
-use Rattle.std.proofs.Common.{◌≡◌, ℕ, zero, suc, ◌+◌, ◌<◌, ◌≤◌, inl, inr, Bool, true, false, cond, List, [], ◌∷◌, length, Option, Some, None, option_and_then, slice_get, sym, ◌∙◌, arith}
+use Rattle.std.proofs.Common.{◌≡◌, ℕ, zero, suc, ◌+◌, ◌<◌, ◌≤◌, inl, inr, Bool, true, false, cond, List, [], ◌∷◌, length, Option, Some, None}
+use Rattle.std.proofs.Common.{option_and_then, slice_get, sym, ◌∙◌, arith}
 use Rattle.std.proofs.lemmas.Bool.{cases_Bool}
 use Rattle.std.proofs.lemmas.Option.{none-some}
 use Rattle.ti_source.specs.Reading.{Reading, ReadItem}
@@ -17,7 +18,8 @@ use Rattle.base_meaning.proofs.Leading.{leads_to-LeadsTo}
 abbrev IsDeep : (List ℕ → Option Reading) → ℕ → List ℕ → Type 0
 IsDeep env k name = (ms : List Mention) × (names_at env k name ≡ Some ms)
 
-pub used_is_there : (f : List ℕ → Option (List Mention)) (items : List ReadItem) (name : List ℕ) (ms : List Mention) → Uses items name → expand_items f items ≡ Some ms → (ns : List Mention) × (f name ≡ Some ns)
+pub used_is_there : (f : List ℕ → Option (List Mention)) (items : List ReadItem) (name : List ℕ) (ms : List Mention) → Uses items name
+    → expand_items f items ≡ Some ms → (ns : List Mention) × (f name ≡ Some ns)
 used_is_there f [] name ms u e = absurd u
 used_is_there f (i ∷ is) name ms (inl here) e =
     let p = joined_parts (mentions_of f i.said) (expand_items f is) ms e in
@@ -31,12 +33,14 @@ if_there true o ms e = absurd (none-some ms e)
 if_there false o ms e = e
 
 -- what the owner of a deep name uses is one less deep
-step_down : (env : List ℕ → Option Reading) (k : ℕ) (name next : List ℕ) (b : Reading) → IsDeep env (suc k) name → env name ≡ Some b → Uses b.items next → IsDeep env k next
+step_down : (env : List ℕ → Option Reading) (k : ℕ) (name next : List ℕ) (b : Reading) → IsDeep env (suc k) name → env name ≡ Some b → Uses b.items next
+    → IsDeep env k next
 step_down env k name next b d e u =
     let whole : expand env (suc k) b ≡ Some d.0 = rw e at d.1 in
     used_is_there (names_at env k) b.items next d.0 u (if_there (is_broken b) (expand_items (names_at env k) b.items) d.0 whole)
 
-along : (env : List ℕ → Option Reading) (way : List (List ℕ)) (k : ℕ) (name to : List ℕ) → IsDeep env (length way + k) name → IsUseWay env name way to → IsDeep env k to
+along : (env : List ℕ → Option Reading) (way : List (List ℕ)) (k : ℕ) (name to : List ℕ) → IsDeep env (length way + k) name → IsUseWay env name way to
+    → IsDeep env k to
 along env [] k name to d w = let z : 0 + k ≡ k = omega arith in rw (w, z) at d
 along env (x ∷ way) k name to d w =
     let z : suc (length way) + k ≡ suc (length way + k) = omega arith in
@@ -56,7 +60,8 @@ never_shallow : (env : List ℕ → Option Reading) (name : List ℕ) → IsDeep
 never_shallow env name d =
     elim (env name) as (λ o. option_and_then (expand env 0) o ≡ Some d.0 → ⊥) [ None ↦ λ e. none-some d.0 e | Some b ↦ λ e. none-some d.0 e ] d.1
 
-module _ (env : List ℕ → Option Reading) (name to : List ℕ) (way : List (List ℕ)) (b : Reading) (w : IsUseWay env name way to) (e : env to ≡ Some b) (u : Uses b.items name) where
+module _ (env : List ℕ → Option Reading) (name to : List ℕ) (way : List (List ℕ)) (b : Reading) (w : IsUseWay env name way to) (e : env to ≡ Some b)
+    (u : Uses b.items name) where
   around : (k : ℕ) → IsDeep env (suc (length way) + k) name → IsDeep env k name
   around k d =
       let z : suc (length way) + k ≡ length way + suc k = omega arith in
@@ -73,7 +78,8 @@ module _ (env : List ℕ → Option Reading) (name to : List ℕ) (way : List (L
       descend k (d.0, names_at-le env k (times k (suc (length way))) deep name d.0 d.1)
 
 -- a use whose owner resolves does not lead back
-pub resolved_not_circular : (bs : List Reading) (at : ℕ) (b c : Reading) (name : List ℕ) (ms : List Mention) → slice_get bs at ≡ Some b → Uses b.items name → owner_block bs name ≡ Some c → expansion bs c ≡ Some ms → leads_to bs name at ≡ false
+pub resolved_not_circular : (bs : List Reading) (at : ℕ) (b c : Reading) (name : List ℕ) (ms : List Mention) → slice_get bs at ≡ Some b → Uses b.items name
+    → owner_block bs name ≡ Some c → expansion bs c ≡ Some ms → leads_to bs name at ≡ false
 resolved_not_circular bs at b c name ms s u o x =
     elim (cases_Bool (leads_to bs name at)) [
       | inr missing ↦ missing

@@ -5,21 +5,26 @@ use Rattle.ti_source.specs.declared.code.Code.{Code}
 use Rattle.ti_source.specs.Reading.{Reading, ReadItem, ReadFault}
 use Rattle.base_meaning.specs.Reaching.{used_name}
 use Rattle.base_meaning.specs.Compiled.{EntryState, unresolved, oversized, written, state_of}
-use Rattle.base_meaning.specs.Faults.{SourceFault, local_fault, local_faults, is_kept, is_owned_before, distinct, name_fault, name_faults, use_fault, fault_of_use, fault_of_item, faults_before, faults_from, item_faults, entry_faults, block_faults, faults_after, faults}
+use Rattle.base_meaning.specs.Faults.{SourceFault, local_fault, local_faults, is_kept, is_owned_before, distinct, name_fault, name_faults, use_fault}
+use Rattle.base_meaning.specs.Faults.{fault_of_use, fault_of_item, faults_before, faults_from, item_faults, entry_faults, block_faults, faults_after}
+use Rattle.base_meaning.specs.Faults.{faults}
 use Rattle.base_meaning.specs.Usable.{IsLine, IsUsable, IsPlaced}
 
 module _ (bs : List Reading) (n at : ℕ) (within : at < n) where
   locals_placed : (fs : List ReadFault) → All (λ (f : ReadFault). IsLine f.line) fs → All (IsPlaced n) (map (local_fault at) fs)
-  locals_placed fs h = All-map (IsPlaced n) (local_fault at) fs (All-weaker (λ (f : ReadFault). IsLine f.line) (λ f. IsPlaced n (local_fault at f)) (λ f l. (within, l)) fs h)
+  locals_placed fs h = All-map (IsPlaced n) (local_fault at) fs
+      (All-weaker (λ (f : ReadFault). IsLine f.line) (λ f. IsPlaced n (local_fault at f)) (λ f l. (within, l)) fs h)
 
   names_placed : (names : List (List ℕ)) → All (IsPlaced n) (map (name_fault at) names)
   names_placed names = All-map (IsPlaced n) (name_fault at) names (λ k d l. (within, (omega arith, omega arith)))
 
-  before_kept : (ordinal : ℕ) (fs : List ReadFault) → All (λ (f : ReadFault). IsLine f.line) fs → All (λ (f : ReadFault). IsLine f.line) (faults_before ordinal fs)
+  before_kept : (ordinal : ℕ) (fs : List ReadFault) → All (λ (f : ReadFault). IsLine f.line) fs
+      → All (λ (f : ReadFault). IsLine f.line) (faults_before ordinal fs)
   before_kept ordinal [] h = h
   before_kept ordinal (f ∷ fs) h =
       elim (nat_lt f.ordinal ordinal) as (λ v. All (λ (g : ReadFault). IsLine g.line) (cond v (f ∷ faults_before ordinal fs) [])) [
-        | true ↦ All-cons (λ (g : ReadFault). IsLine g.line) f (faults_before ordinal fs) (All-head (λ (g : ReadFault). IsLine g.line) f fs h) (before_kept ordinal fs (All-tail (λ (g : ReadFault). IsLine g.line) f fs h))
+        | true ↦ All-cons (λ (g : ReadFault). IsLine g.line) f (faults_before ordinal fs) (All-head (λ (g : ReadFault). IsLine g.line) f fs h)
+            (before_kept ordinal fs (All-tail (λ (g : ReadFault). IsLine g.line) f fs h))
         | false ↦ All-nil (λ (g : ReadFault). IsLine g.line)
       ]
 
@@ -42,10 +47,12 @@ module _ (bs : List Reading) (n at : ℕ) (within : at < n) where
   item_placed line None l = All-nil (IsPlaced n)
   item_placed line (Some name) l = use_placed line name (use_fault bs at name) l
 
-  items_placed : (fs : List ReadFault) (items : List ReadItem) → All (λ (f : ReadFault). IsLine f.line) fs → All (λ (i : ReadItem). IsLine i.line) items → All (IsPlaced n) (item_faults bs at fs items)
+  items_placed : (fs : List ReadFault) (items : List ReadItem) → All (λ (f : ReadFault). IsLine f.line) fs → All (λ (i : ReadItem). IsLine i.line) items
+      → All (IsPlaced n) (item_faults bs at fs items)
   items_placed fs [] h k = locals_placed fs h
   items_placed fs (i ∷ is) h k =
-      All-append (IsPlaced n) (map (local_fault at) (faults_before i.ordinal fs)) (fault_of_item bs at i.line (used_name i.said) ++ item_faults bs at (faults_from i.ordinal fs) is)
+      All-append (IsPlaced n) (map (local_fault at) (faults_before i.ordinal fs))
+      (fault_of_item bs at i.line (used_name i.said) ++ item_faults bs at (faults_from i.ordinal fs) is)
       (locals_placed (faults_before i.ordinal fs) (before_kept i.ordinal fs h))
       (All-append (IsPlaced n) (fault_of_item bs at i.line (used_name i.said)) (item_faults bs at (faults_from i.ordinal fs) is)
       (item_placed i.line (used_name i.said) (All-head (λ (j : ReadItem). IsLine j.line) i is k))
@@ -61,10 +68,12 @@ module _ (bs : List Reading) (n at : ℕ) (within : at < n) where
       let keeps = λ (v : Bool). All-filter (is_kept v) (λ (f : ReadFault). IsLine f.line) b.faults h.fault_lines in
       All-append (IsPlaced n) (local_faults true at b.faults) _ (locals_placed (filter (is_kept true) b.faults) (keeps true))
       (All-append (IsPlaced n) (name_faults bs at b.names) _ (names_placed (filter (is_owned_before bs at) (distinct b.names)))
-      (All-append (IsPlaced n) (item_faults bs at (filter (is_kept false) b.faults) b.items) _ (items_placed (filter (is_kept false) b.faults) b.items (keeps false) h.item_lines)
+      (All-append (IsPlaced n) (item_faults bs at (filter (is_kept false) b.faults) b.items) _
+      (items_placed (filter (is_kept false) b.faults) b.items (keeps false) h.item_lines)
       (entry_placed b.names (state_of bs b))))
 
-faults_after_placed : (bs : List Reading) (n at : ℕ) (rest : List Reading) → at + length rest ≤ n → All IsUsable rest → All (IsPlaced n) (faults_after bs at rest)
+faults_after_placed : (bs : List Reading) (n at : ℕ) (rest : List Reading) → at + length rest ≤ n → All IsUsable rest
+    → All (IsPlaced n) (faults_after bs at rest)
 faults_after_placed bs n at [] l h = All-nil (IsPlaced n)
 faults_after_placed bs n at (b ∷ rest) l h =
     All-append (IsPlaced n) (block_faults bs at b) (faults_after bs (suc at) rest)

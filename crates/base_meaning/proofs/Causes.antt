@@ -5,7 +5,8 @@ use Rattle.base_meaning.specs.declared.edits.EditError.TheVariants.{Position, To
 use Rattle.base_meaning.specs.Edits.{Change, EditsHaveOneCause, IsRefusal, IsSoundEdit}
 
 -- what is refused for another cause than out of memory is not sound
-pub refused_unsound : (texts : List (List ℕ)) (change : Change) (cause : EditError) → (cause ≡ Memory → ⊥) → IsRefusal texts change cause → IsSoundEdit texts change → ⊥
+pub refused_unsound : (texts : List (List ℕ)) (change : Change) (cause : EditError) → (cause ≡ Memory → ⊥) → IsRefusal texts change cause
+    → IsSoundEdit texts change → ⊥
 refused_unsound texts change Position apart r sound = r sound.in_place
 refused_unsound texts change TooLong apart r sound = r.1 sound.short
 refused_unsound texts change NotOneBlock apart r sound = r.2 sound.block

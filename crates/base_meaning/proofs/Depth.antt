@@ -1,6 +1,7 @@
 -- How deep a block has to be expanded: once there is an expansion, a deeper one is equal, and one
 -- level for each block of the list suffices.
-use Rattle.std.proofs.Common.{◌≡◌, ℕ, zero, suc, ◌+◌, ◌-◌, ◌<◌, ◌≤◌, ◌⊎◌, inl, inr, Bool, true, false, cond, List, [], ◌∷◌, ◌++◌, length, Option, Some, None, is_some, option_and_then, slice_get, refl, sym, ◌∙◌, arith}
+use Rattle.std.proofs.Common.{◌≡◌, ℕ, zero, suc, ◌+◌, ◌-◌, ◌<◌, ◌≤◌, ◌⊎◌, inl, inr, Bool, true, false, cond, List, [], ◌∷◌, ◌++◌, length, Option, Some}
+use Rattle.std.proofs.Common.{None, is_some, option_and_then, slice_get, refl, sym, ◌∙◌, arith}
 use Rattle.std.specs.Option.{option_map_or}
 use Rattle.std.proofs.lemmas.Bool.{false≢true}
 use Rattle.std.proofs.lemmas.Option.{same_Some, none-some, slice_get_within}
@@ -45,7 +46,8 @@ mentions_of-more f g h (said_text c t) ms e = e
 mentions_of-more f g h (said_cancel c) ms e = e
 mentions_of-more f g h (said_import name) ms e = h name ms e
 
-pub expand_items-more : (f g : Names) → GivesMore f g → (items : List ReadItem) (ms : List Mention) → expand_items f items ≡ Some ms → expand_items g items ≡ Some ms
+pub expand_items-more : (f g : Names) → GivesMore f g → (items : List ReadItem) (ms : List Mention) → expand_items f items ≡ Some ms
+    → expand_items g items ≡ Some ms
 expand_items-more f g h [] ms e = e
 expand_items-more f g h (i ∷ is) ms e =
     let p = joined_parts (mentions_of f i.said) (expand_items f is) ms e in
@@ -54,7 +56,8 @@ expand_items-more f g h (i ∷ is) ms e =
 abbrev pub names_at : (List ℕ → Option Reading) → ℕ → Names
 names_at env depth name = option_and_then (expand env depth) (env name)
 
-and_then-more : (f g : Reading → Mentions) → ((b : Reading) (ms : List Mention) → f b ≡ Some ms → g b ≡ Some ms) → (o : Option Reading) (ms : List Mention) → option_and_then f o ≡ Some ms → option_and_then g o ≡ Some ms
+and_then-more : (f g : Reading → Mentions) → ((b : Reading) (ms : List Mention) → f b ≡ Some ms → g b ≡ Some ms) → (o : Option Reading) (ms : List Mention)
+    → option_and_then f o ≡ Some ms → option_and_then g o ≡ Some ms
 and_then-more f g h None ms e = absurd (none-some ms e)
 and_then-more f g h (Some b) ms e = h b ms e
 
@@ -98,17 +101,20 @@ joined-some (Some xs) None (Some ys) (Some zs) e f = absurd (false≢true f)
 joined-some (Some xs) (Some zs) (Some ys) None e f = absurd (false≢true (sym f))
 joined-some (Some xs) (Some zs) (Some ys) (Some ws) e f = refl
 
-mentions_of-some : (f g : Names) → ((name : List ℕ) → is_some (f name) ≡ is_some (g name)) → (said : Said) → is_some (mentions_of f said) ≡ is_some (mentions_of g said)
+mentions_of-some : (f g : Names) → ((name : List ℕ) → is_some (f name) ≡ is_some (g name)) → (said : Said)
+    → is_some (mentions_of f said) ≡ is_some (mentions_of g said)
 mentions_of-some f g h (said_flag c) = refl
 mentions_of-some f g h (said_number c n) = refl
 mentions_of-some f g h (said_text c t) = refl
 mentions_of-some f g h (said_cancel c) = refl
 mentions_of-some f g h (said_import name) = h name
 
-expand_items-some : (f g : Names) → ((name : List ℕ) → is_some (f name) ≡ is_some (g name)) → (items : List ReadItem) → is_some (expand_items f items) ≡ is_some (expand_items g items)
+expand_items-some : (f g : Names) → ((name : List ℕ) → is_some (f name) ≡ is_some (g name)) → (items : List ReadItem)
+    → is_some (expand_items f items) ≡ is_some (expand_items g items)
 expand_items-some f g h [] = refl
 expand_items-some f g h (i ∷ is) =
-    joined-some (mentions_of f i.said) (expand_items f is) (mentions_of g i.said) (expand_items g is) (mentions_of-some f g h i.said) (expand_items-some f g h is)
+    joined-some (mentions_of f i.said) (expand_items f is) (mentions_of g i.said) (expand_items g is) (mentions_of-some f g h i.said)
+    (expand_items-some f g h is)
 
 cond-some : (b : Bool) (o q : Mentions) → is_some o ≡ is_some q → is_some (cond b None o) ≡ is_some (cond b None q)
 cond-some true o q e = refl
@@ -122,7 +128,8 @@ resolves_at-is : (bs : List Reading) (k p : ℕ) (b : Reading) → slice_get bs 
 unfolding resolves_at
 resolves_at-is bs k p b e = rw e refl
 
-same_names : (bs : List Reading) (j k : ℕ) → ((p : ℕ) → p < length bs → resolves_at bs j p ≡ resolves_at bs k p) → (name : List ℕ) → is_some (names_at (owner_block bs) j name) ≡ is_some (names_at (owner_block bs) k name)
+same_names : (bs : List Reading) (j k : ℕ) → ((p : ℕ) → p < length bs → resolves_at bs j p ≡ resolves_at bs k p) → (name : List ℕ)
+    → is_some (names_at (owner_block bs) j name) ≡ is_some (names_at (owner_block bs) k name)
 same_names bs j k h name =
     elim (owning bs name) [
       | nobody _ d ↦ rw d refl
@@ -139,7 +146,8 @@ is_some-of : {X : Type 0} (o : Option X) (x : X) → o ≡ Some x → is_some o 
 is_some-of o x e = rw e refl
 
 each_place : (bs : List Reading) (p : ℕ) → ((b : Reading) × (slice_get bs p ≡ Some b)) ⊎ (slice_get bs p ≡ None)
-each_place bs p = elim (slice_get bs p) as (λ v. slice_get bs p ≡ v → ((b : Reading) × (slice_get bs p ≡ Some b)) ⊎ (slice_get bs p ≡ None)) [ Some b ↦ λ e. inl (b, e) | None ↦ λ e. inr e ] refl
+each_place bs p = elim (slice_get bs p) as (λ v. slice_get bs p ≡ v → ((b : Reading) × (slice_get bs p ≡ Some b))
+    ⊎ (slice_get bs p ≡ None)) [ Some b ↦ λ e. inl (b, e) | None ↦ λ e. inr e ] refl
 
 resolves_at-grows : (bs : List Reading) (k p : ℕ) → p < length bs → resolves_at bs k p ≡ true → resolves_at bs (suc k) p ≡ true
 unfolding resolves_at
@@ -153,7 +161,8 @@ resolves_at-grows bs k p l h =
           resolves_at-is bs (suc k) p b found.1 ∙ is_some-of (expand (owner_block bs) (suc k) b) w.0 (expand-suc (owner_block bs) k b w.0 w.1)
     ]
 
-resolves_at-stays : (bs : List Reading) (k : ℕ) → ((p : ℕ) → p < length bs → resolves_at bs (suc k) p ≡ resolves_at bs k p) → (p : ℕ) → p < length bs → resolves_at bs (suc (suc k)) p ≡ resolves_at bs (suc k) p
+resolves_at-stays : (bs : List Reading) (k : ℕ) → ((p : ℕ) → p < length bs → resolves_at bs (suc k) p ≡ resolves_at bs k p) → (p : ℕ) → p < length bs
+    → resolves_at bs (suc (suc k)) p ≡ resolves_at bs (suc k) p
 resolves_at-stays bs k h p l =
     elim (each_place bs p) [
       | inr none ↦ unfold resolves_at in (rw none refl)
@@ -169,7 +178,8 @@ growing : (bs : List Reading) → IsGrowing (resolves_at bs) (length bs)
 growing bs = record { grows = resolves_at-grows bs; stays = resolves_at-stays bs }
 
 -- a block of the list that some depth expands has that expansion
-pub bounded : (bs : List Reading) (k p : ℕ) (b : Reading) (ms : List Mention) → slice_get bs p ≡ Some b → expand (owner_block bs) k b ≡ Some ms → expansion bs b ≡ Some ms
+pub bounded : (bs : List Reading) (k p : ℕ) (b : Reading) (ms : List Mention) → slice_get bs p ≡ Some b → expand (owner_block bs) k b ≡ Some ms
+    → expansion bs b ≡ Some ms
 bounded bs k p b ms s e =
     let within = slice_get_within bs p b s in
     let here : resolves_at bs k p ≡ true = resolves_at-is bs k p b s ∙ is_some-of (expand (owner_block bs) k b) ms e in

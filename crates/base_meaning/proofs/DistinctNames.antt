@@ -1,6 +1,7 @@
 -- The names that are not among those before them are each of the names once, in the order of their
 -- first places.
-use Rattle.std.proofs.Common.{◌≡◌, ℕ, zero, suc, ◌<◌, inl, inr, Bool, true, false, not, ◌&&◌, ◌||◌, cond, List, [], ◌∷◌, ◌++◌, Some, slice_get, refl, sym, ◌∙◌, ap, subst, arith}
+use Rattle.std.proofs.Common.{◌≡◌, ℕ, zero, suc, ◌<◌, inl, inr, Bool, true, false, not, ◌&&◌, ◌||◌, cond, List, [], ◌∷◌, ◌++◌, Some, slice_get, refl, sym}
+use Rattle.std.proofs.Common.{◌∙◌, ap, subst, arith}
 use Rattle.std.specs.Str.{bytes_eq}
 use Rattle.std.proofs.lemmas.Bool.{cases_Bool, false≢true, or_parts, and_parts}
 use Rattle.std.proofs.lemmas.Option.{same_Some, none-some}
@@ -51,11 +52,14 @@ among-distinct_after n before (name ∷ names) =
     let rest = distinct_after (before ++ name ∷ []) names in
     let later = among-distinct_after n (before ++ name ∷ []) names in
     let whole = list_any-append n (cond c [] (name ∷ [])) rest in
-    let prefix : is_among n (before ++ name ∷ []) ≡ (is_among n before || bytes_eq n name) = list_any-append n before (name ∷ []) ∙ ap (λ v. is_among n before || v) (or_false (bytes_eq n name)) in
-    let parts : is_among n (distinct_after before (name ∷ names)) ≡ (is_among n (cond c [] (name ∷ [])) || (is_among n names && not (is_among n before || bytes_eq n name))) =
+    let prefix : is_among n (before ++ name ∷ []) ≡ (is_among n before || bytes_eq n name) =
+    list_any-append n before (name ∷ []) ∙ ap (λ v. is_among n before || v) (or_false (bytes_eq n name)) in
+    let parts : is_among n (distinct_after before (name ∷ names))
+    ≡ (is_among n (cond c [] (name ∷ [])) || (is_among n names && not (is_among n before || bytes_eq n name))) =
     whole ∙ (ap (λ v. is_among n (cond c [] (name ∷ [])) || v) later ∙ ap (λ v. is_among n (cond c [] (name ∷ [])) || (is_among n names && not v)) prefix) in
     elim (cases_Bool (bytes_eq n name)) [
-      | inl same ↦ parts ∙ (rw same (step_same (is_among n before) c (is_among n names) (is_among n (cond c [] (name ∷ []))) (among_one n name c same) (same_among n name before same)))
+      | inl same ↦ parts ∙ (rw same (step_same (is_among n before) c (is_among n names) (is_among n (cond c [] (name ∷ []))) (among_one n name c same)
+          (same_among n name before same)))
       | inr other ↦ parts ∙ (rw other (step_other (is_among n before) (is_among n names) (is_among n (cond c [] (name ∷ []))) (among_other n name c other)))
     ]
 
@@ -74,10 +78,12 @@ not_true false e = refl
 -- what is there is none of the names before
 not_before : (before names : List (List ℕ)) (i : ℕ) (n : List ℕ) → slice_get (distinct_after before names) i ≡ Some n → is_among n before ≡ false
 not_before before names i n e =
-    let there : (is_among n names && not (is_among n before)) ≡ true = sym (among-distinct_after n before names) ∙ get_among (distinct_after before names) i n e in
+    let there : (is_among n names && not (is_among n before)) ≡ true =
+    sym (among-distinct_after n before names) ∙ get_among (distinct_after before names) i n e in
     not_true (is_among n before) (and_parts (is_among n names) (not (is_among n before)) there).1
 
-other_name : (before names : List (List ℕ)) (name : List ℕ) (i : ℕ) (n : List ℕ) → slice_get (distinct_after (before ++ name ∷ []) names) i ≡ Some n → name ≡ n → ⊥
+other_name : (before names : List (List ℕ)) (name : List ℕ) (i : ℕ) (n : List ℕ) → slice_get (distinct_after (before ++ name ∷ []) names) i ≡ Some n
+    → name ≡ n → ⊥
 other_name before names name i n e same =
     let none = not_before (before ++ name ∷ []) names i n e in
     let parts = or_parts (is_among n before) (is_among n (name ∷ [])) (sym (list_any-append n before (name ∷ [])) ∙ none) in
@@ -95,7 +101,8 @@ first_later name n names at other h = record { stands = h.stands; first = λ k l
   earlier zero l e = other (same_Some name n e)
   earlier (suc k) l e = h.first k (omega arith) e
 
-first_back : (name n : List ℕ) (names : List (List ℕ)) (at : ℕ) → (name ≡ n → ⊥) → IsFirstPlace (name ∷ names) n at → (p : ℕ) × (at ≡ suc p) × IsFirstPlace names n p
+first_back : (name n : List ℕ) (names : List (List ℕ)) (at : ℕ) → (name ≡ n → ⊥) → IsFirstPlace (name ∷ names) n at → (p : ℕ) × (at ≡ suc p)
+    × IsFirstPlace names n p
 first_back name n names zero other h = absurd (other (same_Some name n h.stands))
 first_back name n names (suc at) other h = (at, refl, record { stands = h.stands; first = λ k l e. h.first (suc k) (omega arith) e })
 
@@ -107,9 +114,11 @@ abbrev Places : List (List ℕ) → List (List ℕ) → Type 0
 Places names each = (i : ℕ) (n : List ℕ) → slice_get each i ≡ Some n → (at : ℕ) × IsFirstPlace names n at
 
 abbrev Order : List (List ℕ) → List (List ℕ) → Type 0
-Order names each = (i j : ℕ) (n m : List ℕ) (at behind : ℕ) → i < j → slice_get each i ≡ Some n → slice_get each j ≡ Some m → IsFirstPlace names n at → IsFirstPlace names m behind → at < behind
+Order names each = (i j : ℕ) (n m : List ℕ) (at behind : ℕ) → i < j → slice_get each i ≡ Some n → slice_get each j ≡ Some m → IsFirstPlace names n at
+    → IsFirstPlace names m behind → at < behind
 
-places_step : (name : List ℕ) (names rest : List (List ℕ)) (c : Bool) → ((i : ℕ) (n : List ℕ) → slice_get rest i ≡ Some n → name ≡ n → ⊥) → Places names rest → Places (name ∷ names) (cond c [] (name ∷ []) ++ rest)
+places_step : (name : List ℕ) (names rest : List (List ℕ)) (c : Bool) → ((i : ℕ) (n : List ℕ) → slice_get rest i ≡ Some n → name ≡ n → ⊥)
+    → Places names rest → Places (name ∷ names) (cond c [] (name ∷ []) ++ rest)
 places_step name names rest true other h i n e = let w = h i n e in (suc w.0, first_later name n names w.0 (other i n e) w.1)
 places_step name names rest false other h zero n e = (0, record { stands = e; first = λ k l. absurd (omega arith) })
 places_step name names rest false other h (suc i) n e = let w = h i n e in (suc w.0, first_later name n names w.0 (other i n e) w.1)
@@ -125,7 +134,8 @@ order_later name names rest other h i j n m at behind l e f p q =
     let y = b.1 in
     omega arith
 
-order_step : (name : List ℕ) (names rest : List (List ℕ)) (c : Bool) → ((i : ℕ) (n : List ℕ) → slice_get rest i ≡ Some n → name ≡ n → ⊥) → Order names rest → Order (name ∷ names) (cond c [] (name ∷ []) ++ rest)
+order_step : (name : List ℕ) (names rest : List (List ℕ)) (c : Bool) → ((i : ℕ) (n : List ℕ) → slice_get rest i ≡ Some n → name ≡ n → ⊥) → Order names rest
+    → Order (name ∷ names) (cond c [] (name ∷ []) ++ rest)
 order_step name names rest true other h i j n m at behind l e f p q = order_later name names rest other h i j n m at behind l e f p q
 order_step name names rest false other h zero zero n m at behind l e f p q = absurd (omega arith)
 order_step name names rest false other h zero (suc j) n m at behind l e f p q =
@@ -139,12 +149,14 @@ order_step name names rest false other h (suc i) (suc j) n m at behind l e f p q
 all_places : (before names : List (List ℕ)) → Places names (distinct_after before names)
 all_places before [] = λ i n e. absurd (none-some n e)
 all_places before (name ∷ names) =
-    places_step name names (distinct_after (before ++ name ∷ []) names) (is_among name before) (other_name before names name) (all_places (before ++ name ∷ []) names)
+    places_step name names (distinct_after (before ++ name ∷ []) names) (is_among name before) (other_name before names name)
+    (all_places (before ++ name ∷ []) names)
 
 all_order : (before names : List (List ℕ)) → Order names (distinct_after before names)
 all_order before [] = λ i j n m at behind l e. absurd (none-some n e)
 all_order before (name ∷ names) =
-    order_step name names (distinct_after (before ++ name ∷ []) names) (is_among name before) (other_name before names name) (all_order (before ++ name ∷ []) names)
+    order_step name names (distinct_after (before ++ name ∷ []) names) (is_among name before) (other_name before names name)
+    (all_order (before ++ name ∷ []) names)
 
 and_true : (a : Bool) → (a && true) ≡ a
 and_true true = refl

@@ -1,5 +1,6 @@
 -- What holds of a list after an item is put in, exchanged or taken out.
-use Rattle.std.proofs.Common.{◌≡◌, ℕ, zero, suc, ◌<◌, ◌≤◌, List, [], ◌∷◌, length, get_or, take, drop, set, map, All, Option, Some, None, option_map, slice_get, refl, sym, ◌∙◌, ap, subst, arith}
+use Rattle.std.proofs.Common.{◌≡◌, ℕ, zero, suc, ◌<◌, ◌≤◌, List, [], ◌∷◌, length, get_or, take, drop, set, map, All, Option, Some, None, option_map}
+use Rattle.std.proofs.Common.{slice_get, refl, sym, ◌∙◌, ap, subst, arith}
 use Rattle.std.specs.List.{insert, remove, take-map, drop-map}
 use Rattle.std.specs.Option.{option_map_or}
 use Rattle.std.proofs.lemmas.Option.{same_Some, none-some, slice_get-map, slice_get_within, get_or_from_slice_get}
@@ -39,7 +40,8 @@ All-remove P xs i h = All-append P (take i xs) (drop (suc i) xs) (All-take P i x
 
 -- ---- images of edited lists
 
-pub images_inserted : {X Y : Type 0} (f : X → Y) (old reserved new : List X) (at : ℕ) (x : X) (y : Y) → new ≡ insert reserved at x → reserved ≡ old → f x ≡ y → map f new ≡ insert (map f old) at y
+pub images_inserted : {X Y : Type 0} (f : X → Y) (old reserved new : List X) (at : ℕ) (x : X) (y : Y) → new ≡ insert reserved at x → reserved ≡ old
+    → f x ≡ y → map f new ≡ insert (map f old) at y
 images_inserted f old reserved new at x y e r s =
     ap (λ xs. map f xs) e ∙ (ap (λ xs. map f (insert xs at x)) r ∙ (map-insert f old at x ∙ ap (λ z. insert (map f old) at z) s))
 
@@ -56,7 +58,8 @@ relocated-some xs from to x e = rw e refl
 
 pub map-relocated : {X Y : Type 0} (f : X → Y) (xs : List X) (from to : ℕ) → map f (with_item_moved xs from to) ≡ with_item_moved (map f xs) from to
 map-relocated f xs from to = rw (slice_get-map f xs from) (by_case (slice_get xs from)) where
-  by_case : (o : Option _) → map f (option_map_or (λ x. insert (remove xs from) to x) o xs) ≡ option_map_or (λ y. insert (remove (map f xs) from) to y) (option_map f o) (map f xs)
+  by_case : (o : Option _) → map f (option_map_or (λ x. insert (remove xs from) to x) o xs)
+      ≡ option_map_or (λ y. insert (remove (map f xs) from) to y) (option_map f o) (map f xs)
   by_case None = refl
   by_case (Some x) = map-insert f (remove xs from) to x ∙ ap (λ ys. insert ys to (f x)) (map-remove f xs from)
 
@@ -64,7 +67,8 @@ pub All-relocated : {X : Type 0} (P : X → Type 0) (xs : List X) (from to : ℕ
 All-relocated P xs from to h =
     elim (slice_get xs from) as (λ o. slice_get xs from ≡ o → All P (option_map_or (λ x. insert (remove xs from) to x) o xs)) [
       | None ↦ λ e. h
-      | Some x ↦ λ e. All-insert P (remove xs from) to x (All-remove P xs from h) (subst P (get_or_from_slice_get xs from x x e) (h from x (slice_get_within xs from x e)))
+      | Some x ↦ λ e. All-insert P (remove xs from) to x (All-remove P xs from h)
+          (subst P (get_or_from_slice_get xs from x x e) (h from x (slice_get_within xs from x e)))
     ] refl
 
 pub length-relocated : {X : Type 0} (xs : List X) (from to : ℕ) → from < length xs → to < length xs → length (with_item_moved xs from to) ≡ length xs
@@ -98,5 +102,6 @@ relocated-back xs from to l m =
     get_inserted [] (suc i) x l = absurd (omega arith)
     get_inserted (y ∷ ys) (suc i) x l = get_inserted ys i x (omega arith)
 
-pub images_relocated : {X Y : Type 0} (f : X → Y) (old new : List X) (from to : ℕ) → new ≡ with_item_moved old from to → map f new ≡ with_item_moved (map f old) from to
+pub images_relocated : {X Y : Type 0} (f : X → Y) (old new : List X) (from to : ℕ) → new ≡ with_item_moved old from to
+    → map f new ≡ with_item_moved (map f old) from to
 images_relocated f old new from to e = ap (λ xs. map f xs) e ∙ map-relocated f old from to

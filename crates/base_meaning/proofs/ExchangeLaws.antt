@@ -1,5 +1,6 @@
 -- The laws on edits as exchanges and on their dependents.
-use Rattle.std.proofs.Common.{◌≡◌, ℕ, zero, suc, ◌<◌, ◌≤◌, ◌⊎◌, inl, inr, true, List, [], ◌∷◌, ◌++◌, length, set, Option, Some, None, slice_get, refl, sym, ◌∙◌, ap, arith}
+use Rattle.std.proofs.Common.{◌≡◌, ℕ, zero, suc, ◌<◌, ◌≤◌, ◌⊎◌, inl, inr, true, List, [], ◌∷◌, ◌++◌, length, set, Option, Some, None, slice_get, refl, sym}
+use Rattle.std.proofs.Common.{◌∙◌, ap, arith}
 use Rattle.std.specs.List.{insert, remove, Contains, AllByRecursion}
 use Rattle.std.proofs.lemmas.Bool.{or_right}
 use Rattle.std.proofs.lemmas.List.{length-map, map-set}
@@ -12,7 +13,8 @@ use Rattle.ti_source.specs.Sound.{IsRising}
 use Rattle.base_meaning.specs.Owner.{is_among, owner, owner_block, readings}
 use Rattle.base_meaning.specs.Edits.{Change, insertion, replacement, removal, relocation, IsInPlace, list_after}
 use Rattle.base_meaning.specs.Exchange.{PlacedBlock, Exchange, IsExchange, with_block, HasPlace, new_list, block_from, exchange_of, LeadsOn, EditsAreExchanges}
-use Rattle.base_meaning.specs.Dependents.{lookup_names_of, touched_names, IsPutAt, IsDependent, DependentsAreDetermined, UsersOfDependentsDepend, DependentsAreFound, RebuildsAreDetermined, work}
+use Rattle.base_meaning.specs.Dependents.{lookup_names_of, touched_names, IsPutAt, IsDependent, DependentsAreDetermined, UsersOfDependentsDepend}
+use Rattle.base_meaning.specs.Dependents.{DependentsAreFound, RebuildsAreDetermined, work}
 use Rattle.base_meaning.specs.Reaching.{Uses, IsUseWay}
 use Rattle.base_meaning.specs.UseLaws.{UsesBlock}
 use Rattle.base_meaning.proofs.UseLawProofs.{has_owner}
@@ -46,7 +48,8 @@ out_fits bs at to l m =
 taken_back : (bs : List Reading) (at : ℕ) → at < length bs → with_block (remove bs at) (block_from bs at at) ≡ bs
 taken_back bs at l = let b = item_at bs at l in rw b.1 (insert-remove bs at b.0 b.1)
 
-moved : (texts : List (List ℕ)) (from to : ℕ) (t : List ℕ) → slice_get texts from ≡ Some t → with_block (remove (readings texts) from) (block_from (readings texts) from to) ≡ readings (insert (remove texts from) to t)
+moved : (texts : List (List ℕ)) (from to : ℕ) (t : List ℕ) → slice_get texts from ≡ Some t
+    → with_block (remove (readings texts) from) (block_from (readings texts) from to) ≡ readings (insert (remove texts from) to t)
 moved texts from to t e =
     let r : slice_get (readings texts) from ≡ Some (reading_of_text t) = rw (slice_get-map reading_of_text texts from, e) refl in
     rw (r, map-insert reading_of_text (remove texts from) to t, map-remove reading_of_text texts from) refl
@@ -100,7 +103,8 @@ contains_tail : (n : ℕ) (ns : List ℕ) (m : ℕ) → Contains ns m → Contai
 contains_tail n ns m c = (suc c.0, (let l : c.0 < length ns = c.1 in omega arith), c.2)
 
 -- what the tail of one list has is in the tail of the other
-tail_in : (n m : ℕ) (ns ms : List ℕ) → n ≡ m → AllByRecursion (λ k. n < k) ns → ((k : ℕ) → Contains (n ∷ ns) k → Contains (m ∷ ms) k) → (k : ℕ) → Contains ns k → Contains ms k
+tail_in : (n m : ℕ) (ns ms : List ℕ) → n ≡ m → AllByRecursion (λ k. n < k) ns → ((k : ℕ) → Contains (n ∷ ns) k → Contains (m ∷ ms) k) → (k : ℕ)
+    → Contains ns k → Contains ms k
 tail_in n m ns ms same above h k c =
     elim (contains_cons m ms k (h k (contains_tail n ns k c))) [
       | inl here ↦ let l = all_above n ns above k c in absurd (omega arith)
@@ -127,7 +131,8 @@ rising_one (n ∷ ns) (m ∷ ms) r s f g =
         ]
 
 pub one_answer : DependentsAreDetermined
-one_answer = λ e ps qs h k. rising_one ps qs h.rising k.rising (λ at c. (k.dependents at).1 ((h.dependents at).0 c)) (λ at c. (h.dependents at).1 ((k.dependents at).0 c))
+one_answer = λ e ps qs h k. rising_one ps qs h.rising k.rising (λ at c. (k.dependents at).1 ((h.dependents at).0 c))
+    (λ at c. (h.dependents at).1 ((k.dependents at).0 c))
 
 -- ---- a block that uses a dependent is a dependent
 
@@ -141,9 +146,11 @@ among_right : (n : List ℕ) (xs ys : List (List ℕ)) → is_among n ys ≡ tru
 among_right n xs ys t = list_any-append n xs ys ∙ or_right (is_among n xs) (is_among n ys) t
 
 -- the block put in has the touched names that it owns
-put_touches : (e : Exchange) → IsExchange e → (at : ℕ) (name : List ℕ) → IsPutAt e.put at → owner (new_list e) name ≡ Some at → is_among name (touched_names e) ≡ true
+put_touches : (e : Exchange) → IsExchange e → (at : ℕ) (name : List ℕ) → IsPutAt e.put at → owner (new_list e) name ≡ Some at
+    → is_among name (touched_names e) ≡ true
 put_touches e h at name put own = put_names (lookup_names_of e.out) e.rest e.put h.put at name put own where
-  put_names : (outs : List (List ℕ)) (rest : List Reading) (o : Option PlacedBlock) → HasPlace rest o → (at : ℕ) (name : List ℕ) → IsPutAt o at → owner (with_block rest o) name ≡ Some at → is_among name (outs ++ lookup_names_of o) ≡ true
+  put_names : (outs : List (List ℕ)) (rest : List Reading) (o : Option PlacedBlock) → HasPlace rest o → (at : ℕ) (name : List ℕ) → IsPutAt o at
+      → owner (with_block rest o) name ≡ Some at → is_among name (outs ++ lookup_names_of o) ≡ true
   put_names outs rest None l at name put own = absurd put
   put_names outs rest (Some p) l at name put own =
       among_right name outs p.block.names (owned_by (with_block rest (Some p)) name p.at p.block (own ∙ ap (λ k. Some k) (sym put)) (get-with_put rest p l))
@@ -174,7 +181,8 @@ dependent_holds e P put touching using at d =
       | inr reach ↦ along reach.2.1 reach.2.0 reach.0 at d.0 d.1 reach.2.2 reach.2.3 reach.1
     ]
   where
-    along : (way : List (List ℕ)) (from to : List ℕ) (user : ℕ) (b : Reading) → slice_get (new_list e) user ≡ Some b → Uses b.items from → IsUseWay (owner_block (new_list e)) from way to → is_among to (touched_names e) ≡ true → P user
+    along : (way : List (List ℕ)) (from to : List ℕ) (user : ℕ) (b : Reading) → slice_get (new_list e) user ≡ Some b → Uses b.items from
+        → IsUseWay (owner_block (new_list e)) from way to → is_among to (touched_names e) ≡ true → P user
     along [] from to user b s u w t = touching user b from s u (ap (λ n. is_among n (touched_names e)) w ∙ t)
     along (x ∷ way) from to user b s u w t =
         let own = has_owner (new_list e) from w.0.0 w.0.1 in

@@ -1,6 +1,7 @@
 -- What an edit leaves of a block that reaches no touched name: its expansion, the owners of what it
 -- uses, and which of its uses are circular.
-use Rattle.std.proofs.Common.{◌≡◌, ℕ, suc, ◌⊎◌, inl, inr, Bool, true, false, ◌||◌, List, [], ◌∷◌, ◌++◌, length, Option, Some, None, option_map, slice_get, refl, sym, ◌∙◌, ap}
+use Rattle.std.proofs.Common.{◌≡◌, ℕ, suc, ◌⊎◌, inl, inr, Bool, true, false, ◌||◌, List, [], ◌∷◌, ◌++◌, length, Option, Some, None, option_map, slice_get}
+use Rattle.std.proofs.Common.{refl, sym, ◌∙◌, ap}
 use Rattle.std.specs.Str.{bytes_eq}
 use Rattle.std.proofs.lemmas.Bool.{or_parts}
 use Rattle.std.proofs.lemmas.Option.{same_Some, none-some}
@@ -45,7 +46,8 @@ some_or_none : (o : Option (List Mention)) → (o ≡ None) ⊎ ((ms : List Ment
 some_or_none None = inl refl
 some_or_none (Some ms) = inr (ms, refl)
 
-pub expansion-same : (bs cs : List Reading) (p q : ℕ) (b : Reading) → slice_get bs p ≡ Some b → slice_get cs q ≡ Some b → ((k : ℕ) → expand (owner_block cs) k b ≡ expand (owner_block bs) k b) → expansion cs b ≡ expansion bs b
+pub expansion-same : (bs cs : List Reading) (p q : ℕ) (b : Reading) → slice_get bs p ≡ Some b → slice_get cs q ≡ Some b
+    → ((k : ℕ) → expand (owner_block cs) k b ≡ expand (owner_block bs) k b) → expansion cs b ≡ expansion bs b
 expansion-same bs cs p q b s t h =
     elim (some_or_none (expansion bs b)) [
       | inr some ↦ bounded cs (suc (length bs)) q b some.0 t (h (suc (length bs)) ∙ some.1) ∙ sym some.1
@@ -61,7 +63,8 @@ module _ (test : List ℕ → Bool) (rest : List Reading) (o p : Option PlacedBl
   agree : AgreeOff test (owner_block (with_block rest o)) (owner_block (with_block rest p))
   agree n f = owned-with rest o n at_o.place (at_o.off n f) ∙ sym (owned-with rest p n at_p.place (at_p.off n f))
 
-  pub expand_in_both : (k : ℕ) (b : Reading) → ((n : List ℕ) → Uses b.items n → IsFree (owner_block (with_block rest o)) test n) → expand (owner_block (with_block rest p)) k b ≡ expand (owner_block (with_block rest o)) k b
+  pub expand_in_both : (k : ℕ) (b : Reading) → ((n : List ℕ) → Uses b.items n → IsFree (owner_block (with_block rest o)) test n)
+      → expand (owner_block (with_block rest p)) k b ≡ expand (owner_block (with_block rest o)) k b
   expand_in_both k b free = expand-kept test (owner_block (with_block rest o)) (owner_block (with_block rest p)) agree k b free
 
   pub free_in_both : (n : List ℕ) → IsFree (owner_block (with_block rest o)) test n → IsFree (owner_block (with_block rest p)) test n
@@ -78,7 +81,8 @@ module _ (test : List ℕ → Bool) (rest : List Reading) (o p : Option PlacedBl
       (v.1, v.3, (n, v.0, u, v.2))
 
   -- a free name leads to the block at a position in one list if it does in the other
-  pub circular_in_both : (n : List ℕ) (at : ℕ) → IsFree (owner_block (with_block rest o)) test n → LeadsTo (with_block rest o) n (shifted_position o at) → LeadsTo (with_block rest p) n (shifted_position p at)
+  pub circular_in_both : (n : List ℕ) (at : ℕ) → IsFree (owner_block (with_block rest o)) test n → LeadsTo (with_block rest o) n (shifted_position o at)
+      → LeadsTo (with_block rest p) n (shifted_position p at)
   circular_in_both n at free l =
       let off : test l.1 ≡ false = free l.0 l.1 l.2 in
       let here = owner-with rest o l.1 at_o.place (at_o.off l.1 off) in
@@ -94,7 +98,8 @@ module _ (test : List ℕ → Bool) (rest : List Reading) (o p : Option PlacedBl
       unshifted o (Some k) at e = ap (λ j. Some j) (shifted-same o k at (same_Some (shifted_position o k) (shifted_position o at) e))
 
   -- the block that owns a free name says the same in both lists
-  pub owner_says_same : (n : List ℕ) (b : Reading) → IsFree (owner_block (with_block rest o)) test n → owner_block (with_block rest o) n ≡ Some b → expansion (with_block rest p) b ≡ expansion (with_block rest o) b
+  pub owner_says_same : (n : List ℕ) (b : Reading) → IsFree (owner_block (with_block rest o)) test n → owner_block (with_block rest o) n ≡ Some b
+      → expansion (with_block rest p) b ≡ expansion (with_block rest o) b
   owner_says_same n b free e =
       let f : owner_block (with_block rest p) n ≡ Some b = owned_in_both n free ∙ e in
       let s = stands (with_block rest o) n b e in

@@ -28,7 +28,8 @@ image_says names t ms h = images_are_of_values names t (values ms) (show_same t 
 pub limit_says : (t : Contents) (ms : List Mention) → IsTableOfMentions t ms → image_limit t ≡ image_limit (values ms)
 limit_says t ms h = limits_are_of_values t (values ms) (show_same t ms h)
 
-pub within_limit : (b : Reading) (ms : List Mention) (bytes : List ℕ) → bytes ≡ image_of b ms → length bytes ≤ image_limit (values ms) → ◌≡◌ {A = Option (List ℕ)} (Some bytes) (entry_of b ms)
+pub within_limit : (b : Reading) (ms : List Mention) (bytes : List ℕ) → bytes ≡ image_of b ms → length bytes ≤ image_limit (values ms)
+    → ◌≡◌ {A = Option (List ℕ)} (Some bytes) (entry_of b ms)
 within_limit b ms bytes e l =
     let small : nat_lt (image_limit (values ms)) (length (image_of b ms)) ≡ false = le-ltb (image_limit (values ms)) (length (image_of b ms)) (rw (← e) l) in
     rw (small, e) refl
@@ -52,7 +53,8 @@ state_with_entry None = oversized
 state_with_entry (Some bytes) = written bytes
 
 -- the state of a block that has a table
-pub state_seen_of : (bs : List Reading) (b : Reading) (ms : List Mention) (o : Option (List ℕ)) → expansion bs b ≡ Some ms → o ≡ entry_of b ms → state_with_entry o ≡ state_of bs b
+pub state_seen_of : (bs : List Reading) (b : Reading) (ms : List Mention) (o : Option (List ℕ)) → expansion bs b ≡ Some ms → o ≡ entry_of b ms
+    → state_with_entry o ≡ state_of bs b
 state_seen_of bs b ms (Some bytes) e h = rw e (if_within (is_too_large b ms) (image_of b ms) bytes h)
 state_seen_of bs b ms None e h = rw e (if_over (is_too_large b ms) (image_of b ms) h)
 

@@ -1,5 +1,6 @@
 -- The laws on the faults of a block's items.
-use Rattle.std.proofs.Common.{◌≡◌, ℕ, inl, inr, Bool, true, false, ◌&&◌, ◌||◌, nat_eq, nat_lt, cond, List, [], ◌∷◌, ◌++◌, map, filter, Option, Some, None, is_some, refl, sym, ◌∙◌, ap}
+use Rattle.std.proofs.Common.{◌≡◌, ℕ, inl, inr, Bool, true, false, ◌&&◌, ◌||◌, nat_eq, nat_lt, cond, List, [], ◌∷◌, ◌++◌, map, filter, Option, Some, None}
+use Rattle.std.proofs.Common.{is_some, refl, sym, ◌∙◌, ap}
 use Rattle.std.specs.List.{list_any, flat_map}
 use Rattle.std.proofs.lemmas.Bool.{cases_Bool, false≢true, or_parts}
 use Rattle.std.proofs.lemmas.List.{map-append, append-nil}
@@ -33,9 +34,11 @@ pick_local false at f xs fs e = e
 pick-locals : (o at : ℕ) (fs : List ReadFault) → with_ordinal o (map (fault_with_ordinal at) fs) ≡ own_faults at o fs
 pick-locals o at [] = refl
 pick-locals o at (f ∷ fs) =
-    pick_local (nat_eq f.ordinal o) at f (filter (λ (g : ℕ × SourceFault). nat_eq g.0 o) (map (fault_with_ordinal at) fs)) (filter (λ (g : ReadFault). nat_eq g.ordinal o) fs) (pick-locals o at fs)
+    pick_local (nat_eq f.ordinal o) at f (filter (λ (g : ℕ × SourceFault). nat_eq g.0 o) (map (fault_with_ordinal at) fs))
+    (filter (λ (g : ReadFault). nat_eq g.ordinal o) fs) (pick-locals o at fs)
 
-pick_use : (v : Bool) (k : ℕ) (f : SourceFault) (xs : List (ℕ × SourceFault)) (us : List SourceFault) → map (λ (g : ℕ × SourceFault). g.1) xs ≡ cond v us [] → map (λ (g : ℕ × SourceFault). g.1) (cond v ((k, f) ∷ xs) xs) ≡ cond v (f ∷ us) []
+pick_use : (v : Bool) (k : ℕ) (f : SourceFault) (xs : List (ℕ × SourceFault)) (us : List SourceFault) → map (λ (g : ℕ × SourceFault). g.1) xs ≡ cond v us []
+    → map (λ (g : ℕ × SourceFault). g.1) (cond v ((k, f) ∷ xs) xs) ≡ cond v (f ∷ us) []
 pick_use true k f xs us e = ap (λ zs. f ∷ zs) e
 pick_use false k f xs us e = e
 
@@ -72,12 +75,15 @@ no_own : (at o : ℕ) (fs : List ReadFault) → has_fault o fs ≡ false → own
 no_own at o [] e = refl
 no_own at o (f ∷ fs) e =
     let parts = or_parts (nat_eq f.ordinal o) (has_fault o fs) e in
-    ap (λ v. map (local_fault at) (cond v (f ∷ filter (λ (g : ReadFault). nat_eq g.ordinal o) fs) (filter (λ (g : ReadFault). nat_eq g.ordinal o) fs))) parts.0 ∙ no_own at o fs parts.1
+    ap (λ v. map (local_fault at) (cond v (f ∷ filter (λ (g : ReadFault). nat_eq g.ordinal o) fs) (filter (λ (g : ReadFault). nat_eq g.ordinal o) fs)))
+    parts.0 ∙ no_own at o fs parts.1
 
 -- ---- the faults of uses
 
 use_step : (bs : List Reading) (at o : ℕ) (i : ReadItem) (is : List ReadItem) (v : Bool)
-    → cond v (fault_of_item bs at i.line (used_name i.said)) [] ++ use_faults bs at o is ≡ flat_map (λ (j : ReadItem). fault_of_item bs at j.line (used_name j.said)) (cond v (i ∷ filter (λ (j : ReadItem). nat_eq j.ordinal o) is) (filter (λ (j : ReadItem). nat_eq j.ordinal o) is))
+    → cond v (fault_of_item bs at i.line (used_name i.said)) [] ++ use_faults bs at o is ≡ flat_map
+    (λ (j : ReadItem). fault_of_item bs at j.line (used_name j.said))
+    (cond v (i ∷ filter (λ (j : ReadItem). nat_eq j.ordinal o) is) (filter (λ (j : ReadItem). nat_eq j.ordinal o) is))
 use_step bs at o i is true = refl
 use_step bs at o i is false = refl
 
@@ -96,7 +102,9 @@ no_uses bs at o (i ∷ is) e =
 -- ---- either reading gave no fault with the ordinal, or no use has it
 
 pick_step : (bs : List Reading) (at o : ℕ) (fs : List ReadFault) (i : ReadItem) (is : List ReadItem)
-    → with_ordinal o (numbered_faults bs at fs (i ∷ is)) ≡ own_faults at o (faults_before i.ordinal fs) ++ (cond (nat_eq i.ordinal o) (fault_of_item bs at i.line (used_name i.said)) [] ++ with_ordinal o (numbered_faults bs at (faults_from i.ordinal fs) is))
+    → with_ordinal o (numbered_faults bs at fs (i ∷ is)) ≡ own_faults at o (faults_before i.ordinal fs)
+    ++ (cond (nat_eq i.ordinal o) (fault_of_item bs at i.line (used_name i.said)) [] ++ with_ordinal o
+    (numbered_faults bs at (faults_from i.ordinal fs) is))
 pick_step bs at o fs i is =
     let uses = fault_of_item bs at i.line (used_name i.said) in
     let rest = numbered_faults bs at (faults_from i.ordinal fs) is in
@@ -105,19 +113,23 @@ pick_step bs at o fs i is =
     ∙ ap (λ xs. own_faults at o (faults_before i.ordinal fs) ++ xs)
     (pick-append o (map (λ f. (i.ordinal, f)) uses) rest ∙ ap (λ xs. xs ++ with_ordinal o rest) (pick-uses o i.ordinal uses)))
 
-only_uses : (bs : List Reading) (at o : ℕ) (fs : List ReadFault) (items : List ReadItem) → has_fault o fs ≡ false → with_ordinal o (numbered_faults bs at fs items) ≡ use_faults bs at o items
+only_uses : (bs : List Reading) (at o : ℕ) (fs : List ReadFault) (items : List ReadItem) → has_fault o fs ≡ false
+    → with_ordinal o (numbered_faults bs at fs items) ≡ use_faults bs at o items
 only_uses bs at o fs [] e = pick-locals o at fs ∙ no_own at o fs e
 only_uses bs at o fs (i ∷ is) e =
     let parts = fault_parts o i.ordinal fs e in
     pick_step bs at o fs i is
-    ∙ (rw (no_own at o (faults_before i.ordinal fs) parts.0, only_uses bs at o (faults_from i.ordinal fs) is parts.1) (use_step bs at o i is (nat_eq i.ordinal o)))
+    ∙ (rw (no_own at o (faults_before i.ordinal fs) parts.0, only_uses bs at o (faults_from i.ordinal fs) is parts.1)
+    (use_step bs at o i is (nat_eq i.ordinal o)))
 
-only_own : (bs : List Reading) (at o : ℕ) (fs : List ReadFault) (items : List ReadItem) → has_use o items ≡ false → with_ordinal o (numbered_faults bs at fs items) ≡ own_faults at o fs
+only_own : (bs : List Reading) (at o : ℕ) (fs : List ReadFault) (items : List ReadItem) → has_use o items ≡ false
+    → with_ordinal o (numbered_faults bs at fs items) ≡ own_faults at o fs
 only_own bs at o fs [] e = pick-locals o at fs
 only_own bs at o fs (i ∷ is) e =
     let parts = or_parts (nat_eq i.ordinal o && is_some (used_name i.said)) (has_use o is) e in
     pick_step bs at o fs i is
-    ∙ (rw (no_use bs at i.line (nat_eq i.ordinal o) (used_name i.said) parts.0, only_own bs at o (faults_from i.ordinal fs) is parts.1) (own_parts at o i.ordinal fs))
+    ∙ (rw (no_use bs at i.line (nat_eq i.ordinal o) (used_name i.said) parts.0, only_own bs at o (faults_from i.ordinal fs) is parts.1)
+    (own_parts at o i.ordinal fs))
 
 pub by_ordinal : ItemFaultsGoByOrdinal
 by_ordinal = λ bs at fs items apart o.

@@ -28,19 +28,22 @@ mentions_of-agree f g (said_text c t) h = refl
 mentions_of-agree f g (said_cancel c) h = refl
 mentions_of-agree f g (said_import n) h = h n refl
 
-pub expand_items-agree : (f g : List ℕ → Option (List Mention)) (items : List ReadItem) → ((n : List ℕ) → Uses items n → f n ≡ g n) → expand_items f items ≡ expand_items g items
+pub expand_items-agree : (f g : List ℕ → Option (List Mention)) (items : List ReadItem) → ((n : List ℕ) → Uses items n → f n ≡ g n)
+    → expand_items f items ≡ expand_items g items
 expand_items-agree f g [] h = refl
 expand_items-agree f g (i ∷ is) h =
     rw (mentions_of-agree f g i.said (λ n u. h n (inl u)), expand_items-agree f g is (λ n u. h n (inr u))) refl
 
 -- ---- expansions
 
-and_then-agree : (o : Option Reading) (f g : Reading → Option (List Mention)) → ((b : Reading) → o ≡ Some b → f b ≡ g b) → option_and_then f o ≡ option_and_then g o
+and_then-agree : (o : Option Reading) (f g : Reading → Option (List Mention)) → ((b : Reading) → o ≡ Some b → f b ≡ g b)
+    → option_and_then f o ≡ option_and_then g o
 and_then-agree None f g h = refl
 and_then-agree (Some b) f g h = h b refl
 
 -- if a block's uses are free, its expansion is equal in both
-pub expand-kept : (test : List ℕ → Bool) (e f : Env) → AgreeOff test e f → (depth : ℕ) (b : Reading) → ((n : List ℕ) → Uses b.items n → IsFree e test n) → expand f depth b ≡ expand e depth b
+pub expand-kept : (test : List ℕ → Bool) (e f : Env) → AgreeOff test e f → (depth : ℕ) (b : Reading) → ((n : List ℕ) → Uses b.items n → IsFree e test n)
+    → expand f depth b ≡ expand e depth b
 expand-kept test e f agree zero b free = refl
 expand-kept test e f agree (suc k) b free =
     ap (λ o. cond (is_broken b) None o) (expand_items-agree (names_at f k) (names_at e k) b.items (λ n u.
@@ -50,14 +53,16 @@ expand-kept test e f agree (suc k) b free =
 -- ---- ways
 
 -- a way from a free name in one assignment is a way in the other too
-pub way-kept : (test : List ℕ → Bool) (e f : Env) → AgreeOff test e f → (way : List (List ℕ)) (from to : List ℕ) → IsFree e test from → IsUseWay e from way to → IsUseWay f from way to
+pub way-kept : (test : List ℕ → Bool) (e f : Env) → AgreeOff test e f → (way : List (List ℕ)) (from to : List ℕ) → IsFree e test from
+    → IsUseWay e from way to → IsUseWay f from way to
 way-kept test e f agree [] from to free w = w
 way-kept test e f agree (x ∷ way) from to free w =
     let same : e from ≡ f from = agree from (free [] from refl) in
     ((w.0.0, sym same ∙ w.0.1, w.0.2), way-kept test e f agree way x to (λ rest last v. free (x ∷ rest) last (w.0, v)) w.1)
 
 -- each way from it in the other assignment is a way in the first
-pub way-back : (test : List ℕ → Bool) (e f : Env) → AgreeOff test e f → (way : List (List ℕ)) (from to : List ℕ) → IsFree e test from → IsUseWay f from way to → IsUseWay e from way to
+pub way-back : (test : List ℕ → Bool) (e f : Env) → AgreeOff test e f → (way : List (List ℕ)) (from to : List ℕ) → IsFree e test from
+    → IsUseWay f from way to → IsUseWay e from way to
 way-back test e f agree [] from to free w = w
 way-back test e f agree (x ∷ way) from to free w =
     let same : e from ≡ f from = agree from (free [] from refl) in
@@ -73,7 +78,8 @@ abbrev pub LeadsIn : Env → (List ℕ → Bool) → List ℕ → Type 0
 LeadsIn env test from = (way : List (List ℕ)) × (to : List ℕ) × IsUseWay env from way to × (test to ≡ true)
 
 -- if there is such a way in one assignment, there is one in the other
-pub way-both : (test : List ℕ → Bool) (e f : Env) → AgreeOff test e f → (way : List (List ℕ)) (from to : List ℕ) → IsUseWay e from way to → test to ≡ true → LeadsIn f test from
+pub way-both : (test : List ℕ → Bool) (e f : Env) → AgreeOff test e f → (way : List (List ℕ)) (from to : List ℕ) → IsUseWay e from way to → test to ≡ true
+    → LeadsIn f test from
 way-both test e f agree [] from to w t = ([], to, w, t)
 way-both test e f agree (x ∷ way) from to w t =
     elim (cases_Bool (test from)) [

@@ -1,5 +1,6 @@
 -- The laws of the definitions.
-use Rattle.std.proofs.Common.{◌≡◌, ℕ, zero, suc, ◌<◌, ◌⊎◌, inl, inr, true, false, List, [], ◌∷◌, length, Option, Some, None, is_some, option_map, slice_get, refl, sym, ◌∙◌, ap, subst, arith}
+use Rattle.std.proofs.Common.{◌≡◌, ℕ, zero, suc, ◌<◌, ◌⊎◌, inl, inr, true, false, List, [], ◌∷◌, length, Option, Some, None, is_some, option_map, slice_get}
+use Rattle.std.proofs.Common.{refl, sym, ◌∙◌, ap, subst, arith}
 use Rattle.std.proofs.lemmas.Bool.{cases_Bool, false≢true}
 use Rattle.std.proofs.lemmas.Option.{same_Some, none-some}
 use Rattle.ti_source.specs.Reading.{Reading}
@@ -7,7 +8,8 @@ use Rattle.base_meaning.specs.Owner.{is_among, owner, owner_block}
 use Rattle.ti_layout.specs.Values.{Mention}
 use Rattle.base_meaning.specs.Expansion.{expand, expansion}
 use Rattle.base_meaning.specs.Reaching.{LeadsTo, leads_to}
-use Rattle.base_meaning.specs.Laws.{IsFirstWith, OwnersAreFirst, ExpansionsStay, ExpansionsAreFound, WaysAreFound, IsUseFault, nobody_owns, leads_back, owner_unresolved, owner_resolved, UseFaultsAreFound, UsesAreFound, OwnersAreTold, Resolves}
+use Rattle.base_meaning.specs.Laws.{IsFirstWith, OwnersAreFirst, ExpansionsStay, ExpansionsAreFound, WaysAreFound, IsUseFault, nobody_owns, leads_back}
+use Rattle.base_meaning.specs.Laws.{owner_unresolved, owner_resolved, UseFaultsAreFound, UsesAreFound, OwnersAreTold, Resolves}
 use Rattle.base_meaning.proofs.Owning.{nobody, somebody, owning}
 use Rattle.base_meaning.proofs.Depth.{expand-le, bounded}
 use Rattle.base_meaning.proofs.UseFaults.{use_fault_missing, use_fault_circular, use_fault_open, use_fault_none}
@@ -15,7 +17,8 @@ use Rattle.base_meaning.proofs.Leading.{any_use-used, used-any_use, is_owner-fro
 
 -- ---- owners
 
-first_later : (b : Reading) (bs : List Reading) (name : List ℕ) (at : ℕ) → is_among name b.names ≡ false → IsFirstWith bs name at → IsFirstWith (b ∷ bs) name (suc at)
+first_later : (b : Reading) (bs : List Reading) (name : List ℕ) (at : ℕ) → is_among name b.names ≡ false → IsFirstWith bs name at
+    → IsFirstWith (b ∷ bs) name (suc at)
 first_later b bs name at e h = record {
   block = h.block;
   stands = h.stands;

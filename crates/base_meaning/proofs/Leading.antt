@@ -1,6 +1,7 @@
 -- Whether a way leads from a name to a name of a block: a search with a depth of one for each block
 -- of the list finds every way.
-use Rattle.std.proofs.Common.{◌≡◌, ℕ, zero, suc, ◌<◌, ◌⊎◌, inl, inr, Bool, true, false, ◌||◌, List, [], ◌∷◌, length, Option, Some, None, slice_get, nat_eq, refl, sym, ◌∙◌, ap, subst}
+use Rattle.std.proofs.Common.{◌≡◌, ℕ, zero, suc, ◌<◌, ◌⊎◌, inl, inr, Bool, true, false, ◌||◌, List, [], ◌∷◌, length, Option, Some, None, slice_get, nat_eq}
+use Rattle.std.proofs.Common.{refl, sym, ◌∙◌, ap, subst}
 use Rattle.std.specs.Option.{option_map_or}
 use Rattle.std.specs.Str.{bytes_eq}
 use Rattle.std.specs.Cmp.Lexicographic.{bytes_decides}
@@ -62,7 +63,8 @@ any_use-grows f g h is e = let w = any_use-uses f is e in any_use-from g is w.0 
 abbrev after_step : List Reading → ℕ → ℕ → Reading → Bool
 after_step bs at k b = any_use (λ n. leads bs k n at) b.items
 
-block_passes-grows : (f g : Reading → Bool) → ((b : Reading) → f b ≡ true → g b ≡ true) → (o : Option Reading) → block_passes f o ≡ true → block_passes g o ≡ true
+block_passes-grows : (f g : Reading → Bool) → ((b : Reading) → f b ≡ true → g b ≡ true) → (o : Option Reading) → block_passes f o ≡ true
+    → block_passes g o ≡ true
 block_passes-grows f g h None e = e
 block_passes-grows f g h (Some b) e = h b e
 
@@ -89,7 +91,8 @@ unfolding steps_at
 steps_at-none bs at k p e = rw e refl
 
 each_place : (bs : List Reading) (p : ℕ) → ((b : Reading) × (slice_get bs p ≡ Some b)) ⊎ (slice_get bs p ≡ None)
-each_place bs p = elim (slice_get bs p) as (λ v. slice_get bs p ≡ v → ((b : Reading) × (slice_get bs p ≡ Some b)) ⊎ (slice_get bs p ≡ None)) [ Some b ↦ λ e. inl (b, e) | None ↦ λ e. inr e ] refl
+each_place bs p = elim (slice_get bs p) as (λ v. slice_get bs p ≡ v → ((b : Reading) × (slice_get bs p ≡ Some b))
+    ⊎ (slice_get bs p ≡ None)) [ Some b ↦ λ e. inl (b, e) | None ↦ λ e. inr e ] refl
 
 steps_at-grows : (bs : List Reading) (at k p : ℕ) → p < length bs → steps_at bs at k p ≡ true → steps_at bs at (suc k) p ≡ true
 steps_at-grows bs at k p l h =
@@ -101,7 +104,8 @@ steps_at-grows bs at k p l h =
           ∙ any_use-grows (λ m. leads bs k m at) (λ m. leads bs (suc k) m at) (leads-suc bs at k) b.items (sym (steps_at-is bs at k p b found.1) ∙ h)
     ]
 
-leads-same : (bs : List Reading) (at j k : ℕ) → ((p : ℕ) → p < length bs → steps_at bs at j p ≡ steps_at bs at k p) → (n : List ℕ) → leads bs (suc j) n at ≡ leads bs (suc k) n at
+leads-same : (bs : List Reading) (at j k : ℕ) → ((p : ℕ) → p < length bs → steps_at bs at j p ≡ steps_at bs at k p) → (n : List ℕ)
+    → leads bs (suc j) n at ≡ leads bs (suc k) n at
 leads-same bs at j k h n =
     elim (owning bs n) [
       | nobody _ d ↦ rw d refl
@@ -110,7 +114,8 @@ leads-same bs at j k h n =
           rw (o.is, e) refl
     ]
 
-steps_at-stays : (bs : List Reading) (at k : ℕ) → ((p : ℕ) → p < length bs → steps_at bs at (suc k) p ≡ steps_at bs at k p) → (p : ℕ) → p < length bs → steps_at bs at (suc (suc k)) p ≡ steps_at bs at (suc k) p
+steps_at-stays : (bs : List Reading) (at k : ℕ) → ((p : ℕ) → p < length bs → steps_at bs at (suc k) p ≡ steps_at bs at k p) → (p : ℕ) → p < length bs
+    → steps_at bs at (suc (suc k)) p ≡ steps_at bs at (suc k) p
 steps_at-stays bs at k h p l =
     elim (each_place bs p) [
       | inr none ↦ steps_at-none bs at (suc (suc k)) p none ∙ sym (steps_at-none bs at (suc k) p none)
@@ -151,7 +156,8 @@ is_owner-is bs n at e =
       | Some p ↦ λ h. ap (λ x. Some x) (eqb-true p at h)
     ] e
 
-way_leads : (bs : List Reading) (at : ℕ) (way : List (List ℕ)) (from to : List ℕ) → IsUseWay (owner_block bs) from way to → owner bs to ≡ Some at → leads bs (suc (length way)) from at ≡ true
+way_leads : (bs : List Reading) (at : ℕ) (way : List (List ℕ)) (from to : List ℕ) → IsUseWay (owner_block bs) from way to → owner bs to ≡ Some at
+    → leads bs (suc (length way)) from at ≡ true
 way_leads bs at [] from to w e =
     or_left (is_owner bs from at) (block_passes (after_step bs at 0) (owner_block bs from)) (is_owner-from bs from at (rw w e))
 way_leads bs at (next ∷ way) from to w e =

@@ -1,6 +1,7 @@
 -- What adding mentions to a table makes of it, item by item; and when a block has no expansion at a
 -- depth.
-use Rattle.std.proofs.Common.{◌≡◌, ℕ, zero, suc, append_assoc, ◌+◌, inl, inr, Bool, true, false, cond, List, [], ◌∷◌, ◌++◌, Option, Some, None, slice_get, refl, sym, ◌∙◌, ap, arith}
+use Rattle.std.proofs.Common.{◌≡◌, ℕ, zero, suc, append_assoc, ◌+◌, inl, inr, Bool, true, false, cond, List, [], ◌∷◌, ◌++◌, Option, Some, None, slice_get}
+use Rattle.std.proofs.Common.{refl, sym, ◌∙◌, ap, arith}
 use Rattle.std.specs.Option.{option_or}
 use Rattle.std.proofs.lemmas.Option.{same_Some, none-some}
 use Rattle.ti_caps.specs.Tables.{Capability, IsCapability, same_capability}
@@ -52,7 +53,8 @@ joined-nothing : (o : Option (List Mention)) → o ≡ both_lists (Some []) o
 joined-nothing None = refl
 joined-nothing (Some xs) = refl
 
-pub expand_items-append : (f : List ℕ → Option (List Mention)) (is js : List ReadItem) → expand_items f (is ++ js) ≡ both_lists (expand_items f is) (expand_items f js)
+pub expand_items-append : (f : List ℕ → Option (List Mention)) (is js : List ReadItem) → expand_items f (is ++ js)
+    ≡ both_lists (expand_items f is) (expand_items f js)
 expand_items-append f [] js = joined-nothing (expand_items f js)
 expand_items-append f (i ∷ is) js = rw (expand_items-append f is js) (joined-assoc (mentions_of f i.said) (expand_items f is) (expand_items f js))
 
@@ -62,7 +64,8 @@ unfolding contents
 table_of_nothing bs f none = record { depth = 0; mentions = []; expands = refl; is_table = λ c _. none c }
 
 -- one more item was added
-pub table_of_one_more : (bs : List Reading) (is : List ReadItem) (i : ReadItem) (f g : Contents) → IsTableOfItems bs is f → AddsSaid bs i.said f g → IsTableOfItems bs (is ++ i ∷ []) g
+pub table_of_one_more : (bs : List Reading) (is : List ReadItem) (i : ReadItem) (f g : Contents) → IsTableOfItems bs is f → AddsSaid bs i.said f g
+    → IsTableOfItems bs (is ++ i ∷ []) g
 unfolding contents
 table_of_one_more bs is i f g t h =
     let deep = t.depth + h.depth in
@@ -86,7 +89,8 @@ table_of_block bs b f sound t = record { depth = suc t.depth; mentions = t.menti
 
 -- ---- no depth expands what remains open
 
-pub uses_at : (items : List ReadItem) (i : ℕ) (item : ReadItem) (name : List ℕ) → slice_get items i ≡ Some item → used_name item.said ≡ Some name → Uses items name
+pub uses_at : (items : List ReadItem) (i : ℕ) (item : ReadItem) (name : List ℕ) → slice_get items i ≡ Some item → used_name item.said ≡ Some name
+    → Uses items name
 uses_at [] i item name s u = absurd (none-some item s)
 uses_at (x ∷ xs) zero item name s u = inl (rw (same_Some x item s) u)
 uses_at (x ∷ xs) (suc i) item name s u = inr (uses_at xs i item name s u)
@@ -102,7 +106,8 @@ joined-none : (o : Option (List Mention)) → both_lists o None ≡ None
 joined-none None = refl
 joined-none (Some xs) = refl
 
-pub expand_items-none : (f : List ℕ → Option (List Mention)) (items : List ReadItem) (name : List ℕ) → Uses items name → f name ≡ None → expand_items f items ≡ None
+pub expand_items-none : (f : List ℕ → Option (List Mention)) (items : List ReadItem) (name : List ℕ) → Uses items name → f name ≡ None
+    → expand_items f items ≡ None
 expand_items-none f [] name u e = absurd u
 expand_items-none f (i ∷ is) name (inl here) e = rw (mentions_of-used f i.said name here, e) refl
 expand_items-none f (i ∷ is) name (inr later) e = rw (expand_items-none f is name later e) (joined-none (mentions_of f i.said))

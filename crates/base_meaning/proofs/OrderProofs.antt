@@ -83,7 +83,8 @@ climbs-from l k (f ∷ fs) c =
       | false ↦ λ e. (ltb-false f.ordinal k e, c.1)
     ] refl
 
-climbing : (bs : List Reading) (at l : ℕ) (fs : List ReadFault) (items : List ReadItem) → Climbs l (ordinals fs) → Climbs l (map (λ (i : ReadItem). i.ordinal) items) → Climbs l (numbers (numbered_faults bs at fs items))
+climbing : (bs : List Reading) (at l : ℕ) (fs : List ReadFault) (items : List ReadItem) → Climbs l (ordinals fs)
+    → Climbs l (map (λ (i : ReadItem). i.ordinal) items) → Climbs l (numbers (numbered_faults bs at fs items))
 climbing bs at l fs [] c d = rw (numbers-numbered at fs) c
 climbing bs at l fs (i ∷ is) c d =
     let uses = fault_of_item bs at i.line (used_name i.said) in

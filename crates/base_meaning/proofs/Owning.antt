@@ -28,7 +28,8 @@ owning (b ∷ bs) name =
       | false ↦ λ e. owning_more b bs name e (owning bs name)
     ] refl
 
-pub owner_to_owned : (bs : List Reading) (name : List ℕ) (at : ℕ) (b : Reading) → owner bs name ≡ Some at → slice_get bs at ≡ Some b → owner_block bs name ≡ Some b
+pub owner_to_owned : (bs : List Reading) (name : List ℕ) (at : ℕ) (b : Reading) → owner bs name ≡ Some at → slice_get bs at ≡ Some b
+    → owner_block bs name ≡ Some b
 owner_to_owned bs name at b o s =
     elim (owning bs name) [
       | nobody none _ ↦ absurd (none-some at (sym none ∙ o))

@@ -1,6 +1,7 @@
 -- What a block that is put into a list leaves of the others: where they are, and which name belongs
 -- to which.
-use Rattle.std.proofs.Common.{◌≡◌, ℕ, zero, suc, min, ◌<◌, ◌≤◌, ◌⊎◌, inl, inr, Bool, true, false, cond, List, [], ◌∷◌, length, Option, Some, None, option_map, slice_get, refl, sym, ◌∙◌, ap, arith}
+use Rattle.std.proofs.Common.{◌≡◌, ℕ, zero, suc, min, ◌<◌, ◌≤◌, ◌⊎◌, inl, inr, Bool, true, false, cond, List, [], ◌∷◌, length, Option, Some, None}
+use Rattle.std.proofs.Common.{option_map, slice_get, refl, sym, ◌∙◌, ap, arith}
 use Rattle.std.specs.List.{insert}
 use Rattle.ti_source.specs.Reading.{Reading}
 use Rattle.base_meaning.specs.Owner.{is_among, owner, owner_block}
@@ -54,7 +55,8 @@ position_behind-less (suc at) (suc j) (suc k) l = let h = position_behind-less a
 
 -- ---- a list with a block put in, if there is one
 
-pub get-with : (rest : List Reading) (o : Option PlacedBlock) (k : ℕ) → HasPlace rest o → slice_get (with_block rest o) (shifted_position o k) ≡ slice_get rest k
+pub get-with : (rest : List Reading) (o : Option PlacedBlock) (k : ℕ) → HasPlace rest o → slice_get (with_block rest o) (shifted_position o k)
+    ≡ slice_get rest k
 get-with rest None k l = refl
 get-with rest (Some p) k l = get-insert rest p.at p.block k l
 
@@ -79,26 +81,31 @@ shifted-less (Some one) j k l = position_behind-less one.at j k l
 
 -- ---- the block that owns a name
 
-owned-insert : (bs : List Reading) (at : ℕ) (b : Reading) (n : List ℕ) → at ≤ length bs → is_among n b.names ≡ false → owner_block (insert bs at b) n ≡ owner_block bs n
+owned-insert : (bs : List Reading) (at : ℕ) (b : Reading) (n : List ℕ) → at ≤ length bs → is_among n b.names ≡ false
+    → owner_block (insert bs at b) n ≡ owner_block bs n
 owned-insert bs zero b n l e = rw e refl
 owned-insert [] (suc at) b n l e = absurd (omega arith)
 owned-insert (c ∷ bs) (suc at) b n l e = rw (owned-insert bs at b n (omega arith) e) refl
 
-pos_suc : (at : ℕ) (o : Option ℕ) → option_map (λ p. suc p) (option_map (position_behind at) o) ≡ option_map (position_behind (suc at)) (option_map (λ p. suc p) o)
+pos_suc : (at : ℕ) (o : Option ℕ) → option_map (λ p. suc p) (option_map (position_behind at) o)
+    ≡ option_map (position_behind (suc at)) (option_map (λ p. suc p) o)
 pos_suc at None = refl
 pos_suc at (Some p) = refl
 
-owner_split : (v : Bool) (at : ℕ) (o p : Option ℕ) → o ≡ option_map (position_behind at) p → cond v (Some 0) (option_map (λ q. suc q) o) ≡ option_map (position_behind (suc at)) (cond v (Some 0) (option_map (λ q. suc q) p))
+owner_split : (v : Bool) (at : ℕ) (o p : Option ℕ) → o ≡ option_map (position_behind at) p → cond v (Some 0) (option_map (λ q. suc q) o)
+    ≡ option_map (position_behind (suc at)) (cond v (Some 0) (option_map (λ q. suc q) p))
 owner_split true at o p e = refl
 owner_split false at o p e = ap (λ x. option_map (λ q. suc q) x) e ∙ pos_suc at p
 
-owner-insert : (bs : List Reading) (at : ℕ) (b : Reading) (n : List ℕ) → at ≤ length bs → is_among n b.names ≡ false → owner (insert bs at b) n ≡ option_map (position_behind at) (owner bs n)
+owner-insert : (bs : List Reading) (at : ℕ) (b : Reading) (n : List ℕ) → at ≤ length bs → is_among n b.names ≡ false
+    → owner (insert bs at b) n ≡ option_map (position_behind at) (owner bs n)
 owner-insert bs zero b n l e = rw e refl
 owner-insert [] (suc at) b n l e = absurd (omega arith)
 owner-insert (c ∷ bs) (suc at) b n l e = owner_split (is_among n c.names) at (owner (insert bs at b) n) (owner bs n) (owner-insert bs at b n (omega arith) e)
 
 -- a name that the block put in lacks belongs to the block that it belonged to
-pub owned-with : (rest : List Reading) (o : Option PlacedBlock) (n : List ℕ) → HasPlace rest o → is_among n (lookup_names_of o) ≡ false → owner_block (with_block rest o) n ≡ owner_block rest n
+pub owned-with : (rest : List Reading) (o : Option PlacedBlock) (n : List ℕ) → HasPlace rest o → is_among n (lookup_names_of o) ≡ false
+    → owner_block (with_block rest o) n ≡ owner_block rest n
 owned-with rest None n l e = refl
 owned-with rest (Some p) n l e = owned-insert rest p.at p.block n l e
 
@@ -106,7 +113,8 @@ option_map-same : (o : Option ℕ) → o ≡ option_map (λ k. k) o
 option_map-same None = refl
 option_map-same (Some k) = refl
 
-pub owner-with : (rest : List Reading) (o : Option PlacedBlock) (n : List ℕ) → HasPlace rest o → is_among n (lookup_names_of o) ≡ false → owner (with_block rest o) n ≡ option_map (shifted_position o) (owner rest n)
+pub owner-with : (rest : List Reading) (o : Option PlacedBlock) (n : List ℕ) → HasPlace rest o → is_among n (lookup_names_of o) ≡ false
+    → owner (with_block rest o) n ≡ option_map (shifted_position o) (owner rest n)
 owner-with rest None n l e = option_map-same (owner rest n)
 owner-with rest (Some p) n l e = owner-insert rest p.at p.block n l e
 
@@ -115,13 +123,15 @@ abbrev pub first_of : ℕ → Option ℕ → ℕ
 first_of at None = at
 first_of at (Some other) = min at other
 
-first_step : (v : Bool) (at : ℕ) (o p : Option ℕ) → o ≡ Some (first_of at p) → cond v (Some 0) (option_map (λ q. suc q) o) ≡ Some (first_of (suc at) (cond v (Some 0) (option_map (λ q. suc q) p)))
+first_step : (v : Bool) (at : ℕ) (o p : Option ℕ) → o ≡ Some (first_of at p) → cond v (Some 0) (option_map (λ q. suc q) o)
+    ≡ Some (first_of (suc at) (cond v (Some 0) (option_map (λ q. suc q) p)))
 first_step true at o p e = let m : 0 ≡ min (suc at) 0 = omega arith in ap (λ x. Some x) m
 first_step false at o None e = rw e refl
 first_step false at o (Some k) e = rw e (let m : suc (min at k) ≡ min (suc at) (suc k) = omega arith in ap (λ x. Some x) m)
 
 -- a name that the new block has belongs to the first of it and of the owner that the name had
-pub owner-put : (bs : List Reading) (at : ℕ) (b : Reading) (n : List ℕ) → at ≤ length bs → is_among n b.names ≡ true → owner (insert bs at b) n ≡ Some (first_of at (owner bs n))
+pub owner-put : (bs : List Reading) (at : ℕ) (b : Reading) (n : List ℕ) → at ≤ length bs → is_among n b.names ≡ true
+    → owner (insert bs at b) n ≡ Some (first_of at (owner bs n))
 owner-put bs zero b n l e = rw e (first_zero (owner bs n)) where
   first_zero : (o : Option ℕ) → Some 0 ≡ Some (first_of 0 o)
   first_zero None = refl

@@ -1,6 +1,7 @@
 -- The items and the faults that reading gives are in the order of the items, and an item with a
 -- fault by itself uses no name.
-use Rattle.std.proofs.Common.{◌≡◌, ℕ, ◌+◌, ◌<◌, ◌≤◌, ◌⊎◌, inl, inr, Bool, true, false, ◌&&◌, ◌||◌, nat_eq, nat_lt, cond, List, [], ◌∷◌, ◌++◌, length, map, filter, Option, Some, None, Ok, Err, Result, is_some, refl, sym, ◌∙◌, ap, arith}
+use Rattle.std.proofs.Common.{◌≡◌, ℕ, ◌+◌, ◌<◌, ◌≤◌, ◌⊎◌, inl, inr, Bool, true, false, ◌&&◌, ◌||◌, nat_eq, nat_lt, cond, List, [], ◌∷◌, ◌++◌, length, map}
+use Rattle.std.proofs.Common.{filter, Option, Some, None, Ok, Err, Result, is_some, refl, sym, ◌∙◌, ap, arith}
 use Rattle.std.specs.Option.{option_to_list}
 use Rattle.std.proofs.lemmas.Bool.{false≢true, and_right, and_left, or_from, cases_eq, ne_eqb, or_cases}
 use Rattle.std.proofs.lemmas.List.Elements.{filter-append}
@@ -18,7 +19,8 @@ use Rattle.ti_source.specs.inside.Header.{header_names}
 use Rattle.ti_source.specs.Reading.{Said, said_import, ReadItem, ReadFault}
 use Rattle.ti_source.specs.Parsing.{accepted, is_import, said_by, code_by, item_fault, header_fault, reading_of_text}
 use Rattle.ti_text.specs.Limits.{names_max}
-use Rattle.ti_source.specs.Verdicts.{ReadClaim, reads_flag, reads_number, reads_text, reads_cancel, number_verdict, text_verdict, fitting_verdict, named_verdict, claimed_text}
+use Rattle.ti_source.specs.Verdicts.{ReadClaim, reads_flag, reads_number, reads_text, reads_cancel, number_verdict, text_verdict, fitting_verdict}
+use Rattle.ti_source.specs.Verdicts.{named_verdict, claimed_text}
 use Rattle.ti_source.specs.inside.Verdicts.{read_claim, verdict_of}
 use Rattle.ti_source.specs.Judging.{Judged, items_at, faults_at, items_from, faults_from, header_faults}
 use Rattle.ti_source.specs.inside.Parsing.{judged_as, judged_of, block_field}
@@ -63,17 +65,20 @@ named_no_use claim (Some c) = fitting_no_use c claim c.kind
 
 -- a verdict has no fault or accepts no use
 apart_verdict : (v : Bool) (claim : Claim) (read : ReadClaim) (o : Option Capability)
-    → (code_by (cond v (accepted (said_import (without_outer_space (claimed_text claim)))) (named_verdict read o)) ≡ None) ⊎ (uses_name (said_by (cond v (accepted (said_import (without_outer_space (claimed_text claim)))) (named_verdict read o))) ≡ false)
+    → (code_by (cond v (accepted (said_import (without_outer_space (claimed_text claim)))) (named_verdict read o)) ≡ None)
+    ⊎ (uses_name (said_by (cond v (accepted (said_import (without_outer_space (claimed_text claim)))) (named_verdict read o))) ≡ false)
 apart_verdict true claim read o = inl refl
 apart_verdict false claim read o = inr (named_no_use read o)
 
 -- ---- what one item gives
 
-items_apart : (o k line : ℕ) (x : Option Said) → uses_name x ≡ false → has_use o (map (λ said. record { ordinal = k; line = line; said = said }) (option_to_list x)) ≡ false
+items_apart : (o k line : ℕ) (x : Option Said) → uses_name x ≡ false
+    → has_use o (map (λ said. record { ordinal = k; line = line; said = said }) (option_to_list x)) ≡ false
 items_apart o k line None e = refl
 items_apart o k line (Some s) e = or_from (nat_eq k o && is_some (used_name s)) false (and_right (nat_eq k o) (is_some (used_name s)) e) refl
 
-other_items : (o k line : ℕ) (x : Option Said) → nat_eq k o ≡ false → has_use o (map (λ said. record { ordinal = k; line = line; said = said }) (option_to_list x)) ≡ false
+other_items : (o k line : ℕ) (x : Option Said) → nat_eq k o ≡ false
+    → has_use o (map (λ said. record { ordinal = k; line = line; said = said }) (option_to_list x)) ≡ false
 other_items o k line None e = refl
 other_items o k line (Some s) e = or_from (nat_eq k o && is_some (used_name s)) false (and_left (nat_eq k o) (is_some (used_name s)) e) refl
 
@@ -117,13 +122,15 @@ later_items o k (j ∷ js) l =
     ∙ not_both (has_use o (items_at k j)) (has_use o (items_from (k + 1) js)) (other_items_at o k j (ne_eqb k o (λ e. omega arith)))
     (later_items o (k + 1) js (omega arith))
 
-apart_from : (o k : ℕ) (items : List (List PlacedByte)) → has_fault o (faults_from k (map judged_of items)) ≡ true → has_use o (items_from k (map judged_of items)) ≡ false
+apart_from : (o k : ℕ) (items : List (List PlacedByte)) → has_fault o (faults_from k (map judged_of items)) ≡ true
+    → has_use o (items_from k (map judged_of items)) ≡ false
 apart_from o k [] t = refl
 apart_from o k (i ∷ is) t =
     let j = judged_of i in
     let js = map judged_of is in
     let uses = any-append (λ (x : ReadItem). nat_eq x.ordinal o && is_some (used_name x.said)) (items_at k j) (items_from (k + 1) js) in
-    let faults : (has_fault o (faults_at k j) || has_fault o (faults_from (k + 1) js)) ≡ true = sym (any-append (λ (f : ReadFault). nat_eq f.ordinal o) (faults_at k j) (faults_from (k + 1) js)) ∙ t in
+    let faults : (has_fault o (faults_at k j) || has_fault o (faults_from (k + 1) js)) ≡ true =
+    sym (any-append (λ (f : ReadFault). nat_eq f.ordinal o) (faults_at k j) (faults_from (k + 1) js)) ∙ t in
     uses ∙ elim (cases_eq k o) [
       | inr other ↦ not_both (has_use o (items_at k j)) (has_use o (items_from (k + 1) js))
           (other_items_at o k j (ne_eqb k o other))
@@ -148,19 +155,23 @@ climbs-lower : (l m : ℕ) (ns : List ℕ) → l ≤ m → Climbs m ns → Climb
 climbs-lower l m [] h c = tt
 climbs-lower l m (n ∷ ns) h c = (let first = c.0 in omega arith, c.1)
 
-front_faults : (k line : ℕ) (name : List ℕ) (x : Option Code) (fs : List ReadFault) → Climbs (k + 1) (map (λ (f : ReadFault). f.ordinal) fs) → Climbs k (map (λ (f : ReadFault). f.ordinal) (map (item_fault k line name) (option_to_list x) ++ fs))
+front_faults : (k line : ℕ) (name : List ℕ) (x : Option Code) (fs : List ReadFault) → Climbs (k + 1) (map (λ (f : ReadFault). f.ordinal) fs)
+    → Climbs k (map (λ (f : ReadFault). f.ordinal) (map (item_fault k line name) (option_to_list x) ++ fs))
 front_faults k line name None fs c = climbs-lower k (k + 1) (map (λ (f : ReadFault). f.ordinal) fs) (omega arith) c
 front_faults k line name (Some code) fs c = (omega arith, climbs-lower k (k + 1) (map (λ (f : ReadFault). f.ordinal) fs) (omega arith) c)
 
-front_faults_at : (k : ℕ) (j : Option Judged) (fs : List ReadFault) → Climbs (k + 1) (map (λ (f : ReadFault). f.ordinal) fs) → Climbs k (map (λ (f : ReadFault). f.ordinal) (faults_at k j ++ fs))
+front_faults_at : (k : ℕ) (j : Option Judged) (fs : List ReadFault) → Climbs (k + 1) (map (λ (f : ReadFault). f.ordinal) fs)
+    → Climbs k (map (λ (f : ReadFault). f.ordinal) (faults_at k j ++ fs))
 front_faults_at k None fs c = climbs-lower k (k + 1) (map (λ (f : ReadFault). f.ordinal) fs) (omega arith) c
 front_faults_at k (Some j) fs c = front_faults k j.line j.name (code_by j.verdict) fs c
 
-front_items : (k line : ℕ) (x : Option Said) (is : List ReadItem) → Climbs (k + 1) (map (λ (i : ReadItem). i.ordinal) is) → Climbs k (map (λ (i : ReadItem). i.ordinal) (map (λ said. record { ordinal = k; line = line; said = said }) (option_to_list x) ++ is))
+front_items : (k line : ℕ) (x : Option Said) (is : List ReadItem) → Climbs (k + 1) (map (λ (i : ReadItem). i.ordinal) is)
+    → Climbs k (map (λ (i : ReadItem). i.ordinal) (map (λ said. record { ordinal = k; line = line; said = said }) (option_to_list x) ++ is))
 front_items k line None is c = climbs-lower k (k + 1) (map (λ (i : ReadItem). i.ordinal) is) (omega arith) c
 front_items k line (Some said) is c = (omega arith, climbs-lower k (k + 1) (map (λ (i : ReadItem). i.ordinal) is) (omega arith) c)
 
-front_items_at : (k : ℕ) (j : Option Judged) (is : List ReadItem) → Climbs (k + 1) (map (λ (i : ReadItem). i.ordinal) is) → Climbs k (map (λ (i : ReadItem). i.ordinal) (items_at k j ++ is))
+front_items_at : (k : ℕ) (j : Option Judged) (is : List ReadItem) → Climbs (k + 1) (map (λ (i : ReadItem). i.ordinal) is)
+    → Climbs k (map (λ (i : ReadItem). i.ordinal) (items_at k j ++ is))
 front_items_at k None is c = climbs-lower k (k + 1) (map (λ (i : ReadItem). i.ordinal) is) (omega arith) c
 front_items_at k (Some j) is c = front_items k j.line (said_by j.verdict) is c
 
@@ -177,9 +188,11 @@ items_climb k (j ∷ js) = front_items_at k j (items_from (k + 1) js) (items_cli
 no_header_fault : (field : List ℕ) (o : Option (List (List ℕ))) → filter (is_kept false) (header_faults field o) ≡ []
 no_header_fault field None = refl
 no_header_fault field (Some names) =
-    elim (nat_lt names_max (length field)) as (λ v. filter (is_kept false) (cond v (header_fault code.NamesTooLong ∷ []) []) ≡ []) [ true ↦ refl | false ↦ refl ]
+    elim (nat_lt names_max (length field)) as (λ v. filter (is_kept false) (cond v (header_fault code.NamesTooLong ∷ []) [])
+    ≡ []) [ true ↦ refl | false ↦ refl ]
 
-climbs-filter : (test : ReadFault → Bool) (k : ℕ) (fs : List ReadFault) → Climbs k (map (λ (f : ReadFault). f.ordinal) fs) → Climbs k (map (λ (f : ReadFault). f.ordinal) (filter test fs))
+climbs-filter : (test : ReadFault → Bool) (k : ℕ) (fs : List ReadFault) → Climbs k (map (λ (f : ReadFault). f.ordinal) fs)
+    → Climbs k (map (λ (f : ReadFault). f.ordinal) (filter test fs))
 climbs-filter test k [] c = tt
 climbs-filter test k (f ∷ fs) c =
     elim (test f) as (λ v. Climbs k (map (λ (g : ReadFault). g.ordinal) (cond v (f ∷ filter test fs) (filter test fs)))) [
@@ -219,4 +232,5 @@ ordered_from header items none =
 
 pub ordered_items : ReadItemsAreOrdered
 unfolding reading_of_text
-ordered_items = λ text. ordered_from (header_faults (block_field text) (header_names (block_field text))) (block_items text) (no_header_fault (block_field text) (header_names (block_field text)))
+ordered_items = λ text. ordered_from (header_faults (block_field text) (header_names (block_field text))) (block_items text)
+    (no_header_fault (block_field text) (header_names (block_field text)))

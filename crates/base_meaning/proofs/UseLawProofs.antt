@@ -1,5 +1,6 @@
 -- The laws on what blocks reach, and on the faults of their uses.
-use Rattle.std.proofs.Common.{◌≡◌, ℕ, suc, ◌⊎◌, inl, inr, Bool, true, false, cond, List, [], ◌∷◌, ◌++◌, length, Option, Some, None, is_some, option_and_then, slice_get, refl, sym, ◌∙◌, ap}
+use Rattle.std.proofs.Common.{◌≡◌, ℕ, suc, ◌⊎◌, inl, inr, Bool, true, false, cond, List, [], ◌∷◌, ◌++◌, length, Option, Some, None, is_some}
+use Rattle.std.proofs.Common.{option_and_then, slice_get, refl, sym, ◌∙◌, ap}
 use Rattle.std.proofs.lemmas.Bool.{cases_Bool, false≢true}
 use Rattle.std.proofs.lemmas.Option.{same_Some, none-some, slice_get_within}
 use Rattle.ti_source.specs.declared.code.Code.TheVariants.{Unresolved}
@@ -11,7 +12,8 @@ use Rattle.base_meaning.specs.Expansion.{is_broken, mentions_of, expand_items, e
 use Rattle.base_meaning.specs.Reaching.{used_name, Uses, IsUseWay, LeadsTo, leads_to}
 use Rattle.base_meaning.specs.Faults.{fault_between, use_fault}
 use Rattle.base_meaning.specs.ValueTables.{names_at}
-use Rattle.base_meaning.specs.UseLaws.{OwnerReaches, LeadingIsReaching, UsesBlock, IsEdgeWalk, EdgesLead, LeadingIsWalking, AreFound, IsGraphOf, MarksComponents, HasOptionalEdge, HaveOneNumber, CircularUsesShareAComponent, UnresolvedBlocksHaveACause}
+use Rattle.base_meaning.specs.UseLaws.{OwnerReaches, LeadingIsReaching, UsesBlock, IsEdgeWalk, EdgesLead, LeadingIsWalking, AreFound, IsGraphOf}
+use Rattle.base_meaning.specs.UseLaws.{MarksComponents, HasOptionalEdge, HaveOneNumber, CircularUsesShareAComponent, UnresolvedBlocksHaveACause}
 use Rattle.base_meaning.proofs.Owning.{nobody, somebody, owning, owner_to_owned}
 use Rattle.base_meaning.proofs.Depth.{bounded}
 use Rattle.base_meaning.proofs.Leading.{leads_to-LeadsTo}
@@ -27,27 +29,31 @@ leading_reaches = λ bs name at. (
     | inr w ↦ (w.2.1.0 ∷ w.2.1.1, w.2.0, ((w.0, w.1, w.2.1.2), w.2.1.3), w.2.2)
   ],
 ) where
-  there : (bs : List Reading) (name : List ℕ) (at : ℕ) (way : List (List ℕ)) (to : List ℕ) → IsUseWay (owner_block bs) name way to → owner bs to ≡ Some at → (owner bs name ≡ Some at) ⊎ OwnerReaches bs name at
+  there : (bs : List Reading) (name : List ℕ) (at : ℕ) (way : List (List ℕ)) (to : List ℕ) → IsUseWay (owner_block bs) name way to → owner bs to ≡ Some at
+      → (owner bs name ≡ Some at) ⊎ OwnerReaches bs name at
   there bs name at [] to w o = inl (ap (owner bs) w ∙ o)
   there bs name at (x ∷ way) to w o = inr (w.0.0, w.0.1, (to, (x, way, w.0.2, w.1), o))
 
 -- ---- leading is walking
 
-pub has_owner : (bs : List Reading) (name : List ℕ) (b : Reading) → owner_block bs name ≡ Some b → (q : ℕ) × (owner bs name ≡ Some q) × (slice_get bs q ≡ Some b)
+pub has_owner : (bs : List Reading) (name : List ℕ) (b : Reading) → owner_block bs name ≡ Some b → (q : ℕ) × (owner bs name ≡ Some q)
+    × (slice_get bs q ≡ Some b)
 has_owner bs name b e =
     elim (owning bs name) [
       | nobody _ d ↦ absurd (none-some b (sym d ∙ e))
       | somebody q c own ↦ (q, own.owns, own.stands ∙ (sym own.is ∙ e))
     ]
 
-walk_of : (bs : List Reading) (at : ℕ) (way : List (List ℕ)) (name to : List ℕ) → IsUseWay (owner_block bs) name way to → owner bs to ≡ Some at → (from : ℕ) × (owner bs name ≡ Some from) × EdgesLead (UsesBlock bs) from at
+walk_of : (bs : List Reading) (at : ℕ) (way : List (List ℕ)) (name to : List ℕ) → IsUseWay (owner_block bs) name way to → owner bs to ≡ Some at → (from : ℕ)
+    × (owner bs name ≡ Some from) × EdgesLead (UsesBlock bs) from at
 walk_of bs at [] name to w o = (at, ap (owner bs) w ∙ o, ([], refl))
 walk_of bs at (x ∷ way) name to w o =
     let next = walk_of bs at way x to w.1 o in
     let own = has_owner bs name w.0.0 w.0.1 in
     (own.0, own.1, (next.0 ∷ next.2.0, ((w.0.0, own.2, (x, w.0.2, next.1)), next.2.1)))
 
-lead_of : (bs : List Reading) (at : ℕ) (way : List ℕ) (from : ℕ) (name : List ℕ) → owner bs name ≡ Some from → IsEdgeWalk (UsesBlock bs) from way at → LeadsTo bs name at
+lead_of : (bs : List Reading) (at : ℕ) (way : List ℕ) (from : ℕ) (name : List ℕ) → owner bs name ≡ Some from → IsEdgeWalk (UsesBlock bs) from way at
+    → LeadsTo bs name at
 lead_of bs at [] from name o w = ([], name, refl, o ∙ ap (λ k. Some k) w)
 lead_of bs at (next ∷ way) from name o w =
     let used = w.0.2 in
@@ -69,7 +75,8 @@ found_walk bs found Edge f g (x ∷ way) from i at s w =
     (here.0, here.1, (next.0 ∷ next.2.0, ((g here.0 next.0).1 (from, x, here.1, next.1, w.0), next.2.1)))
 
 -- a walk along the edges is one of the blocks
-block_walk : (bs : List Reading) (found : List ℕ) (Edge : ℕ → ℕ → Type 0) → IsGraphOf bs found Edge → (way : List ℕ) (j i from at : ℕ) → slice_get found j ≡ Some from → slice_get found i ≡ Some at → IsEdgeWalk Edge j way i → EdgesLead (UsesBlock bs) from at
+block_walk : (bs : List Reading) (found : List ℕ) (Edge : ℕ → ℕ → Type 0) → IsGraphOf bs found Edge → (way : List ℕ) (j i from at : ℕ)
+    → slice_get found j ≡ Some from → slice_get found i ≡ Some at → IsEdgeWalk Edge j way i → EdgesLead (UsesBlock bs) from at
 block_walk bs found Edge g [] j i from at s t w = ([], same_Some from at (sym s ∙ (ap (slice_get found) w ∙ t)))
 block_walk bs found Edge g (k ∷ way) j i from at s t w =
     let edge = (g j k).0 w.0 in
@@ -109,8 +116,10 @@ some_or_none None = inl refl
 some_or_none (Some x) = inr (x, refl)
 
 -- a block of the list that some depth expands has its uses' owners expanded one less deep
-use_expands : (bs : List Reading) (k : ℕ) (b : Reading) (ms : List Mention) (name : List ℕ) → expand (owner_block bs) (suc k) b ≡ Some ms → Uses b.items name → (ns : List Mention) × (names_at (owner_block bs) k name ≡ Some ns)
-use_expands bs k b ms name e u = used_is_there (names_at (owner_block bs) k) b.items name ms u (if_there (is_broken b) (expand_items (names_at (owner_block bs) k) b.items) ms e)
+use_expands : (bs : List Reading) (k : ℕ) (b : Reading) (ms : List Mention) (name : List ℕ) → expand (owner_block bs) (suc k) b ≡ Some ms
+    → Uses b.items name → (ns : List Mention) × (names_at (owner_block bs) k name ≡ Some ns)
+use_expands bs k b ms name e u =
+    used_is_there (names_at (owner_block bs) k) b.items name ms u (if_there (is_broken b) (expand_items (names_at (owner_block bs) k) b.items) ms e)
 
 -- nobody owns the name: no depth expands the block
 pub never_missing : (bs : List Reading) (b : Reading) (name : List ℕ) → Uses b.items name → owner_block bs name ≡ None → expansion bs b ≡ None
@@ -123,7 +132,8 @@ never_missing bs b name u o =
     ]
 
 -- the use leads back: no depth expands the block
-pub never_circular : (bs : List Reading) (at : ℕ) (b : Reading) (name : List ℕ) → slice_get bs at ≡ Some b → Uses b.items name → LeadsTo bs name at → expansion bs b ≡ None
+pub never_circular : (bs : List Reading) (at : ℕ) (b : Reading) (name : List ℕ) → slice_get bs at ≡ Some b → Uses b.items name → LeadsTo bs name at
+    → expansion bs b ≡ None
 never_circular bs at b name s u l =
     elim (some_or_none (expansion bs b)) [
       | inl none ↦ none
@@ -133,7 +143,8 @@ never_circular bs at b name s u l =
     ]
 
 -- the owner does not resolve: no depth expands the block
-pub never_unresolved : (bs : List Reading) (b c : Reading) (name : List ℕ) → Uses b.items name → owner_block bs name ≡ Some c → expansion bs c ≡ None → expansion bs b ≡ None
+pub never_unresolved : (bs : List Reading) (b c : Reading) (name : List ℕ) → Uses b.items name → owner_block bs name ≡ Some c → expansion bs c ≡ None
+    → expansion bs b ≡ None
 never_unresolved bs b c name u o none_c =
     elim (some_or_none (expansion bs b)) [
       | inl none ↦ none
@@ -162,14 +173,17 @@ fault_of_none true e = absurd (false≢true e)
 fault_of_none false e = refl
 
 -- a use at fault leaves the block without an expansion
-at_fault : (bs : List Reading) (at : ℕ) (b : Reading) (name : List ℕ) → slice_get bs at ≡ Some b → Uses b.items name → is_some (use_fault bs at name) ≡ true → expansion bs b ≡ None
+at_fault : (bs : List Reading) (at : ℕ) (b : Reading) (name : List ℕ) → slice_get bs at ≡ Some b → Uses b.items name → is_some (use_fault bs at name) ≡ true
+    → expansion bs b ≡ None
 at_fault bs at b name s u e =
     elim (owning bs name) [
       | nobody _ d ↦ never_missing bs b name u d
       | somebody q c own ↦ elim (cases_Bool (leads_to bs name at)) [
         | inl back ↦ never_circular bs at b name s u (leads_to-LeadsTo bs name at back)
         | inr off ↦
-            let f : is_some (fault_between (Some c) false (resolves bs)) ≡ true = sym (ap (λ x. is_some (fault_between x (leads_to bs name at) (resolves bs))) own.is ∙ ap (λ l. is_some (fault_between (Some c) l (resolves bs))) off) ∙ e in
+            let f : is_some (fault_between (Some c) false (resolves bs)) ≡ true =
+            sym (ap (λ x. is_some (fault_between x (leads_to bs name at) (resolves bs))) own.is
+            ∙ ap (λ l. is_some (fault_between (Some c) l (resolves bs))) off) ∙ e in
             never_unresolved bs b c name u own.is (not_resolved bs c (fault_of_none (resolves bs c) f))
       ]
     ]
@@ -199,14 +213,16 @@ fault_in bs at (i ∷ is) =
     ]
 
 -- a use without a fault has an owner that resolves
-sound_use : (bs : List Reading) (at : ℕ) (name : List ℕ) → is_some (use_fault bs at name) ≡ false → (ms : List Mention) × (names_at (owner_block bs) (suc (length bs)) name ≡ Some ms)
+sound_use : (bs : List Reading) (at : ℕ) (name : List ℕ) → is_some (use_fault bs at name) ≡ false → (ms : List Mention)
+    × (names_at (owner_block bs) (suc (length bs)) name ≡ Some ms)
 sound_use bs at name e =
     elim (owning bs name) [
       | nobody _ d ↦ absurd (false≢true (sym e ∙ ap (λ x. is_some (fault_between x (leads_to bs name at) (resolves bs))) d))
       | somebody q c own ↦ elim (some_or_none (expansion bs c)) [
         | inr some ↦ (some.0, ap (λ x. option_and_then (expand (owner_block bs) (suc (length bs))) x) own.is ∙ some.1)
         | inl none ↦
-            let f : is_some (fault_between (Some c) (leads_to bs name at) (resolves bs)) ≡ false = sym (ap (λ x. is_some (fault_between x (leads_to bs name at) (resolves bs))) own.is) ∙ e in
+            let f : is_some (fault_between (Some c) (leads_to bs name at) (resolves bs)) ≡ false =
+            sym (ap (λ x. is_some (fault_between x (leads_to bs name at) (resolves bs))) own.is) ∙ e in
             absurd (has_one (leads_to bs name at) (resolves bs) c (none_resolves bs c none) f)
       ]
     ]
@@ -215,17 +231,20 @@ sound_use bs at name e =
     has_one true does c n e = false≢true (sym e)
     has_one false does c n e = false≢true (sym e ∙ ap (λ v. is_some (cond v None (Some Unresolved))) n)
 
-all_joined : (a b : Option (List Mention)) → (ms : List Mention) → a ≡ Some ms → (ns : List Mention) → b ≡ Some ns → (os : List Mention) × (both_lists a b ≡ Some os)
+all_joined : (a b : Option (List Mention)) → (ms : List Mention) → a ≡ Some ms → (ns : List Mention) → b ≡ Some ns → (os : List Mention)
+    × (both_lists a b ≡ Some os)
 all_joined a b ms e ns f = (ms ++ ns, rw (e, f) refl)
 
-said_there : (f : List ℕ → Option (List Mention)) (s : Said) → ((n : List ℕ) → used_name s ≡ Some n → (ms : List Mention) × (f n ≡ Some ms)) → (ms : List Mention) × (mentions_of f s ≡ Some ms)
+said_there : (f : List ℕ → Option (List Mention)) (s : Said) → ((n : List ℕ) → used_name s ≡ Some n → (ms : List Mention) × (f n ≡ Some ms))
+    → (ms : List Mention) × (mentions_of f s ≡ Some ms)
 said_there f (said_flag c) h = (_, refl)
 said_there f (said_number c n) h = (_, refl)
 said_there f (said_text c t) h = (_, refl)
 said_there f (said_cancel c) h = (_, refl)
 said_there f (said_import n) h = h n refl
 
-items_there : (f : List ℕ → Option (List Mention)) (items : List ReadItem) → ((n : List ℕ) → Uses items n → (ms : List Mention) × (f n ≡ Some ms)) → (ms : List Mention) × (expand_items f items ≡ Some ms)
+items_there : (f : List ℕ → Option (List Mention)) (items : List ReadItem) → ((n : List ℕ) → Uses items n → (ms : List Mention) × (f n ≡ Some ms))
+    → (ms : List Mention) × (expand_items f items ≡ Some ms)
 items_there f [] h = ([], refl)
 items_there f (i ∷ is) h =
     let one = said_there f i.said (λ n u. h n (inl u)) in

@@ -21,7 +21,8 @@ module _ (slots : Slots) (d : Dependents) (all : AreAllIds slots d.ids.items d.p
 
   own_place : (node at : ℕ) → slice_get d.positions.items node ≡ Some at → (node ≡ at) × (at < length (ids_of slots))
   own_place node at e =
-      let within : node < length (ids_of slots) = (let l = slice_get_within d.positions.items node at e in let n = ap length all.listed in let m = all.as_many in omega arith) in
+      let within : node < length (ids_of slots) =
+      (let l = slice_get_within d.positions.items node at e in let n = ap length all.listed in let m = all.as_many in omega arith) in
       let same : node ≡ at = same_Some node at (sym (placed node within) ∙ e) in
       (same, omega arith)
 
@@ -36,7 +37,11 @@ module _ (slots : Slots) (d : Dependents) (all : AreAllIds slots d.ids.items d.p
     as_many = all.as_many;
     stands = λ i id at e f. ap (λ k. slice_get (ids_of slots) k) (sym (own_place i at f).0) ∙ listed_at i id e;
     once = λ i j id e f. distinct i j id (listed_at i id e) (listed_at j id f);
-    closed = λ i at user e u. (user, placed user (let l = slice_get_within (blocks_of slots) user u.0 u.1 in let n = length_blocks slots in let m = length_ids slots in omega arith));
+    closed = λ i at user e u. (
+      user,
+      placed user (let l = slice_get_within (blocks_of slots) user u.0 u.1 in let n = length_blocks slots in let m =
+          length_ids slots in omega arith),
+    );
     graph = graph;
     whole = whole;
     others = λ at absent slot e.

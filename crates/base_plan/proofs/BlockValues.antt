@@ -23,13 +23,15 @@ pub use_of_item : (blocks : List Reading) (at index : ℕ) (name : List ℕ) →
 use_of_item blocks at index name h = record { block = h.block; stands = h.stands; item = h.item; places = h.places; uses = ap used_name h.is }
 
 -- a use of a block without faults has none
-pub no_fault : (blocks : List Reading) (at index : ℕ) (name : List ℕ) (code : Code) → IsItemAt blocks at index (said_import name) → AreUsesSound blocks at → ◌≡◌ {A = Option Code} (Some code) (use_fault blocks at name) → ⊥
+pub no_fault : (blocks : List Reading) (at index : ℕ) (name : List ℕ) (code : Code) → IsItemAt blocks at index (said_import name) → AreUsesSound blocks at
+    → ◌≡◌ {A = Option Code} (Some code) (use_fault blocks at name) → ⊥
 no_fault blocks at index name code h sound e =
     let none = sound h.block name h.stands (uses_at h.block.items index h.item name h.places (ap used_name h.is)) in
     none-some code (sym none ∙ sym e)
 
 -- the table of the used name's owner was added
-pub added_use : (blocks : List Reading) (name : List ℕ) (used old new : Contents) → IsUsedTable blocks name used → ((c : Capability) → IsCapability c → new c ≡ option_or (old c) (used c)) → AddsSaid blocks (said_import name) old new
+pub added_use : (blocks : List Reading) (name : List ℕ) (used old new : Contents) → IsUsedTable blocks name used
+    → ((c : Capability) → IsCapability c → new c ≡ option_or (old c) (used c)) → AddsSaid blocks (said_import name) old new
 added_use blocks name used old new u added = record {
   depth = suc (length blocks);
   mentions = u.2.0;
@@ -38,12 +40,15 @@ added_use blocks name used old new u added = record {
 }
 
 -- a table with equal contents
-pub same_table : (blocks : List Reading) (block : Reading) (f g : Contents) → ((c : Capability) → IsCapability c → g c ≡ f c) → IsTableOf blocks block f → IsTableOf blocks block g
-same_table blocks block f g same t = record { depth = t.depth; mentions = t.mentions; expands = t.expands; is_table = λ c valid. same c valid ∙ t.is_table c valid }
+pub same_table : (blocks : List Reading) (block : Reading) (f g : Contents) → ((c : Capability) → IsCapability c → g c ≡ f c) → IsTableOf blocks block f
+    → IsTableOf blocks block g
+same_table blocks block f g same t =
+    record { depth = t.depth; mentions = t.mentions; expands = t.expands; is_table = λ c valid. same c valid ∙ t.is_table c valid }
 
 -- ---- the state that a table makes
 
-pub within : (b : Reading) (ms : List Mention) (bytes : List ℕ) → bytes ≡ image_of b ms → length bytes ≤ image_limit (values ms) → written bytes ≡ state_with b (Some ms)
+pub within : (b : Reading) (ms : List Mention) (bytes : List ℕ) → bytes ≡ image_of b ms → length bytes ≤ image_limit (values ms)
+    → written bytes ≡ state_with b (Some ms)
 within b ms bytes e l =
     let small : nat_lt (image_limit (values ms)) (length (image_of b ms)) ≡ false = le-ltb (image_limit (values ms)) (length (image_of b ms)) (rw (← e) l) in
     rw (small, e) refl
@@ -54,11 +59,14 @@ over b ms l =
     rw large refl
 
 -- the table that some depth gives is the block's
-pub has_table : (blocks : List Reading) (at : ℕ) (b : Reading) (t : Table) → slice_get blocks at ≡ Some b → IsTableOf blocks b (contents t) → HasTable contents blocks b (Some t)
+pub has_table : (blocks : List Reading) (at : ℕ) (b : Reading) (t : Table) → slice_get blocks at ≡ Some b → IsTableOf blocks b (contents t)
+    → HasTable contents blocks b (Some t)
 has_table blocks at b t s h = (h.mentions, bounded blocks h.depth at b h.mentions s h.expands, h.is_table)
 
-pub state_is : (blocks : List Reading) (b : Reading) (t : Table) (seen : EntryState) → HasTable contents blocks b (Some t) → ((ms : List Mention) → IsTableOfMentions (contents t) ms → seen ≡ state_with b (Some ms)) → seen ≡ state_of blocks b
+pub state_is : (blocks : List Reading) (b : Reading) (t : Table) (seen : EntryState) → HasTable contents blocks b (Some t)
+    → ((ms : List Mention) → IsTableOfMentions (contents t) ms → seen ≡ state_with b (Some ms)) → seen ≡ state_of blocks b
 state_is blocks b t seen h f = f h.0 h.2 ∙ ap (state_with b) (sym h.1)
 
-pub table_seen : (blocks : List Reading) (b : Reading) (t : Table) (o : Option Table) → o ≡ Some t → HasTable contents blocks b (Some t) → HasTable contents blocks b o
+pub table_seen : (blocks : List Reading) (b : Reading) (t : Table) (o : Option Table) → o ≡ Some t → HasTable contents blocks b (Some t)
+    → HasTable contents blocks b o
 table_seen blocks b t o e h = let P : Option Table → Type 0 = λ x. HasTable contents blocks b x in subst P (sym e) h

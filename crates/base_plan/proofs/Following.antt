@@ -18,12 +18,15 @@ pub record IsFollowing (slots : Slots) (d : Dependents) (order : List ℕ) (sett
   pub as_many : length settled ≡ length d.ids.items
   pub done : (j node : ℕ) → j < end → slice_get order j ≡ Some node → IsSettledNode slots d settled node
 
-pub following_begun : (slots : Slots) (d : Dependents) (order : List ℕ) (settled : List Settled) → length settled ≡ length d.ids.items → IsFollowing slots d order settled 0
+pub following_begun : (slots : Slots) (d : Dependents) (order : List ℕ) (settled : List Settled) → length settled ≡ length d.ids.items
+    → IsFollowing slots d order settled 0
 following_begun slots d order settled n = record { as_many = n; done = λ j node l. absurd (omega arith) }
 
 -- one more was settled
-pub following_more : (slots : Slots) (d : Dependents) (order : List ℕ) (settled : List Settled) (end node : ℕ) (one : Settled) → IsFollowing slots d order settled end → slice_get order end ≡ Some node → node < length settled
-    → ((at : ℕ) (block : Reading) → slice_get d.positions.items node ≡ Some at → slice_get (blocks_of slots) at ≡ Some block → IsSettled (blocks_of slots) at block one)
+pub following_more : (slots : Slots) (d : Dependents) (order : List ℕ) (settled : List Settled) (end node : ℕ) (one : Settled)
+    → IsFollowing slots d order settled end → slice_get order end ≡ Some node → node < length settled
+    → ((at : ℕ) (block : Reading) → slice_get d.positions.items node ≡ Some at → slice_get (blocks_of slots) at ≡ Some block
+    → IsSettled (blocks_of slots) at block one)
     → IsFollowing slots d order (set settled node one) (end + 1)
 following_more slots d order settled end node one h o l right = record {
   as_many = length-set settled node one ∙ h.as_many;
@@ -39,7 +42,8 @@ following_more slots d order settled end node one h o l right = record {
   stands : (settled : List Settled) (node : ℕ) (one : Settled) → node < length settled → slice_get (set settled node one) node ≡ Some one
   stands settled node one l = let w = item_at settled node l in get-set_same settled node w.0 one w.1
 
-  earlier : (order : List ℕ) (end node j other : ℕ) → slice_get order end ≡ Some node → slice_get order j ≡ Some other → (other ≡ node → ⊥) → j < end + 1 → j < end
+  earlier : (order : List ℕ) (end node j other : ℕ) → slice_get order end ≡ Some node → slice_get order j ≡ Some other → (other ≡ node → ⊥) → j < end + 1
+      → j < end
   earlier order end node j other o e apart m =
       elim (cases_eq j end) [
         | inl same ↦ absurd (apart (same_Some other node (sym e ∙ (ap (slice_get order) same ∙ o))))
@@ -47,7 +51,8 @@ following_more slots d order settled end node one h o l right = record {
       ]
 
 -- all are settled at the end of the order
-pub following_ended : (slots : Slots) (d : Dependents) (component_of order : List ℕ) (settled : List Settled) (end : ℕ) → AreFoundIn slots d → IsClosingOrder d.uses component_of order → length order ≤ end → IsFollowing slots d order settled end → AreAllSettled slots d settled
+pub following_ended : (slots : Slots) (d : Dependents) (component_of order : List ℕ) (settled : List Settled) (end : ℕ) → AreFoundIn slots d
+    → IsClosingOrder d.uses component_of order → length order ≤ end → IsFollowing slots d order settled end → AreAllSettled slots d settled
 following_ended slots d component_of order settled end found c past h = record {
   as_many = h.as_many;
   right = λ node at block one s.
@@ -70,7 +75,8 @@ next_owners slots d component_of order settled end node found comps c h o = λ o
       | inr before ↦ inr (h.done j.0 owner before j.1)
     ]
 
-pub place_stands : (slots : Slots) (d : Dependents) (component_of order : List ℕ) (end node : ℕ) → AreFoundIn slots d → IsClosingOrder d.uses component_of order → slice_get order end ≡ Some node → slice_get d.positions.items node ≡ Some (node_position d node)
+pub place_stands : (slots : Slots) (d : Dependents) (component_of order : List ℕ) (end node : ℕ) → AreFoundIn slots d
+    → IsClosingOrder d.uses component_of order → slice_get order end ≡ Some node → slice_get d.positions.items node ≡ Some (node_position d node)
 place_stands slots d component_of order end node found c o =
     slice_get-get_or d.positions.items node 0 (let l = c.nodes end node o in omega (arith, found.graph.as_many, found.as_many))
 
@@ -84,8 +90,10 @@ next_can slots d component_of order settled end node found comps c h o = record 
 }
 
 -- what is right for the node's position is right for each position that it has
-pub right_at : (slots : Slots) (d : Dependents) (node place : ℕ) (one : Settled) → slice_get d.positions.items node ≡ Some place → ((block : Reading) → slice_get (blocks_of slots) place ≡ Some block → IsSettled (blocks_of slots) place block one)
-    → (at : ℕ) (block : Reading) → slice_get d.positions.items node ≡ Some at → slice_get (blocks_of slots) at ≡ Some block → IsSettled (blocks_of slots) at block one
+pub right_at : (slots : Slots) (d : Dependents) (node place : ℕ) (one : Settled) → slice_get d.positions.items node ≡ Some place
+    → ((block : Reading) → slice_get (blocks_of slots) place ≡ Some block → IsSettled (blocks_of slots) place block one)
+    → (at : ℕ) (block : Reading) → slice_get d.positions.items node ≡ Some at → slice_get (blocks_of slots) at ≡ Some block
+    → IsSettled (blocks_of slots) at block one
 right_at slots d node place one p h at block q s =
     let same : place ≡ at = same_Some place at (sym p ∙ q) in
     subst (λ x. IsSettled (blocks_of slots) x block one) same (h block (rw same s))

@@ -1,5 +1,6 @@
 -- The faults of a block's items, added one item after another, and whether one is of a use.
-use Rattle.std.proofs.Common.{◌≡◌, ℕ, ◌+◌, ◌<◌, ◌≤◌, inl, inr, Bool, true, false, List, ◌∷◌, ◌++◌, append_assoc, length, map, Option, Some, None, is_some, slice_get, refl, sym, ◌∙◌, ap, subst, arith}
+use Rattle.std.proofs.Common.{◌≡◌, ℕ, ◌+◌, ◌<◌, ◌≤◌, inl, inr, Bool, true, false, List, ◌∷◌, ◌++◌, append_assoc, length, map, Option, Some, None, is_some}
+use Rattle.std.proofs.Common.{slice_get, refl, sym, ◌∙◌, ap, subst, arith}
 use Rattle.std.specs.Bool.{MatchBool}
 use Rattle.std.proofs.lemmas.Bool.{cases_eq}
 use Rattle.std.proofs.lemmas.Option.{same_Some, slice_get_within}
@@ -24,9 +25,11 @@ one_more_item bs at item items faults rest old early new all h e f g = rw (f, e,
 
 -- ---- whether a use is at fault
 
-pub wrong_item : (bs : List Reading) (at index : ℕ) (block : Reading) (item : ReadItem) (is_wrong : Bool) → slice_get block.items index ≡ Some item → is_wrong ≡ is_at_fault bs at (used_name item.said) → is_wrong ≡ true → HasUseAtFault bs at block
+pub wrong_item : (bs : List Reading) (at index : ℕ) (block : Reading) (item : ReadItem) (is_wrong : Bool) → slice_get block.items index ≡ Some item
+    → is_wrong ≡ is_at_fault bs at (used_name item.said) → is_wrong ≡ true → HasUseAtFault bs at block
 wrong_item bs at index block item is_wrong s e t = there bs at index block item (used_name item.said) s refl (sym e ∙ t) where
-  there : (bs : List Reading) (at index : ℕ) (block : Reading) (item : ReadItem) (o : Option (List ℕ)) → slice_get block.items index ≡ Some item → used_name item.said ≡ o → is_at_fault bs at o ≡ true → HasUseAtFault bs at block
+  there : (bs : List Reading) (at index : ℕ) (block : Reading) (item : ReadItem) (o : Option (List ℕ)) → slice_get block.items index ≡ Some item
+      → used_name item.said ≡ o → is_at_fault bs at o ≡ true → HasUseAtFault bs at block
   there bs at index block item None s u e = cc
   there bs at index block item (Some name) s u e = (name, uses_at block.items index item name s u, e)
 
@@ -49,7 +52,8 @@ no_code : {X : Type 0} (o : Option X) → is_some o ≡ false → o ≡ None
 no_code None e = refl
 no_code (Some x) e = cc
 
-pub uses_sound : (bs : List Reading) (at : ℕ) (block : Reading) (end : ℕ) → slice_get bs at ≡ Some block → length block.items ≤ end → AreSoundBefore bs at block.items end → AreUsesSound bs at
+pub uses_sound : (bs : List Reading) (at : ℕ) (block : Reading) (end : ℕ) → slice_get bs at ≡ Some block → length block.items ≤ end
+    → AreSoundBefore bs at block.items end → AreUsesSound bs at
 uses_sound bs at block end s past h other name t u =
     let same : other ≡ block = same_Some other block (sym t ∙ s) in
     let P : Reading → Type 0 = λ b. Uses b.items name in

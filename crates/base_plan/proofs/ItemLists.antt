@@ -19,5 +19,6 @@ slice_get-map_item f xs i x l e =
 pub drop_item : {X : Type 0} (xs : List X) (i : ℕ) (x : X) → i < length xs → x ≡ get_or xs i x → drop i xs ≡ x ∷ drop (i + 1) xs
 drop_item xs i x l e = drop-cons xs i x l ∙ (let f : suc i ≡ i + 1 = omega arith in rw (f, ← e) refl)
 
-pub map-drop_item : {X Y : Type 0} (f : X → Y) (xs : List X) (i : ℕ) (x : X) → i < length xs → x ≡ get_or xs i x → map f (drop i xs) ≡ f x ∷ map f (drop (i + 1) xs)
+pub map-drop_item : {X Y : Type 0} (f : X → Y) (xs : List X) (i : ℕ) (x : X) → i < length xs → x ≡ get_or xs i x
+    → map f (drop i xs) ≡ f x ∷ map f (drop (i + 1) xs)
 map-drop_item f xs i x l e = ap (map f) (drop_item xs i x l e)

@@ -33,7 +33,8 @@ module _ (slots : Slots) (d : Dependents) (component_of order : List ℕ) (found
   at_place : (i node : ℕ) → slice_get order i ≡ Some node → slice_get (map (node_position d) order) i ≡ Some (node_position d node)
   at_place i node e = rw (slice_get-map (node_position d) order i, e) refl
 
-  node_at : (i place : ℕ) → slice_get (map (node_position d) order) i ≡ Some place → (node : ℕ) × (slice_get order i ≡ Some node) × (slice_get d.positions.items node ≡ Some place)
+  node_at : (i place : ℕ) → slice_get (map (node_position d) order) i ≡ Some place → (node : ℕ) × (slice_get order i ≡ Some node)
+      × (slice_get d.positions.items node ≡ Some place)
   node_at i place e =
       let w = item_at order i (rw length-map at (slice_get_within (map (node_position d) order) i place e)) in
       let same : node_position d w.0 ≡ place = same_Some (node_position d w.0) place (sym (at_place i w.0 w.1) ∙ e) in
@@ -55,7 +56,8 @@ module _ (slots : Slots) (d : Dependents) (component_of order : List ℕ) (found
       let same : node_position d h.0 ≡ place = get_or_from_slice_get d.positions.items h.0 place 0 h.1 in
       (i.0, at_place i.0 h.0 i.1 ∙ ap (λ k. Some k) same)))
 
-  pub planned : (plan : Plan) → plan.ids ≡ d.ids → AreAllSettled slots d plan.settled.items → IsPermutation d.positions.items plan.rebuilt.items → IsNonDecreasing plan.rebuilt.items
+  pub planned : (plan : Plan) → plan.ids ≡ d.ids → AreAllSettled slots d plan.settled.items → IsPermutation d.positions.items plan.rebuilt.items
+      → IsNonDecreasing plan.rebuilt.items
       → plan.work ≡ work (blocks_of slots) (map (node_position d) order) → IsPlanOf slots d plan
   planned plan ids all moved up spent = record {
     ids = ids;
@@ -75,7 +77,8 @@ module _ (slots : Slots) (d : Dependents) (component_of order : List ℕ) (found
 
 -- ---- the blocks found are those that depend on the edit
 
-pub found_in : (slots : Slots) (put : Option ℕ) (out : List (List ℕ)) (d : Dependents) → All IsUsable (blocks_of slots) → IsReady slots put out → AreDistinct (ids_of slots)
+pub found_in : (slots : Slots) (put : Option ℕ) (out : List (List ℕ)) (d : Dependents) → All IsUsable (blocks_of slots) → IsReady slots put out
+    → AreDistinct (ids_of slots)
     → AreDependentIds slots put out d.ids.items d.positions.items → IsGraphOfUses slots d.ids.items d.uses → IsGraph d.uses → AreFoundIn slots d
 found_in slots put out d usable ready distinct h graph whole = record {
   usable = usable;
@@ -89,7 +92,8 @@ found_in slots put out d usable ready distinct h graph whole = record {
   others = λ at absent. ready.2 at (λ dependent. absent ((h.dependents ready.0 ready.1 at).1 dependent));
 }
 
-pub plan_is : (slots : Slots) (put : Option ℕ) (out : List (List ℕ)) (d : Dependents) (plan : Plan) → AreFoundIn slots d → AreDependentIds slots put out d.ids.items d.positions.items → IsPlanOf slots d plan → IsPlan slots put out plan
+pub plan_is : (slots : Slots) (put : Option ℕ) (out : List (List ℕ)) (d : Dependents) (plan : Plan) → AreFoundIn slots d
+    → AreDependentIds slots put out d.ids.items d.positions.items → IsPlanOf slots d plan → IsPlan slots put out plan
 plan_is slots put out d plan found h p =
     let ids_are : plan.ids.items ≡ d.ids.items = ap (λ ids. ids.items) p.ids in
     let id_in = λ (i id : ℕ) (e : slice_get plan.ids.items i ≡ Some id). ap (λ xs. slice_get xs i) (sym ids_are) ∙ e in

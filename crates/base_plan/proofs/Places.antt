@@ -23,7 +23,8 @@ use Rattle.base_plan.specs.inside.Settling.{AreFoundIn, IsUseAt, IsEdgeTo}
 abbrev pub block_of : Slots → ℕ → Reading
 block_of slots id = reading_at slots id
 
-pub usable_at : (slots : Slots) (d : Dependents) → AreFoundIn slots d → (at : ℕ) (block : Reading) → slice_get (blocks_of slots) at ≡ Some block → IsUsable block
+pub usable_at : (slots : Slots) (d : Dependents) → AreFoundIn slots d → (at : ℕ) (block : Reading) → slice_get (blocks_of slots) at ≡ Some block
+    → IsUsable block
 usable_at slots d h at block s =
     subst IsUsable (get_or_from_slice_get (blocks_of slots) at block block s) (h.usable at block (slice_get_within (blocks_of slots) at block s))
 
@@ -36,20 +37,23 @@ pub record IsNode (slots : Slots) (d : Dependents) (node at id : ℕ) : Type 0 w
   pub stands : StandsAt slots at id
   pub block : slice_get (blocks_of slots) at ≡ Some (block_of slots id)
 
-pub node_of_place : (slots : Slots) (d : Dependents) → AreFoundIn slots d → (node at : ℕ) → slice_get d.positions.items node ≡ Some at → (id : ℕ) × IsNode slots d node at id
+pub node_of_place : (slots : Slots) (d : Dependents) → AreFoundIn slots d → (node at : ℕ) → slice_get d.positions.items node ≡ Some at → (id : ℕ)
+    × IsNode slots d node at id
 node_of_place slots d h node at e =
     let id = item_at d.ids.items node (omega (arith, slice_get_within d.positions.items node at e, h.as_many)) in
     let stands = h.stands node id.0 at id.1 e in
     (id.0, record { id_is = id.1; at_is = e; stands = stands; block = block_at slots at id.0 h.distinct stands })
 
-pub node_of_id : (slots : Slots) (d : Dependents) → AreFoundIn slots d → (node id : ℕ) → slice_get d.ids.items node ≡ Some id → (at : ℕ) × IsNode slots d node at id
+pub node_of_id : (slots : Slots) (d : Dependents) → AreFoundIn slots d → (node id : ℕ) → slice_get d.ids.items node ≡ Some id → (at : ℕ)
+    × IsNode slots d node at id
 node_of_id slots d h node id e =
     let at = item_at d.positions.items node (omega (arith, slice_get_within d.ids.items node id e, h.as_many)) in
     let stands = h.stands node id at.0 e at.1 in
     (at.0, record { id_is = e; at_is = at.1; stands = stands; block = block_at slots at.0 id h.distinct stands })
 
 -- a position is that of one node
-pub one_node : (slots : Slots) (d : Dependents) → AreFoundIn slots d → (node other at : ℕ) → slice_get d.positions.items node ≡ Some at → slice_get d.positions.items other ≡ Some at → node ≡ other
+pub one_node : (slots : Slots) (d : Dependents) → AreFoundIn slots d → (node other at : ℕ) → slice_get d.positions.items node ≡ Some at
+    → slice_get d.positions.items other ≡ Some at → node ≡ other
 one_node slots d h node other at e f =
     let one = node_of_place slots d h node at e in
     let two = node_of_place slots d h other at f in
@@ -58,12 +62,14 @@ one_node slots d h node other at e f =
 
 -- ---- places of uses
 
-pub place_of_use : (items : List ReadItem) (name : List ℕ) → Uses items name → (k : ℕ) × (item : ReadItem) × (slice_get items k ≡ Some item) × (used_name item.said ≡ Some name)
+pub place_of_use : (items : List ReadItem) (name : List ℕ) → Uses items name → (k : ℕ) × (item : ReadItem) × (slice_get items k ≡ Some item)
+    × (used_name item.said ≡ Some name)
 place_of_use [] name u = absurd u
 place_of_use (i ∷ is) name (inl here) = (0, i, refl, here)
 place_of_use (i ∷ is) name (inr later) = let w = place_of_use is name later in (suc w.0, w.1, w.2, w.3)
 
-pub use_of_place : (blocks : List Reading) (at index : ℕ) (name : List ℕ) (block : Reading) → IsUseAt blocks at index name → slice_get blocks at ≡ Some block → Uses block.items name
+pub use_of_place : (blocks : List Reading) (at index : ℕ) (name : List ℕ) (block : Reading) → IsUseAt blocks at index name
+    → slice_get blocks at ≡ Some block → Uses block.items name
 use_of_place blocks at index name block u s =
     let same : u.block ≡ block = same_Some u.block block (sym u.stands ∙ s) in
     let P : Reading → Type 0 = λ b. Uses b.items name in
@@ -88,7 +94,8 @@ edge_is slots d h node at index name row edge p u r e =
       λ w. (is place).1 (name, w.0, u.uses, w.1, w.2),
     )
 
-pub row_at : (slots : Slots) (d : Dependents) → AreFoundIn slots d → (node at index : ℕ) (name : List ℕ) (row : List (Option ℕ)) → slice_get d.positions.items node ≡ Some at → IsUseAt (blocks_of slots) at index name → slice_get d.uses node ≡ Some row → index < length row
+pub row_at : (slots : Slots) (d : Dependents) → AreFoundIn slots d → (node at index : ℕ) (name : List ℕ) (row : List (Option ℕ))
+    → slice_get d.positions.items node ≡ Some at → IsUseAt (blocks_of slots) at index name → slice_get d.uses node ≡ Some row → index < length row
 row_at slots d h node at index name row p u r =
     let n = node_of_place slots d h node at p in
     let same : u.block ≡ block_of slots n.0 = same_Some u.block (block_of slots n.0) (sym u.stands ∙ n.1.block) in
@@ -100,7 +107,8 @@ row_at slots d h node at index name row p u r =
 -- the graph has an edge between the nodes of two blocks if the one uses the other
 pub graph_of : (slots : Slots) (d : Dependents) → AreFoundIn slots d → IsGraphOf (blocks_of slots) d.positions.items (laws.HasOptionalEdge d.uses)
 graph_of slots d h i j = (there slots d h i j, back slots d h i j) where
-  there : (slots : Slots) (d : Dependents) → AreFoundIn slots d → (i j : ℕ) → laws.HasOptionalEdge d.uses i j → (at : ℕ) × (used : ℕ) × (slice_get d.positions.items i ≡ Some at) × (slice_get d.positions.items j ≡ Some used) × UsesBlock (blocks_of slots) at used
+  there : (slots : Slots) (d : Dependents) → AreFoundIn slots d → (i j : ℕ) → laws.HasOptionalEdge d.uses i j → (at : ℕ) × (used : ℕ)
+      × (slice_get d.positions.items i ≡ Some at) × (slice_get d.positions.items j ≡ Some used) × UsesBlock (blocks_of slots) at used
   there slots d h i j w =
       let id = item_at d.ids.items i (omega (arith, slice_get_within d.uses i w.0 w.1, h.graph.as_many)) in
       let n = node_of_id slots d h i id.0 id.1 in
@@ -108,14 +116,21 @@ graph_of slots d h i j = (there slots d h i j, back slots d h i j) where
       let item = item_at (block_of slots id.0).items w.2.0 (omega (arith, slice_get_within w.0 w.2.0 (Some j) w.2.1, row.as_many)) in
       let own = (row.edges w.2.0 item.0 (Some j) item.1 w.2.1 j).0 refl in
       let m = node_of_id slots d h j own.1 own.4 in
-      let same : own.3.0 ≡ m.0 = h.distinct own.3.0 m.0 own.1 own.3.2 m.1.stands in
-      (n.0, m.0, n.1.at_is, m.1.at_is, (block_of slots id.0, n.1.block, (own.0, uses_at (block_of slots id.0).items w.2.0 item.0 own.0 item.1 own.2, own.3.1 ∙ ap (λ k. Some k) same)))
+      let same : own.3.0 ≡ m.0 = h.distinct own.3.0 m.0 own.1 own.3.2 m.1.stands in (
+        n.0,
+        m.0,
+        n.1.at_is,
+        m.1.at_is,
+        (block_of slots id.0, n.1.block, (own.0, uses_at (block_of slots id.0).items w.2.0 item.0 own.0 item.1 own.2, own.3.1 ∙ ap (λ k. Some k) same)),
+      )
 
-  back : (slots : Slots) (d : Dependents) → AreFoundIn slots d → (i j : ℕ) → (at : ℕ) × (used : ℕ) × (slice_get d.positions.items i ≡ Some at) × (slice_get d.positions.items j ≡ Some used) × UsesBlock (blocks_of slots) at used → laws.HasOptionalEdge d.uses i j
+  back : (slots : Slots) (d : Dependents) → AreFoundIn slots d → (i j : ℕ) → (at : ℕ) × (used : ℕ) × (slice_get d.positions.items i ≡ Some at)
+      × (slice_get d.positions.items j ≡ Some used) × UsesBlock (blocks_of slots) at used → laws.HasOptionalEdge d.uses i j
   back slots d h i j w =
       let m = node_of_place slots d h j w.1 w.3 in
       let use_place = place_of_use w.4.0.items w.4.2.0 w.4.2.1 in
-      let use_at : IsUseAt (blocks_of slots) w.0 use_place.0 w.4.2.0 = record { block = w.4.0; stands = w.4.1; item = use_place.1; places = use_place.2; uses = use_place.3 } in
+      let use_at : IsUseAt (blocks_of slots) w.0 use_place.0 w.4.2.0 =
+      record { block = w.4.0; stands = w.4.1; item = use_place.1; places = use_place.2; uses = use_place.3 } in
       let row = item_at d.uses i (omega (arith, slice_get_within d.positions.items i w.0 w.2, h.graph.as_many, h.as_many)) in
       let edge = item_at row.0 use_place.0 (row_at slots d h i w.0 use_place.0 w.4.2.0 row.0 w.2 use_at row.1) in
       let is = (edge_is slots d h i w.0 use_place.0 w.4.2.0 row.0 edge.0 w.2 use_at row.1 edge.1 j).1 (m.0, (w.1, w.4.2.2, m.1.stands), m.1.id_is) in
@@ -132,7 +147,8 @@ way_of_walk g u w [] h = h
 way_of_walk g u w (x ∷ way) h = (record { row = h.0.0; place = h.0.2.0; stands = h.0.1; leads = h.0.2.1 }, way_of_walk g x w way h.1)
 
 -- the components of the graph, as the laws speak of them
-pub components_of : (g : Rows) (numbers : List ℕ) (count : ℕ) → AreComponents g numbers → count ≡ length g → laws.MarksComponents count (laws.HasOptionalEdge g) (HaveOneNumber numbers)
+pub components_of : (g : Rows) (numbers : List ℕ) (count : ℕ) → AreComponents g numbers → count ≡ length g
+    → laws.MarksComponents count (laws.HasOptionalEdge g) (HaveOneNumber numbers)
 components_of g numbers count h n i j within_i within_j =
     let c = item_at numbers i (omega (arith, h.as_many)) in
     let d = item_at numbers j (omega (arith, h.as_many)) in
@@ -147,7 +163,8 @@ components_of g numbers count h n i j within_i within_j =
 
 -- ---- what is read of a node
 
-pub node_read : (slots : Slots) (d : Dependents) → AreFoundIn slots d → (node at id : ℕ) → slice_get d.positions.items node ≡ Some at → id ≡ get_or d.ids.items node id → IsNode slots d node at id
+pub node_read : (slots : Slots) (d : Dependents) → AreFoundIn slots d → (node at id : ℕ) → slice_get d.positions.items node ≡ Some at
+    → id ≡ get_or d.ids.items node id → IsNode slots d node at id
 node_read slots d h node at id p e =
     let n = node_of_place slots d h node at p in
     let same : n.0 ≡ id = sym (e ∙ get_or_from_slice_get d.ids.items node n.0 id n.1.id_is) in

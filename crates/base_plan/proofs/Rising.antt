@@ -1,5 +1,6 @@
 -- Positions in ascending order, each once.
-use Rattle.std.proofs.Common.{◌≡◌, ◌≢◌, ℕ, zero, suc, ◌<◌, inl, inr, false, List, [], ◌∷◌, length, get_or, remove, Some, slice_get, AllPairs, refl, sym, ◌∙◌, ap, arith}
+use Rattle.std.proofs.Common.{◌≡◌, ◌≢◌, ℕ, zero, suc, ◌<◌, inl, inr, false, List, [], ◌∷◌, length, get_or, remove, Some, slice_get, AllPairs, refl, sym}
+use Rattle.std.proofs.Common.{◌∙◌, ap, arith}
 use Rattle.std.specs.List.{AllByRecursion}
 use Rattle.std.specs.List.Sorted.{IsPermutation, IsNonDecreasing}
 use Rattle.std.proofs.lemmas.List.Kept.{AllPairs-from_increasing}
@@ -18,7 +19,8 @@ all_later n (y ∷ ys) h = (h 0 0 (omega arith), all_later n ys (λ j d l. h (su
 
 pub rising_of : (xs : List ℕ) → AllPairs (λ x y. x < y) xs → IsRising xs
 rising_of [] h = tt
-rising_of (x ∷ xs) h = (all_later x xs (λ j d l. h 0 (suc j) d (omega arith) (omega arith)), rising_of xs (λ i j d l m. h (suc i) (suc j) d (omega arith) (omega arith)))
+rising_of (x ∷ xs) h =
+    (all_later x xs (λ j d l. h 0 (suc j) d (omega arith) (omega arith)), rising_of xs (λ i j d l m. h (suc i) (suc j) d (omega arith) (omega arith)))
 
 apart : (x y : ℕ) → (x ≡ y → ⊥) → eqb x y ≡ false
 apart x y n = grind (arith, n)
@@ -29,7 +31,8 @@ flips x y = grind arith
 pub sorted_rises : (xs ys : List ℕ) → AreDistinct xs → IsPermutation xs ys → IsNonDecreasing ys → IsRising ys
 sorted_rises xs ys h p up =
     let differ : (i j d : ℕ) → i < j → j < length xs → get_or xs i d ≡ get_or xs j d → ⊥ =
-    λ i j d l m same. (let one = h i j (get_or xs j d) (slice_get-get_or xs i d (omega arith) ∙ ap (λ x. Some x) same) (slice_get-get_or xs j d m) in omega arith) in
+    λ i j d l m same. (let one = h i j (get_or xs j d) (slice_get-get_or xs i d (omega arith) ∙ ap (λ x. Some x) same) (slice_get-get_or xs j d m) in
+    omega arith) in
     let distinct = IsDistinct-from_apart eqb xs (λ i j d l m. apart (get_or xs i d) (get_or xs j d) (differ i j d l m)) in
     let kept = IsDistinct-IsPermutation eqb flips xs ys p distinct in
     rising_of ys (AllPairs-from_increasing ys (IsStrictlyIncreasing-from_distinct ys up kept))
@@ -73,4 +76,5 @@ same_numbers (x ∷ xs) ys d e f g =
     (λ z h. (let there = f z (suc h.0, h.1) in
     stays_listed ys w.0 x there.0 z w.1 there.1 (λ same. (let one = d 0 (suc h.0) x refl (h.1 ∙ ap (λ k. Some k) same) in absurd (omega arith)))))
     (λ z h. (let left = left_before ys w.0 x h.0 z e w.1 h.1 in not_first x xs z (g z left.0) left.1)) in
-    IsPermutation-trans (x ∷ xs) (x ∷ rest) ys (IsPermutation-append (x ∷ []) (x ∷ []) xs rest (IsPermutation-refl (x ∷ [])) tails) (IsPermutation-sym ys (x ∷ rest) moved)
+    IsPermutation-trans (x ∷ xs) (x ∷ rest) ys (IsPermutation-append (x ∷ []) (x ∷ []) xs rest (IsPermutation-refl (x ∷ [])) tails)
+    (IsPermutation-sym ys (x ∷ rest) moved)

@@ -1,5 +1,6 @@
 -- The steps of blocks that are settled one after another, and a bound on them.
-use Rattle.std.proofs.Common.{◌≡◌, ℕ, zero, suc, ◌+◌, ◌-◌, ◌<◌, ◌≤◌, true, false, cond, List, [], ◌∷◌, ◌++◌, length, get_or, set, take, sum_by, Option, Some, slice_get, refl, sym, ◌∙◌, ap, arith}
+use Rattle.std.proofs.Common.{◌≡◌, ℕ, zero, suc, ◌+◌, ◌-◌, ◌<◌, ◌≤◌, true, false, cond, List, [], ◌∷◌, ◌++◌, length, get_or, set, take, sum_by, Option}
+use Rattle.std.proofs.Common.{Some, slice_get, refl, sym, ◌∙◌, ap, arith}
 use Rattle.std.proofs.lemmas.List.{length-set}
 use Rattle.std.proofs.lemmas.List.Sums.{sum_by-append, sum_by-take-le, sum_by-cons, sum_by-set}
 use Rattle.std.proofs.lemmas.Option.{slice_get_within, get_or_from_slice_get}
@@ -41,18 +42,22 @@ not_zero : (i : ℕ) → 0 ≡ suc i → ⊥
 not_zero i e = omega arith
 
 -- distinct nodes have no more edges than the graph
-pub edges_bound : (xs : List ℕ) (g : Rows) → ((i j u : ℕ) → slice_get xs i ≡ Some u → slice_get xs j ≡ Some u → i ≡ j) → ((i u : ℕ) → slice_get xs i ≡ Some u → u < length g) → sum_by (row_length g) xs ≤ sum_by length g
+pub edges_bound : (xs : List ℕ) (g : Rows) → ((i j u : ℕ) → slice_get xs i ≡ Some u → slice_get xs j ≡ Some u → i ≡ j)
+    → ((i u : ℕ) → slice_get xs i ≡ Some u → u < length g) → sum_by (row_length g) xs ≤ sum_by length g
 edges_bound [] g once within = omega arith
 edges_bound (x ∷ xs) g once within =
-    let rest = edges_bound xs (set g x []) (λ i j u a b. (let e = once (suc i) (suc j) u a b in omega arith)) (λ i u a. (let l = within (suc i) u a in omega (arith, length-set g x []))) in
-    let same = sum_same (row_length g) (row_length (set g x [])) xs (λ i u a. ap length (sym (get_or-set_apart g x u [] [] (λ e. not_zero i (once 0 (suc i) u (ap (λ k. Some k) (sym e)) a))))) in
+    let rest = edges_bound xs (set g x []) (λ i j u a b. (let e = once (suc i) (suc j) u a b in omega arith))
+    (λ i u a. (let l = within (suc i) u a in omega (arith, length-set g x []))) in
+    let same = sum_same (row_length g) (row_length (set g x [])) xs
+    (λ i u a. ap length (sym (get_or-set_apart g x u [] [] (λ e. not_zero i (once 0 (suc i) u (ap (λ k. Some k) (sym e)) a))))) in
     let first = within 0 x refl in
     let without = sum_by-set length g x [] [] first in
     omega (arith, sum_by-cons (row_length g) x xs)
 
 -- ---- one more block
 
-pub row_items : (slots : Slots) (d : Dependents) → AreFoundIn slots d → (node at : ℕ) (block : Reading) → slice_get d.positions.items node ≡ Some at → slice_get (blocks_of slots) at ≡ Some block → row_length d.uses node ≡ length block.items
+pub row_items : (slots : Slots) (d : Dependents) → AreFoundIn slots d → (node at : ℕ) (block : Reading) → slice_get d.positions.items node ≡ Some at
+    → slice_get (blocks_of slots) at ≡ Some block → row_length d.uses node ≡ length block.items
 row_items slots d h node at block p s =
     let n = node_of_place slots d h node at p in
     let row = item_at d.uses node (omega (arith, slice_get_within d.positions.items node at p, h.as_many, h.graph.as_many)) in
@@ -66,12 +71,14 @@ work_bound bs b = elim (resolves bs b) as (λ v. cond v (length b.items) 0 ≤ l
 -- enough steps are left for the next block
 pub next_room : (slots : Slots) (d : Dependents) (order : List ℕ) (end node start left at : ℕ) (block : Reading) → AreFoundIn slots d
     → ((i j u : ℕ) → slice_get order i ≡ Some u → slice_get order j ≡ Some u → i ≡ j) → ((i u : ℕ) → slice_get order i ≡ Some u → u < length d.uses)
-    → slice_get order end ≡ Some node → take (end + 1) order ≡ take end order ++ node ∷ [] → slice_get d.positions.items node ≡ Some at → slice_get (blocks_of slots) at ≡ Some block
+    → slice_get order end ≡ Some node → take (end + 1) order ≡ take end order ++ node ∷ [] → slice_get d.positions.items node ≡ Some at
+    → slice_get (blocks_of slots) at ≡ Some block
     → start ≤ left + sum_by (row_length d.uses) (take end order) → sum_by length d.uses ≤ start → length block.items ≤ left
 next_room slots d order end node start left at block h once within o t p s bound room =
     let all = edges_bound order d.uses once within in
     let front = sum_by-take-le (row_length d.uses) order (end + 1) in
-    let more : sum_by (row_length d.uses) (take (end + 1) order) ≡ sum_by (row_length d.uses) (take end order) + row_length d.uses node = ap (sum_by (row_length d.uses)) t ∙ sum_one (row_length d.uses) (take end order) node in
+    let more : sum_by (row_length d.uses) (take (end + 1) order) ≡ sum_by (row_length d.uses) (take end order) + row_length d.uses node =
+    ap (sum_by (row_length d.uses)) t ∙ sum_one (row_length d.uses) (take end order) node in
     let row = row_items slots d h node at block p s in
     omega arith
 
@@ -79,13 +86,16 @@ next_room slots d order end node start left at block h once within o t p s bound
 pub steps_made : (most left made : ℕ) → left + made ≡ most → most - left ≡ made
 steps_made most left made e = omega arith
 
-pub steps_more : (bs : List Reading) (places : List ℕ) (at start old new : ℕ) → old + work bs places ≡ start → new + work_of bs (slice_get bs at) ≡ old → new + work bs (places ++ at ∷ []) ≡ start
+pub steps_more : (bs : List Reading) (places : List ℕ) (at start old new : ℕ) → old + work bs places ≡ start → new + work_of bs (slice_get bs at) ≡ old
+    → new + work bs (places ++ at ∷ []) ≡ start
 steps_more bs places at start old new e f =
     let more = sum_one (λ p. work_of bs (slice_get bs p)) places at in
     omega arith
 
-pub bound_more : (slots : Slots) (d : Dependents) (nodes : List ℕ) (node at start old new : ℕ) (block : Reading) → AreFoundIn slots d → slice_get d.positions.items node ≡ Some at → slice_get (blocks_of slots) at ≡ Some block
-    → start ≤ old + sum_by (row_length d.uses) nodes → new + work_of (blocks_of slots) (slice_get (blocks_of slots) at) ≡ old → start ≤ new + sum_by (row_length d.uses) (nodes ++ node ∷ [])
+pub bound_more : (slots : Slots) (d : Dependents) (nodes : List ℕ) (node at start old new : ℕ) (block : Reading) → AreFoundIn slots d
+    → slice_get d.positions.items node ≡ Some at → slice_get (blocks_of slots) at ≡ Some block
+    → start ≤ old + sum_by (row_length d.uses) nodes → new + work_of (blocks_of slots) (slice_get (blocks_of slots) at) ≡ old
+    → start ≤ new + sum_by (row_length d.uses) (nodes ++ node ∷ [])
 bound_more slots d nodes node at start old new block h p s bound e =
     let more = sum_one (row_length d.uses) nodes node in
     let row = row_items slots d h node at block p s in

@@ -1,5 +1,6 @@
 -- What is wrong with a use, found from its edge, the components and the owner's state.
-use Rattle.std.proofs.Common.{◌≡◌, ℕ, ◌<◌, inl, inr, false, List, length, Option, Some, None, slice_get, slice_index_or, Contains, refl, sym, ◌∙◌, ap, arith, subst}
+use Rattle.std.proofs.Common.{◌≡◌, ℕ, ◌<◌, inl, inr, false, List, length, Option, Some, None, slice_get, slice_index_or, Contains, refl, sym, ◌∙◌, ap}
+use Rattle.std.proofs.Common.{arith, subst}
 use Rattle.std.proofs.lemmas.Bool.{cases_Bool}
 use Rattle.std.proofs.lemmas.Option.{same_Some, none-some, slice_get_within, get_or_from_slice_get, slice_get-get_or}
 use Rattle.ti_source.specs.declared.code.Code.{Code}
@@ -27,7 +28,8 @@ use Rattle.base_plan.specs.inside.Settling.{IsKnown, IsUseAt, IsEdgeTo, IsOwnerS
 use Rattle.base_plan.proofs.Places.{block_of, node_of_place, node_of_id, use_of_place, edge_is, row_at, graph_of, components_of}
 
 -- a use among the blocks found
-pub record IsFoundUse (slots : Slots) (d : Dependents) (component_of : List ℕ) (settled : List Settled) (node at index : ℕ) (name : List ℕ) (edge : Option ℕ) : Type 0 where
+pub record IsFoundUse (slots : Slots) (d : Dependents) (component_of : List ℕ) (settled : List Settled) (node at index : ℕ) (name : List ℕ)
+    (edge : Option ℕ) : Type 0 where
   pub known : IsKnown slots d component_of settled
   pub place : slice_get d.positions.items node ≡ Some at
   pub of_item : IsUseAt (blocks_of slots) at index name
@@ -38,17 +40,20 @@ module _ (slots : Slots) (d : Dependents) (component_of : List ℕ) (settled : L
   numbers k = components_of d.uses component_of (length d.positions.items) k.components (omega (arith, k.found.as_many, k.found.graph.as_many))
 
   -- if the use leads back, its edge leads to a node of the same component
-  back_shares : (edge : Option ℕ) → IsFoundUse slots d component_of settled node at index name edge → LeadsTo (blocks_of slots) name at → (owner : ℕ) × (edge ≡ Some owner) × HaveOneNumber component_of node owner
+  back_shares : (edge : Option ℕ) → IsFoundUse slots d component_of settled node at index name edge → LeadsTo (blocks_of slots) name at → (owner : ℕ)
+      × (edge ≡ Some owner) × HaveOneNumber component_of node owner
   back_shares edge u lead =
       let found = u.known.found in
       let n = node_of_place slots d found node at u.place in
-      let w = circular_component (blocks_of slots) d.positions.items (laws.HasOptionalEdge d.uses) (HaveOneNumber component_of) found.closed (graph_of slots d found) (numbers u.known)
+      let w = circular_component (blocks_of slots) d.positions.items (laws.HasOptionalEdge d.uses) (HaveOneNumber component_of) found.closed
+      (graph_of slots d found) (numbers u.known)
       node at (block_of slots n.0) name u.place n.1.block (use_of_place (blocks_of slots) at index name (block_of slots n.0) u.of_item n.1.block) lead in
       let m = node_of_place slots d found w.0 w.1 w.3 in
       (w.0, (u.leads w.0).1 (m.0, (w.1, w.2, m.1.stands), m.1.id_is), w.4)
 
   -- the owner was found, and is of another component
-  pub off_another : (owner : ℕ) → IsFoundUse slots d component_of settled node at index name (Some owner) → (HaveOneNumber component_of node owner → ⊥) → leads_to (blocks_of slots) name at ≡ false
+  pub off_another : (owner : ℕ) → IsFoundUse slots d component_of settled node at index name (Some owner) → (HaveOneNumber component_of node owner → ⊥)
+      → leads_to (blocks_of slots) name at ≡ false
   off_another owner u apart =
       elim (cases_Bool (leads_to (blocks_of slots) name at)) [
         | inr off ↦ off
@@ -67,14 +72,16 @@ module _ (slots : Slots) (d : Dependents) (component_of : List ℕ) (settled : L
       ]
 
   -- the owner was found, and is of the component of the user
-  pub fault_circular : (owner : ℕ) → IsFoundUse slots d component_of settled node at index name (Some owner) → HaveOneNumber component_of node owner → ◌≡◌ {A = Option Code} (Some Circular) (use_fault (blocks_of slots) at name)
+  pub fault_circular : (owner : ℕ) → IsFoundUse slots d component_of settled node at index name (Some owner) → HaveOneNumber component_of node owner
+      → ◌≡◌ {A = Option Code} (Some Circular) (use_fault (blocks_of slots) at name)
   fault_circular w u one =
       let found = u.known.found in
       let own = (u.leads w).0 refl in
       let m = node_of_id slots d found w own.0 own.2 in
       let same : own.1.0 ≡ m.0 = found.distinct own.1.0 m.0 own.0 own.1.2 m.1.stands in
       let owns : owner (blocks_of slots) name ≡ Some m.0 = own.1.1 ∙ ap (λ k. Some k) same in
-      let lead = component_circular (blocks_of slots) d.positions.items (laws.HasOptionalEdge d.uses) (HaveOneNumber component_of) (graph_of slots d found) (numbers u.known)
+      let lead = component_circular (blocks_of slots) d.positions.items (laws.HasOptionalEdge d.uses) (HaveOneNumber component_of) (graph_of slots d found)
+      (numbers u.known)
       node at w m.0 name u.place owns m.1.at_is one in
       let b = owner_is (blocks_of slots) name m.0 owns in
       use_fault_circular (blocks_of slots) at name b.0 b.1 (LeadsTo-leads_to (blocks_of slots) name at lead)
@@ -123,7 +130,8 @@ module _ (slots : Slots) (d : Dependents) (component_of : List ℕ) (settled : L
 -- ---- what is read
 
 module _ (slots : Slots) (d : Dependents) (component_of : List ℕ) (settled : List Settled) (node at index : ℕ) (name : List ℕ) (row : List (Option ℕ)) where
-  edge_stands : IsKnown slots d component_of settled → slice_get d.positions.items node ≡ Some at → IsUseAt (blocks_of slots) at index name → slice_get d.uses node ≡ Some row → (edge : Option ℕ) → slice_index_or row index None ≡ edge → slice_get row index ≡ Some edge
+  edge_stands : IsKnown slots d component_of settled → slice_get d.positions.items node ≡ Some at → IsUseAt (blocks_of slots) at index name
+      → slice_get d.uses node ≡ Some row → (edge : Option ℕ) → slice_index_or row index None ≡ edge → slice_get row index ≡ Some edge
   edge_stands k p u r edge e = slice_get-get_or row index None (row_at slots d k.found node at index name row p u r) ∙ ap (λ o. Some o) e
 
   -- the edge of the item is that of its use
@@ -133,11 +141,13 @@ module _ (slots : Slots) (d : Dependents) (component_of : List ℕ) (settled : L
   read_use k p u r edge e =
       record { known = k; place = p; of_item = u; leads = edge_is slots d k.found node at index name row edge p u r (edge_stands k p u r edge e) }
 
-  pub read_edge : IsKnown slots d component_of settled → slice_get d.positions.items node ≡ Some at → IsUseAt (blocks_of slots) at index name → slice_get d.uses node ≡ Some row → (owner : ℕ) → slice_index_or row index None ≡ Some owner → HasEdge d.uses node owner
+  pub read_edge : IsKnown slots d component_of settled → slice_get d.positions.items node ≡ Some at → IsUseAt (blocks_of slots) at index name
+      → slice_get d.uses node ≡ Some row → (owner : ℕ) → slice_index_or row index None ≡ Some owner → HasEdge d.uses node owner
   read_edge k p u r owner e = record { row = row; place = index; stands = r; leads = edge_stands k p u r (Some owner) e }
 
   -- the node that the edge leads to has a component and a place among what was settled
-  pub owner_within : (owner : ℕ) → IsFoundUse slots d component_of settled node at index name (Some owner) → (owner < length component_of) × (owner < length settled)
+  pub owner_within : (owner : ℕ) → IsFoundUse slots d component_of settled node at index name (Some owner) → (owner < length component_of)
+      × (owner < length settled)
   owner_within owner u =
       let w = (u.leads owner).0 refl in
       let within = slice_get_within d.ids.items owner w.0 w.2 in
@@ -147,12 +157,17 @@ module _ (slots : Slots) (d : Dependents) (component_of : List ℕ) (settled : L
   node_within k r = let within = slice_get_within d.uses node row r in omega (arith, k.components.as_many)
 
 -- numbers that are read are those of one component, or not
-pub one_component : (component_of : List ℕ) (i j : ℕ) → i < length component_of → j < length component_of → slice_index_or component_of j 0 ≡ slice_index_or component_of i 0 → HaveOneNumber component_of i j
-one_component component_of i j l m e = (slice_index_or component_of i 0, slice_get-get_or component_of i 0 l, slice_get-get_or component_of j 0 m ∙ ap (λ k. Some k) e)
+pub one_component : (component_of : List ℕ) (i j : ℕ) → i < length component_of → j < length component_of
+    → slice_index_or component_of j 0 ≡ slice_index_or component_of i 0 → HaveOneNumber component_of i j
+one_component component_of i j l m e =
+    (slice_index_or component_of i 0, slice_get-get_or component_of i 0 l, slice_get-get_or component_of j 0 m ∙ ap (λ k. Some k) e)
 
-pub two_components : (component_of : List ℕ) (i j : ℕ) → (slice_index_or component_of j 0 ≡ slice_index_or component_of i 0 → ⊥) → HaveOneNumber component_of i j → ⊥
+pub two_components : (component_of : List ℕ) (i j : ℕ) → (slice_index_or component_of j 0 ≡ slice_index_or component_of i 0 → ⊥)
+    → HaveOneNumber component_of i j → ⊥
 two_components component_of i j n one = n (get_or_from_slice_get component_of j one.0 0 one.2 ∙ sym (get_or_from_slice_get component_of i one.0 0 one.1))
 
 -- an owner of another component was settled
-pub settled_owner : (slots : Slots) (d : Dependents) (component_of : List ℕ) (settled : List Settled) (node owner : ℕ) → HasSettledOwners slots d component_of settled node → HasEdge d.uses node owner → (HaveOneNumber component_of node owner → ⊥) → IsSettledNode slots d settled owner
+pub settled_owner : (slots : Slots) (d : Dependents) (component_of : List ℕ) (settled : List Settled) (node owner : ℕ)
+    → HasSettledOwners slots d component_of settled node → HasEdge d.uses node owner → (HaveOneNumber component_of node owner → ⊥)
+    → IsSettledNode slots d settled owner
 settled_owner slots d component_of settled node owner h edge apart = elim (h owner edge) [ inl one ↦ absurd (apart one) | inr right ↦ right ]

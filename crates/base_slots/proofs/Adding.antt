@@ -1,5 +1,6 @@
 -- The names of a block come to an index, or go, one at a time.
-use Rattle.std.proofs.Common.{◌≡◌, ◌≢◌, ◌⊎◌, ◌≤◌, ◌+◌, ℕ, suc, zero, inl, inr, List, [], ◌∷◌, ◌++◌, length, map, take, Bool, true, false, not, nat_eq, ◌&&◌, ◌||◌, Option}
+use Rattle.std.proofs.Common.{◌≡◌, ◌≢◌, ◌⊎◌, ◌≤◌, ◌+◌, ℕ, suc, zero, inl, inr, List, [], ◌∷◌, ◌++◌, length, map, take, Bool, true, false, not, nat_eq, ◌&&◌}
+use Rattle.std.proofs.Common.{◌||◌, Option}
 use Rattle.std.proofs.Common.{Some, None, option_map, slice_get, refl, sym, ◌∙◌, ap, arith, eq-eqb, length-append, Global}
 use Rattle.std.specs.Option.{option_map_or}
 use Rattle.std.specs.Vec.{vec_capacity}
@@ -21,7 +22,8 @@ use Rattle.base_index.specs.Names.{mentions_at, holder_capacity, user_capacity, 
 use Rattle.base_index.proofs.LawProofs.{agreeing_lists, among_all}
 use Rattle.base_slots.specs.declared.indexing.Role.{Role}
 use Rattle.base_slots.specs.declared.indexing.Role.TheVariants.{Holder, User}
-use Rattle.base_slots.specs.inside.Indexing.{Said, said_as_own, said_as_used, all_said, says_of, is_role, is_said, is_among_said, ids_at, HasRoom, AddsId, Forgets, Removes, HasRoomAt, IsGrown, IsPart}
+use Rattle.base_slots.specs.inside.Indexing.{Said, said_as_own, said_as_used, all_said, says_of, is_role, is_said, is_among_said, ids_at, HasRoom, AddsId}
+use Rattle.base_slots.specs.inside.Indexing.{Forgets, Removes, HasRoomAt, IsGrown, IsPart}
 
 -- ---- what depends on the entry of a name alone
 
@@ -29,7 +31,8 @@ ids_by : (role : Role) (one other : NameIndex) (name : List ℕ) → mentions_at
 ids_by Holder one other name e = ap (λ o. option_map_or (λ m. m.holders.items) o []) e
 ids_by User one other name e = ap (λ o. option_map_or (λ m. m.users.items) o []) e
 
-holder_capacity_by : (one other : NameIndex) (name : List ℕ) → mentions_at one name ≡ mentions_at other name → holder_capacity one name ≡ holder_capacity other name
+holder_capacity_by : (one other : NameIndex) (name : List ℕ) → mentions_at one name ≡ mentions_at other name
+    → holder_capacity one name ≡ holder_capacity other name
 holder_capacity_by one other name e = ap (λ o. option_map_or (λ m. vec_capacity m.holders) o 0) e
 
 user_capacity_by : (one other : NameIndex) (name : List ℕ) → mentions_at one name ≡ mentions_at other name → user_capacity one name ≡ user_capacity other name
@@ -96,7 +99,8 @@ capacity_same index name = record { holders = omega arith; users = omega arith }
 pub capacity_more : (old mid new : NameIndex) (name : List ℕ) → KeepsCapacity old mid name → KeepsCapacity mid new name → KeepsCapacity old new name
 capacity_more old mid new name g h = record { holders = omega (arith, g.holders, h.holders); users = omega (arith, g.users, h.users) }
 
-room_kept : (role : Role) (old new : NameIndex) (name : List ℕ) → ids_at role new name ≡ ids_at role old name → KeepsCapacity old new name → HasRoom old role name → HasRoom new role name
+room_kept : (role : Role) (old new : NameIndex) (name : List ℕ) → ids_at role new name ≡ ids_at role old name → KeepsCapacity old new name
+    → HasRoom old role name → HasRoom new role name
 room_kept Holder old new name e k room = omega (arith, room, ap length e, k.holders)
 room_kept User old new name e k room = omega (arith, room, ap length e, k.users)
 
@@ -122,13 +126,15 @@ changed R role name mid new here rest others = λ r n. elim (name_cases n name) 
   | inr apart ↦ inr (and_false (is_role r role) (bytes_eq n name) apart.1, ids_by r new mid n (others n apart.0))
 ]
 
-pub changed_holder : (R : List ℕ → List ℕ → Type 0) (name : List ℕ) (mid new : NameIndex) → R (ids_at Holder mid name) (ids_at Holder new name) → ids_at User new name ≡ ids_at User mid name → KeepsOthers mid new name → IsChange R (Some (Holder, name)) mid new
+pub changed_holder : (R : List ℕ → List ℕ → Type 0) (name : List ℕ) (mid new : NameIndex) → R (ids_at Holder mid name) (ids_at Holder new name)
+    → ids_at User new name ≡ ids_at User mid name → KeepsOthers mid new name → IsChange R (Some (Holder, name)) mid new
 changed_holder R name mid new here rest others = changed R Holder name mid new here other others where
   other : (r : Role) → is_role r Holder ≡ false → ids_at r new name ≡ ids_at r mid name
   other Holder e = absurd (false≢true (sym e))
   other User e = rest
 
-pub changed_user : (R : List ℕ → List ℕ → Type 0) (name : List ℕ) (mid new : NameIndex) → R (ids_at User mid name) (ids_at User new name) → ids_at Holder new name ≡ ids_at Holder mid name → KeepsOthers mid new name → IsChange R (Some (User, name)) mid new
+pub changed_user : (R : List ℕ → List ℕ → Type 0) (name : List ℕ) (mid new : NameIndex) → R (ids_at User mid name) (ids_at User new name)
+    → ids_at Holder new name ≡ ids_at Holder mid name → KeepsOthers mid new name → IsChange R (Some (User, name)) mid new
 changed_user R name mid new here rest others = changed R User name mid new here other others where
   other : (r : Role) → is_role r User ≡ false → ids_at r new name ≡ ids_at r mid name
   other Holder e = rest
@@ -150,12 +156,14 @@ adds_more listed passes more id old mid new said h step change capacity = record
     | inl here ↦
         let all : more role n ≡ true = step role n ∙ or_true (passes role n) (is_said role n said) here.0 in
         here.1 (λ x. (nat_eq x id && passes role n) || test x) (h.added role n test e)
-        ∙ agreeing_lists listed (λ x. nat_eq x id || ((nat_eq x id && passes role n) || test x)) (λ x. (nat_eq x id && more role n) || test x) (λ i x f. all_added (nat_eq x id) (passes role n) (more role n) (test x) all)
+        ∙ agreeing_lists listed (λ x. nat_eq x id || ((nat_eq x id && passes role n) || test x)) (λ x. (nat_eq x id && more role n) || test x)
+        (λ i x f. all_added (nat_eq x id) (passes role n) (more role n) (test x) all)
     | inr apart ↦
         let as_before : more role n ≡ passes role n = step role n ∙ (ap (λ b. passes role n || b) apart.0 ∙ or_none (passes role n)) in
         apart.1
         ∙ (h.added role n test e
-        ∙ agreeing_lists listed (λ x. (nat_eq x id && passes role n) || test x) (λ x. (nat_eq x id && more role n) || test x) (λ i x f. ap (λ b. (nat_eq x id && b) || test x) (sym as_before)))
+        ∙ agreeing_lists listed (λ x. (nat_eq x id && passes role n) || test x) (λ x. (nat_eq x id && more role n) || test x)
+        (λ i x f. ap (λ b. (nat_eq x id && b) || test x) (sym as_before)))
   ];
   capacity = λ n. capacity_more old mid new n (h.capacity n) (capacity n);
 }
@@ -174,15 +182,18 @@ place_for listed passes id old mid role name h part room =
           inl (room_kept role old mid name same (h.capacity name) room)
     ]
 
-pub added_among : (listed : List ℕ) (passes : Role → List ℕ → Bool) (id : ℕ) (old mid : NameIndex) (role : Role) (name : List ℕ) → AddsId listed passes id old mid → IsPart listed (ids_at role old name) → AreAmong (ids_at role mid name) listed
+pub added_among : (listed : List ℕ) (passes : Role → List ℕ → Bool) (id : ℕ) (old mid : NameIndex) (role : Role) (name : List ℕ)
+    → AddsId listed passes id old mid → IsPart listed (ids_at role old name) → AreAmong (ids_at role mid name) listed
 added_among listed passes id old mid role name h part =
     rw (h.added role name part.0 part.1) (among_all listed (λ x. (nat_eq x id && passes role name) || part.0 x))
 
 -- a test that says the same
-pub adds_same : (listed : List ℕ) (passes more : Role → List ℕ → Bool) (id : ℕ) (old new : NameIndex) → ((role : Role) (name : List ℕ) → more role name ≡ passes role name) → AddsId listed passes id old new → AddsId listed more id old new
+pub adds_same : (listed : List ℕ) (passes more : Role → List ℕ → Bool) (id : ℕ) (old new : NameIndex)
+    → ((role : Role) (name : List ℕ) → more role name ≡ passes role name) → AddsId listed passes id old new → AddsId listed more id old new
 adds_same listed passes more id old new same h = record {
   added = λ role n test e. h.added role n test e
-      ∙ agreeing_lists listed (λ x. (nat_eq x id && passes role n) || test x) (λ x. (nat_eq x id && more role n) || test x) (λ i x f. ap (λ b. (nat_eq x id && b) || test x) (sym (same role n)));
+      ∙ agreeing_lists listed (λ x. (nat_eq x id && passes role n) || test x) (λ x. (nat_eq x id && more role n) || test x)
+      (λ i x f. ap (λ b. (nat_eq x id && b) || test x) (sym (same role n)));
   capacity = h.capacity;
 }
 
@@ -196,24 +207,29 @@ removes_more listed passes more id old mid new said h step change capacity = rec
     | inl here ↦
         let all : more role n ≡ true = step role n ∙ or_true (passes role n) (is_said role n said) here.0 in
         here.1 (λ x. not (nat_eq x id && passes role n) && test x) (h.removed role n test e)
-        ∙ agreeing_lists listed (λ x. not (nat_eq x id) && (not (nat_eq x id && passes role n) && test x)) (λ x. not (nat_eq x id && more role n) && test x) (λ i x f. all_removed (nat_eq x id) (passes role n) (more role n) (test x) all)
+        ∙ agreeing_lists listed (λ x. not (nat_eq x id) && (not (nat_eq x id && passes role n) && test x)) (λ x. not (nat_eq x id && more role n) && test x)
+        (λ i x f. all_removed (nat_eq x id) (passes role n) (more role n) (test x) all)
     | inr apart ↦
         let as_before : more role n ≡ passes role n = step role n ∙ (ap (λ b. passes role n || b) apart.0 ∙ or_none (passes role n)) in
         apart.1
         ∙ (h.removed role n test e
-        ∙ agreeing_lists listed (λ x. not (nat_eq x id && passes role n) && test x) (λ x. not (nat_eq x id && more role n) && test x) (λ i x f. ap (λ b. not (nat_eq x id && b) && test x) (sym as_before)))
+        ∙ agreeing_lists listed (λ x. not (nat_eq x id && passes role n) && test x) (λ x. not (nat_eq x id && more role n) && test x)
+        (λ i x f. ap (λ b. not (nat_eq x id && b) && test x) (sym as_before)))
   ];
   capacity = λ n. capacity_more old mid new n (h.capacity n) (capacity n);
 }
 
-pub removed_among : (listed : List ℕ) (passes : Role → List ℕ → Bool) (id : ℕ) (old mid : NameIndex) (role : Role) (name : List ℕ) → Removes listed passes id old mid → IsPart listed (ids_at role old name) → AreAmong (ids_at role mid name) listed
+pub removed_among : (listed : List ℕ) (passes : Role → List ℕ → Bool) (id : ℕ) (old mid : NameIndex) (role : Role) (name : List ℕ)
+    → Removes listed passes id old mid → IsPart listed (ids_at role old name) → AreAmong (ids_at role mid name) listed
 removed_among listed passes id old mid role name h part =
     rw (h.removed role name part.0 part.1) (among_all listed (λ x. not (nat_eq x id && passes role name) && part.0 x))
 
-pub removes_same : (listed : List ℕ) (passes more : Role → List ℕ → Bool) (id : ℕ) (old new : NameIndex) → ((role : Role) (name : List ℕ) → more role name ≡ passes role name) → Removes listed passes id old new → Removes listed more id old new
+pub removes_same : (listed : List ℕ) (passes more : Role → List ℕ → Bool) (id : ℕ) (old new : NameIndex)
+    → ((role : Role) (name : List ℕ) → more role name ≡ passes role name) → Removes listed passes id old new → Removes listed more id old new
 removes_same listed passes more id old new same h = record {
   removed = λ role n test e. h.removed role n test e
-      ∙ agreeing_lists listed (λ x. not (nat_eq x id && passes role n) && test x) (λ x. not (nat_eq x id && more role n) && test x) (λ i x f. ap (λ b. not (nat_eq x id && b) && test x) (sym (same role n)));
+      ∙ agreeing_lists listed (λ x. not (nat_eq x id && passes role n) && test x) (λ x. not (nat_eq x id && more role n) && test x)
+      (λ i x f. ap (λ b. not (nat_eq x id && b) && test x) (sym (same role n)));
   capacity = h.capacity;
 }
 
@@ -232,10 +248,13 @@ pub room_grown : (old new : NameIndex) → IsGrown old new → (role : Role) (na
 room_grown old new h Holder name room = room_kept Holder old new name (h.seen name).holders (h.capacity name) room
 room_grown old new h User name room = room_kept User old new name (h.seen name).users (h.capacity name) room
 
-pub room_more : (passes more : Role → List ℕ → Bool) (mid new : NameIndex) (said : Role) (name : List ℕ) → HasRoomAt passes mid → IsGrown mid new → HasHolderRoom new name → HasUserRoom new name → GrowsBy (Some (said, name)) passes more → HasRoomAt more new
+pub room_more : (passes more : Role → List ℕ → Bool) (mid new : NameIndex) (said : Role) (name : List ℕ) → HasRoomAt passes mid → IsGrown mid new
+    → HasHolderRoom new name → HasUserRoom new name → GrowsBy (Some (said, name)) passes more → HasRoomAt more new
 room_more passes more mid new said name room h holder user step role n e = elim (name_cases n name) [
   | inl same ↦ rw same.0 (either role)
-  | inr apart ↦ room_grown mid new h role n (room role n (sym (or_none (passes role n)) ∙ (ap (λ b. passes role n || b) (sym (and_false (is_role role said) (bytes_eq n name) apart.1)) ∙ (sym (step role n) ∙ e))))
+  | inr apart ↦ room_grown mid new h role n
+      (room role n (sym (or_none (passes role n)) ∙ (ap (λ b. passes role n || b) (sym (and_false (is_role role said) (bytes_eq n name) apart.1))
+      ∙ (sym (step role n) ∙ e))))
 ] where
   either : (r : Role) → HasRoom new r name
   either Holder = holder
@@ -243,7 +262,8 @@ room_more passes more mid new said name room h holder user step role n e = elim 
 
 -- ---- names are dropped
 
-forgotten_stays : (mid new : NameIndex) (name : List ℕ) → ((n : List ℕ) → IsSeenSame mid new n) → KeepsOthers mid new name → IsForgotten new name → (n : List ℕ) → IsForgotten mid n → IsForgotten new n
+forgotten_stays : (mid new : NameIndex) (name : List ℕ) → ((n : List ℕ) → IsSeenSame mid new n) → KeepsOthers mid new name → IsForgotten new name
+    → (n : List ℕ) → IsForgotten mid n → IsForgotten new n
 forgotten_stays mid new name seen others gone n before = elim (name_cases n name) [
   | inl same ↦ rw same.0 gone
   | inr apart ↦ λ holders users. others n apart.0 ∙ before (sym (seen n).holders ∙ holders) (sym (seen n).users ∙ users)
@@ -255,25 +275,31 @@ forgets_more passes more old mid new said name h seen others gone step = record 
   same = λ n. record { holders = (seen n).holders ∙ (h.same n).holders; users = (seen n).users ∙ (h.same n).users };
   gone = λ role n e. elim (name_cases n name) [
     | inl same ↦ rw same.0 gone
-    | inr apart ↦ forgotten_stays mid new name seen others gone n (h.gone role n (sym (or_none (passes role n)) ∙ (ap (λ b. passes role n || b) (sym (and_false (is_role role said) (bytes_eq n name) apart.1)) ∙ (sym (step role n) ∙ e))))
+    | inr apart ↦ forgotten_stays mid new name seen others gone n
+        (h.gone role n (sym (or_none (passes role n)) ∙ (ap (λ b. passes role n || b) (sym (and_false (is_role role said) (bytes_eq n name) apart.1))
+        ∙ (sym (step role n) ∙ e))))
   ];
   kept = λ n f. forgotten_stays mid new name seen others gone n (h.kept n f);
 }
 
 -- ---- one more place
 
-said_push : (all : List Said) (said : Said) (role : Role) (name : List ℕ) → is_among_said (all ++ said ∷ []) role name ≡ (is_among_said all role name || is_said role name said)
+said_push : (all : List Said) (said : Said) (role : Role) (name : List ℕ) → is_among_said (all ++ said ∷ []) role name
+    ≡ (is_among_said all role name || is_said role name said)
 said_push [] said role name = or_none (is_said role name said)
 said_push (x ∷ xs) said role name =
     ap (λ b. is_said role name x || b) (said_push xs said role name) ∙ or_assoc (is_said role name x) (is_among_said xs role name) (is_said role name said)
 
-pub said_more : (all : List Said) (k : ℕ) (said : Said) → slice_get all k ≡ Some said → GrowsBy said (is_among_said (take k all)) (is_among_said (take (k + 1) all))
+pub said_more : (all : List Said) (k : ℕ) (said : Said) → slice_get all k ≡ Some said
+    → GrowsBy said (is_among_said (take k all)) (is_among_said (take (k + 1) all))
 said_more all k said e role name =
-    ap (λ xs. is_among_said xs role name) (take_more all k said (slice_get_within all k said e) ∙ ap (λ x. take k all ++ x ∷ []) (get_or_from_slice_get all k said said e))
+    ap (λ xs. is_among_said xs role name) (take_more all k said (slice_get_within all k said e)
+    ∙ ap (λ x. take k all ++ x ∷ []) (get_or_from_slice_get all k said said e))
     ∙ said_push (take k all) said role name
 
 -- what says nothing more
-pub said_same : (all : List Said) (k : ℕ) → slice_get all k ≡ Some None → (role : Role) (name : List ℕ) → is_among_said (take (k + 1) all) role name ≡ is_among_said (take k all) role name
+pub said_same : (all : List Said) (k : ℕ) → slice_get all k ≡ Some None → (role : Role) (name : List ℕ)
+    → is_among_said (take (k + 1) all) role name ≡ is_among_said (take k all) role name
 said_same all k e role name = said_more all k None e role name ∙ or_none (is_among_said (take k all) role name)
 
 pub said_here : (all : List Said) (k : ℕ) (role : Role) (name : List ℕ) → slice_get all k ≡ Some (Some (role, name)) → is_among_said all role name ≡ true
@@ -298,7 +324,8 @@ no_holder_used : (name : List ℕ) (items : List Item) → is_among_said (map sa
 no_holder_used name [] = refl
 no_holder_used name (x ∷ xs) = rw (used_here Holder name (used_name (item_of x).said), no_holder_used name xs) refl
 
-own_said : (names : List (RcSlice ℕ Global)) (rest : List Said) (name : List ℕ) → is_among_said rest Holder name ≡ false → is_among_said (map said_as_own names ++ rest) Holder name ≡ is_among name (map rc_slice_items names)
+own_said : (names : List (RcSlice ℕ Global)) (rest : List Said) (name : List ℕ) → is_among_said rest Holder name ≡ false
+    → is_among_said (map said_as_own names ++ rest) Holder name ≡ is_among name (map rc_slice_items names)
 own_said [] rest name e = e
 own_said (x ∷ xs) rest name e = ap (λ b. bytes_eq name (rc_slice_items x) || b) (own_said xs rest name e)
 
@@ -310,7 +337,8 @@ uses_said : (items : List Item) (name : List ℕ) → is_among_said (map said_as
 uses_said [] name = refl
 uses_said (x ∷ xs) name = rw (use_said name (used_name (item_of x).said), uses_said xs name) refl
 
-past_own : (names : List (RcSlice ℕ Global)) (rest : List Said) (name : List ℕ) → is_among_said (map said_as_own names ++ rest) User name ≡ is_among_said rest User name
+past_own : (names : List (RcSlice ℕ Global)) (rest : List Said) (name : List ℕ) → is_among_said (map said_as_own names ++ rest) User name
+    ≡ is_among_said rest User name
 past_own [] rest name = refl
 past_own (x ∷ xs) rest name = past_own xs rest name
 
@@ -321,10 +349,12 @@ says_all block User name = sym (past_own block.names.items (map said_as_used blo
 -- how many places there are
 said_length : (block : Parsed) → length (all_said block) ≡ length block.names.items + length block.items.items
 said_length block =
-    length-append (map said_as_own block.names.items) (map said_as_used block.items.items) ∙ omega (arith, length-map block.names.items said_as_own, length-map block.items.items said_as_used)
+    length-append (map said_as_own block.names.items) (map said_as_used block.items.items)
+    ∙ omega (arith, length-map block.names.items said_as_own, length-map block.items.items said_as_used)
 
 -- after the last place, all is said
-pub said_ended : (block : Parsed) (n : ℕ) → length block.names.items + length block.items.items ≤ n → (role : Role) (name : List ℕ) → says_of block role name ≡ is_among_said (take n (all_said block)) role name
+pub said_ended : (block : Parsed) (n : ℕ) → length block.names.items + length block.items.items ≤ n → (role : Role) (name : List ℕ)
+    → says_of block role name ≡ is_among_said (take n (all_said block)) role name
 said_ended block n past role name =
     let all = take_all n (all_said block) (omega (arith, said_length block)) in
     says_all block role name ∙ ap (λ xs. is_among_said xs role name) (sym all)

@@ -1,5 +1,6 @@
 -- Lists of the ids that pass a test, and of what is under ids, as an id comes or goes.
-use Rattle.std.proofs.Common.{◌≡◌, ◌≢◌, ◌<◌, ◌≤◌, ℕ, suc, zero, inl, inr, List, [], ◌∷◌, length, set, Bool, true, false, not, nat_eq, ◌&&◌, ◌||◌, Some, slice_get, filter, insert, remove, refl, sym, ◌∙◌, ap, arith, eq-eqb}
+use Rattle.std.proofs.Common.{◌≡◌, ◌≢◌, ◌<◌, ◌≤◌, ℕ, suc, zero, inl, inr, List, [], ◌∷◌, length, set, Bool, true, false, not, nat_eq, ◌&&◌, ◌||◌, Some}
+use Rattle.std.proofs.Common.{slice_get, filter, insert, remove, refl, sym, ◌∙◌, ap, arith, eq-eqb}
 use Rattle.std.proofs.lemmas.Bool.{cases_Bool, cases_eq, eqb-true, false≢true}
 use Rattle.std.proofs.lemmas.Option.{same_Some, none-some}
 use Rattle.ti_text.specs.Lists.{Has, AreDistinct}
@@ -19,14 +20,16 @@ left_test false b t same = refl
 -- ---- an id comes
 
 -- the ids of the list that pass, among all and the new one
-pub list_before : (listed : List ℕ) (at id : ℕ) (has : ℕ → Bool) → (Has listed id → ⊥) → filter has listed ≡ filter (λ x. not (nat_eq x id) && has x) (insert listed at id)
+pub list_before : (listed : List ℕ) (at id : ℕ) (has : ℕ → Bool) → (Has listed id → ⊥) → filter has listed
+    ≡ filter (λ x. not (nat_eq x id) && has x) (insert listed at id)
 list_before listed at id has fresh =
     let other : ℕ → Bool = λ x. not (nat_eq x id) && has x in
     let fails : other id ≡ false = rw (eq-eqb id id refl) refl in
     agreeing_lists listed has other (λ i x e. (let apart = neq_false x id (λ same. fresh (i, rw same at e)) in rw apart refl))
     ∙ sym (staying_lists.inserted listed at id other fails)
 
-pub list_with : (listed : List ℕ) (id : ℕ) (has new : ℕ → Bool) (passes : Bool) → ((x : ℕ) → x ≢ id → new x ≡ has x) → new id ≡ passes → filter (λ x. (nat_eq x id && passes) || (not (nat_eq x id) && has x)) listed ≡ filter new listed
+pub list_with : (listed : List ℕ) (id : ℕ) (has new : ℕ → Bool) (passes : Bool) → ((x : ℕ) → x ≢ id → new x ≡ has x) → new id ≡ passes
+    → filter (λ x. (nat_eq x id && passes) || (not (nat_eq x id) && has x)) listed ≡ filter new listed
 list_with listed id has new passes same here =
     agreeing_lists listed (λ x. (nat_eq x id && passes) || (not (nat_eq x id) && has x)) new (λ i x e. elim (cases_eq x id) [
       | inl one ↦ rw (one, eq-eqb id id refl, here) (or_none passes)
@@ -38,12 +41,14 @@ list_with listed id has new passes same here =
 
 -- ---- an id goes
 
-pub list_left : (listed : List ℕ) (id : ℕ) (has : ℕ → Bool) (passes : Bool) → has id ≡ passes → filter (λ x. not (nat_eq x id && passes) && has x) listed ≡ filter (λ x. not (nat_eq x id) && has x) listed
+pub list_left : (listed : List ℕ) (id : ℕ) (has : ℕ → Bool) (passes : Bool) → has id ≡ passes
+    → filter (λ x. not (nat_eq x id && passes) && has x) listed ≡ filter (λ x. not (nat_eq x id) && has x) listed
 list_left listed id has passes here =
     agreeing_lists listed (λ x. not (nat_eq x id && passes) && has x) (λ x. not (nat_eq x id) && has x)
     (λ i x e. left_test (nat_eq x id) passes (has x) (λ one. ap has (eqb-true x id one) ∙ here))
 
-pub list_without : (listed : List ℕ) (at id : ℕ) (has new : ℕ → Bool) → slice_get listed at ≡ Some id → ((x : ℕ) → x ≢ id → new x ≡ has x) → new id ≡ false → filter (λ x. not (nat_eq x id) && has x) listed ≡ filter new (remove listed at)
+pub list_without : (listed : List ℕ) (at id : ℕ) (has new : ℕ → Bool) → slice_get listed at ≡ Some id → ((x : ℕ) → x ≢ id → new x ≡ has x) → new id ≡ false
+    → filter (λ x. not (nat_eq x id) && has x) listed ≡ filter new (remove listed at)
 list_without listed at id has new stood same gone =
     let other : ℕ → Bool = λ x. not (nat_eq x id) && has x in
     let fails : other id ≡ false = rw (eq-eqb id id refl) refl in
@@ -54,7 +59,8 @@ list_without listed at id has new stood same gone =
     ])
 
 -- fewer pass a stricter test
-stricter : (t u : ℕ → Bool) (x : ℕ) (xs : List ℕ) → (u x ≡ true → t x ≡ true) → length (filter u xs) ≤ length (filter t xs) → length (filter u (x ∷ xs)) ≤ length (filter t (x ∷ xs))
+stricter : (t u : ℕ → Bool) (x : ℕ) (xs : List ℕ) → (u x ≡ true → t x ≡ true) → length (filter u xs) ≤ length (filter t xs)
+    → length (filter u (x ∷ xs)) ≤ length (filter t (x ∷ xs))
 stricter t u x xs h rest =
     elim (cases_Bool (u x)) [
       | inl yes_u ↦ rw (yes_u, h yes_u) (omega arith)
@@ -68,7 +74,8 @@ pub fewer_pass : (t u : ℕ → Bool) (xs : List ℕ) → ((x : ℕ) → u x ≡
 fewer_pass t u [] h = omega arith
 fewer_pass t u (x ∷ xs) h = stricter t u x xs (h x) (fewer_pass t u xs h)
 
-pub one_less : (t u : ℕ → Bool) (xs : List ℕ) (at id : ℕ) → ((x : ℕ) → u x ≡ true → t x ≡ true) → slice_get xs at ≡ Some id → t id ≡ true → u id ≡ false → length (filter u xs) < length (filter t xs)
+pub one_less : (t u : ℕ → Bool) (xs : List ℕ) (at id : ℕ) → ((x : ℕ) → u x ≡ true → t x ≡ true) → slice_get xs at ≡ Some id → t id ≡ true → u id ≡ false
+    → length (filter u xs) < length (filter t xs)
 one_less t u [] at id h e yes_t no_u = absurd (none-some id e)
 one_less t u (x ∷ xs) zero id h e yes_t no_u =
     let same : x ≡ id = same_Some x id e in

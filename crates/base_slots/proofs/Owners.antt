@@ -1,6 +1,7 @@
 -- The owner of a name is the first of its holders, its users are the blocks of the list that use it,
 -- and blocks of the list by their ids.
-use Rattle.std.proofs.Common.{◌≡◌, ℕ, zero, suc, inl, inr, List, [], ◌∷◌, map, length, Bool, true, false, Some, None, nat_eq, slice_get, filter, refl, sym, ◌∙◌, ap}
+use Rattle.std.proofs.Common.{◌≡◌, ℕ, zero, suc, inl, inr, List, [], ◌∷◌, map, length, Bool, true, false, Some, None, nat_eq, slice_get, filter, refl, sym}
+use Rattle.std.proofs.Common.{◌∙◌, ap}
 use Rattle.std.specs.Option.{option_map_or}
 use Rattle.std.specs.Str.{bytes_eq}
 use Rattle.std.proofs.lemmas.Bool.{cases_Bool, eqb-true, eq-eqb, false≢true}
@@ -14,7 +15,8 @@ use Rattle.ti_text.specs.Lists.{Has, AreDistinct}
 use Rattle.base_slots.specs.Listing.{Placed}
 use Rattle.base_slots.specs.declared.slots.Slot.{Slot}
 use Rattle.base_slots.specs.declared.slots.Slots.{Slots}
-use Rattle.base_slots.specs.Slots.{ids_of, slots_of, blocks_of, slot_texts, slot_under, slot_at, reading_at, empty_reading, has_name, uses_name, holders_of, users_of, StandsAt, IsOwnerId}
+use Rattle.base_slots.specs.Slots.{ids_of, slots_of, blocks_of, slot_texts, slot_under, slot_at, reading_at, empty_reading, has_name, uses_name, holders_of}
+use Rattle.base_slots.specs.Slots.{users_of, StandsAt, IsOwnerId}
 
 abbrev id_of : Placed → ℕ
 id_of p = p.id
@@ -36,7 +38,8 @@ id_there slots at p e = rw (slice_get-map id_of slots.placed at, e) refl
 pub slot_there : (slots : Slots) (at : ℕ) (p : Placed) → slice_get slots.placed at ≡ Some p → slice_get (slots_of slots) at ≡ Some p.slot
 slot_there slots at p e = rw (slice_get-map (λ (x : Placed). x.slot) slots.placed at, e) refl
 
-pub block_of_slot : (slots : Slots) (at : ℕ) (slot : Slot) → slice_get (slots_of slots) at ≡ Some slot → slice_get (blocks_of slots) at ≡ Some (reading_of slot.block)
+pub block_of_slot : (slots : Slots) (at : ℕ) (slot : Slot) → slice_get (slots_of slots) at ≡ Some slot
+    → slice_get (blocks_of slots) at ≡ Some (reading_of slot.block)
 block_of_slot slots at slot e = rw (slice_get-map (λ (x : Slot). reading_of x.block) (slots_of slots) at, e) refl
 
 pub block_there : (slots : Slots) (at : ℕ) (p : Placed) → slice_get slots.placed at ≡ Some p → slice_get (blocks_of slots) at ≡ Some (reading_of p.slot.block)
@@ -62,7 +65,8 @@ length_texts slots = length-map (slots_of slots) (λ (s : Slot). s.text.items) �
 -- ---- what is under an id
 
 -- an id has the slot that is first under it
-first_under : (ps : List Placed) (id : ℕ) → Has (map id_of ps) id → (at : ℕ) × (p : Placed) × (slice_get ps at ≡ Some p) × (p.id ≡ id) × (slot_under ps id ≡ Some p.slot)
+first_under : (ps : List Placed) (id : ℕ) → Has (map id_of ps) id → (at : ℕ) × (p : Placed) × (slice_get ps at ≡ Some p) × (p.id ≡ id)
+    × (slot_under ps id ≡ Some p.slot)
 first_under [] id (i, e) = absurd (none-some id e)
 first_under (p ∷ ps) id (i, e) =
     elim (cases_Bool (nat_eq p.id id)) [
@@ -77,14 +81,16 @@ first_under (p ∷ ps) id (i, e) =
     later p ps id fails_it (suc i) e = (i, e)
 
 -- a slot that is at each position of an id is the one under it
-pub slot_by_id : (slots : Slots) (id : ℕ) (slot : Slot) → Has (ids_of slots) id → ((at : ℕ) → StandsAt slots at id → slice_get (slots_of slots) at ≡ Some slot) → slot_at slots id ≡ Some slot
+pub slot_by_id : (slots : Slots) (id : ℕ) (slot : Slot) → Has (ids_of slots) id
+    → ((at : ℕ) → StandsAt slots at id → slice_get (slots_of slots) at ≡ Some slot) → slot_at slots id ≡ Some slot
 slot_by_id slots id slot there all =
     let w = first_under slots.placed id there in
     let stands : StandsAt slots w.0 id = id_there slots w.0 w.1 w.2 ∙ ap (λ k. Some k) w.3 in
     w.4 ∙ (sym (slot_there slots w.0 w.1 w.2) ∙ all w.0 stands)
 
 -- no id is twice: the slot under the id of a position is there
-pub slot_standing : (slots : Slots) (at id : ℕ) (slot : Slot) → AreDistinct (ids_of slots) → StandsAt slots at id → slot_at slots id ≡ Some slot → slice_get (slots_of slots) at ≡ Some slot
+pub slot_standing : (slots : Slots) (at id : ℕ) (slot : Slot) → AreDistinct (ids_of slots) → StandsAt slots at id → slot_at slots id ≡ Some slot
+    → slice_get (slots_of slots) at ≡ Some slot
 slot_standing slots at id slot once s e =
     let w = first_under slots.placed id (at, s) in
     let same : w.0 ≡ at = once w.0 at id (id_there slots w.0 w.1 w.2 ∙ ap (λ k. Some k) w.3) s in
@@ -97,7 +103,8 @@ block_at slots at id once s =
     here ∙ ap (λ o. Some (option_map_or (λ (x : Slot). reading_of x.block) o empty_reading)) (sym w.4)
 
 -- an id of the list is at some position, with its block
-pub block_somewhere : (slots : Slots) (id : ℕ) → Has (ids_of slots) id → (at : ℕ) × StandsAt slots at id × (slice_get (blocks_of slots) at ≡ Some (reading_at slots id))
+pub block_somewhere : (slots : Slots) (id : ℕ) → Has (ids_of slots) id → (at : ℕ) × StandsAt slots at id
+    × (slice_get (blocks_of slots) at ≡ Some (reading_at slots id))
 block_somewhere slots id there =
     let w = first_under slots.placed id there in (
       w.0,
@@ -105,7 +112,8 @@ block_somewhere slots id there =
       block_there slots w.0 w.1 w.2 ∙ ap (λ o. Some (option_map_or (λ (x : Slot). reading_of x.block) o empty_reading)) (sym w.4),
     )
 
-pub id_at : (slots : Slots) (at : ℕ) (block : Reading) → AreDistinct (ids_of slots) → slice_get (blocks_of slots) at ≡ Some block → (id : ℕ) × StandsAt slots at id × (reading_at slots id ≡ block)
+pub id_at : (slots : Slots) (at : ℕ) (block : Reading) → AreDistinct (ids_of slots) → slice_get (blocks_of slots) at ≡ Some block → (id : ℕ)
+    × StandsAt slots at id × (reading_at slots id ≡ block)
 id_at slots at block once e =
     let s = mapped (λ (x : Slot). reading_of x.block) (slots_of slots) at block e in
     let p = mapped (λ (x : Placed). x.slot) slots.placed at s.0 s.1 in
@@ -114,7 +122,8 @@ id_at slots at block once e =
 
 -- ---- the first of those that have a name
 
-first_owns : (name : List ℕ) (ps : List Placed) (id : ℕ) → slice_get (map id_of (filter (has_name name) ps)) 0 ≡ Some id → (at : ℕ) × (owner (map (λ (s : Slot). reading_of s.block) (map (λ (p : Placed). p.slot) ps)) name ≡ Some at) × (slice_get (map id_of ps) at ≡ Some id)
+first_owns : (name : List ℕ) (ps : List Placed) (id : ℕ) → slice_get (map id_of (filter (has_name name) ps)) 0 ≡ Some id → (at : ℕ)
+    × (owner (map (λ (s : Slot). reading_of s.block) (map (λ (p : Placed). p.slot) ps)) name ≡ Some at) × (slice_get (map id_of ps) at ≡ Some id)
 first_owns name [] id e = absurd (none-some id e)
 first_owns name (p ∷ ps) id e =
     elim (cases_Bool (has_name name p)) [
@@ -124,7 +133,8 @@ first_owns name (p ∷ ps) id e =
           (suc w.0, rw (lacks, w.1) refl, w.2)
     ]
 
-none_owns : (name : List ℕ) (ps : List Placed) → slice_get (map id_of (filter (has_name name) ps)) 0 ≡ None → owner (map (λ (s : Slot). reading_of s.block) (map (λ (p : Placed). p.slot) ps)) name ≡ None
+none_owns : (name : List ℕ) (ps : List Placed) → slice_get (map id_of (filter (has_name name) ps)) 0 ≡ None
+    → owner (map (λ (s : Slot). reading_of s.block) (map (λ (p : Placed). p.slot) ps)) name ≡ None
 none_owns name [] e = refl
 none_owns name (p ∷ ps) e =
     elim (cases_Bool (has_name name p)) [
@@ -145,7 +155,8 @@ no_holder slots name e = none_owns name slots.placed e
 abbrev Passes : (Placed → Bool) → List Placed → ℕ → Type 0
 Passes test ps id = (at : ℕ) × (p : Placed) × (slice_get ps at ≡ Some p) × (p.id ≡ id) × (test p ≡ true)
 
-passes_first : (test : Placed → Bool) (p : Placed) (ps : List Placed) (ids : List ℕ) (id : ℕ) → test p ≡ true → ((k : ℕ) → slice_get ids k ≡ Some id → Passes test ps id) → (k : ℕ) → slice_get (p.id ∷ ids) k ≡ Some id → Passes test (p ∷ ps) id
+passes_first : (test : Placed → Bool) (p : Placed) (ps : List Placed) (ids : List ℕ) (id : ℕ) → test p ≡ true
+    → ((k : ℕ) → slice_get ids k ≡ Some id → Passes test ps id) → (k : ℕ) → slice_get (p.id ∷ ids) k ≡ Some id → Passes test (p ∷ ps) id
 passes_first test p ps ids id passes later zero e = (0, p, refl, same_Some p.id id e, passes)
 passes_first test p ps ids id passes later (suc k) e = let w = later k e in (suc w.0, w.1, w.2, w.3, w.4)
 
@@ -157,7 +168,8 @@ filter_stands test (p ∷ ps) k id e =
       | inr fails ↦ (let w = filter_stands test ps k id (rw fails at e) in (suc w.0, w.1, w.2, w.3, w.4))
     ]
 
-stands_filter : (test : Placed → Bool) (ps : List Placed) (at : ℕ) (p : Placed) → slice_get ps at ≡ Some p → test p ≡ true → Has (map id_of (filter test ps)) p.id
+stands_filter : (test : Placed → Bool) (ps : List Placed) (at : ℕ) (p : Placed) → slice_get ps at ≡ Some p → test p ≡ true
+    → Has (map id_of (filter test ps)) p.id
 stands_filter test [] at p e passes = absurd (none-some p e)
 stands_filter test (q ∷ ps) zero p e passes =
     let same : q ≡ p = same_Some q p e in
@@ -171,7 +183,8 @@ stands_filter test (q ∷ ps) (suc at) p e passes =
     ]
 
 -- each user of a name is in the list and uses it, and each block that uses it is one
-pub user_uses : (slots : Slots) (name : List ℕ) (k id : ℕ) → slice_get (users_of slots name) k ≡ Some id → (at : ℕ) × (block : Reading) × StandsAt slots at id × (slice_get (blocks_of slots) at ≡ Some block) × Uses block.items name
+pub user_uses : (slots : Slots) (name : List ℕ) (k id : ℕ) → slice_get (users_of slots name) k ≡ Some id → (at : ℕ) × (block : Reading)
+    × StandsAt slots at id × (slice_get (blocks_of slots) at ≡ Some block) × Uses block.items name
 user_uses slots name k id e =
     let w = filter_stands (uses_name name) slots.placed k id e in (
       w.0,
@@ -181,9 +194,11 @@ user_uses slots name k id e =
       any_use-used name (block_of w.1).items w.4,
     )
 
-pub uses_user : (slots : Slots) (name : List ℕ) (at id : ℕ) (block : Reading) → StandsAt slots at id → slice_get (blocks_of slots) at ≡ Some block → Uses block.items name → Has (users_of slots name) id
+pub uses_user : (slots : Slots) (name : List ℕ) (at id : ℕ) (block : Reading) → StandsAt slots at id → slice_get (blocks_of slots) at ≡ Some block
+    → Uses block.items name → Has (users_of slots name) id
 uses_user slots name at id block s e u =
     let w = placed_at slots at id s in
     let same : block_of w.0 ≡ block = same_Some (block_of w.0) block (sym (block_there slots at w.0 w.1) ∙ e) in
-    let there = stands_filter (uses_name name) slots.placed at w.0 w.1 (ap (λ (b : Reading). any_use (bytes_eq name) b.items) same ∙ used-any_use name block.items u) in
+    let there = stands_filter (uses_name name) slots.placed at w.0 w.1 (ap (λ (b : Reading). any_use (bytes_eq name) b.items) same
+    ∙ used-any_use name block.items u) in
     (there.0, there.1 ∙ ap (λ k. Some k) w.2)

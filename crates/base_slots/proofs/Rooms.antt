@@ -40,10 +40,12 @@ module _ (old new : Inside) (h : IsRoomier old new) where
     filled = kept (λ at listed. (i id : ℕ) → slice_get listed i ≡ Some id → IsSome (at id)) x.filled;
     holders = λ name.
         (h.names.seen name).holders
-        ∙ kept (λ at listed. holders_at old.names name ≡ filter (λ id. is_among name (option_map_or (λ slot. reading_of slot.block) (at id) empty_reading).names) listed) (x.holders name);
+        ∙ kept (λ at listed. holders_at old.names name ≡ filter
+        (λ id. is_among name (option_map_or (λ slot. reading_of slot.block) (at id) empty_reading).names) listed) (x.holders name);
     users = λ name.
         (h.names.seen name).users
-        ∙ kept (λ at listed. users_at old.names name ≡ filter (λ id. any_use (bytes_eq name) (option_map_or (λ slot. reading_of slot.block) (at id) empty_reading).items) listed) (x.users name);
+        ∙ kept (λ at listed. users_at old.names name ≡ filter
+        (λ id. any_use (bytes_eq name) (option_map_or (λ slot. reading_of slot.block) (at id) empty_reading).items) listed) (x.users name);
   }
 
   pub roomier_same : placed_of new.slots.items new.order.listed ≡ placed_of old.slots.items old.order.listed

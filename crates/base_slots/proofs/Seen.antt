@@ -1,5 +1,6 @@
 -- The list that the fields show.
-use Rattle.std.proofs.Common.{◌≡◌, ℕ, zero, suc, inl, inr, List, [], ◌∷◌, map, filter, length, insert, remove, Bool, Option, Some, None, option_map, slice_get, refl, sym, ◌∙◌, ap, subst, Global}
+use Rattle.std.proofs.Common.{◌≡◌, ℕ, zero, suc, inl, inr, List, [], ◌∷◌, map, filter, length, insert, remove, Bool, Option, Some, None, option_map}
+use Rattle.std.proofs.Common.{slice_get, refl, sym, ◌∙◌, ap, subst, Global}
 use Rattle.std.specs.Option.{option_map_or, IsSome}
 use Rattle.std.specs.Str.{bytes_eq}
 use Rattle.std.specs.Map.{lookup}
@@ -44,7 +45,8 @@ placed_ids slots (id ∷ ids) h =
     let w = some_there (slot_stored slots id) (h 0 id refl) in
     rw w.1 (ap (λ xs. id ∷ xs) (placed_ids slots ids (others_filled slots id ids h)))
 
-pub placed_there : (slots : List (Option Slot)) (ids : List ℕ) (at id : ℕ) (slot : Slot) → AreFilled slots ids → slice_get ids at ≡ Some id → slot_stored slots id ≡ Some slot
+pub placed_there : (slots : List (Option Slot)) (ids : List ℕ) (at id : ℕ) (slot : Slot) → AreFilled slots ids → slice_get ids at ≡ Some id
+    → slot_stored slots id ≡ Some slot
     → slice_get (placed_of slots ids) at ≡ Some (record { id = id; slot = slot })
 placed_there slots [] at id slot h e s = absurd (none-some id e)
 placed_there slots (x ∷ ids) zero id slot h e s =
@@ -55,7 +57,8 @@ placed_there slots (x ∷ ids) (suc at) id slot h e s =
     let w = some_there (slot_stored slots x) (h 0 x refl) in
     rw w.1 (placed_there slots ids at id slot (others_filled slots x ids h) e s)
 
-pub placed_agree : (slots other : List (Option Slot)) (ids : List ℕ) → ((i id : ℕ) → slice_get ids i ≡ Some id → slot_stored slots id ≡ slot_stored other id) → placed_of slots ids ≡ placed_of other ids
+pub placed_agree : (slots other : List (Option Slot)) (ids : List ℕ)
+    → ((i id : ℕ) → slice_get ids i ≡ Some id → slot_stored slots id ≡ slot_stored other id) → placed_of slots ids ≡ placed_of other ids
 placed_agree slots other [] same = refl
 placed_agree slots other (id ∷ ids) same =
     let here = same 0 id refl in
@@ -71,7 +74,8 @@ placed_put slots (x ∷ ids) (suc at) id slot h s =
     let rest = placed_put slots ids at id slot (others_filled slots x ids h) s in
     rw (w.1, rest) refl
 
-pub placed_taken : (slots : List (Option Slot)) (ids : List ℕ) (at : ℕ) → AreFilled slots ids → placed_of slots (remove ids at) ≡ remove (placed_of slots ids) at
+pub placed_taken : (slots : List (Option Slot)) (ids : List ℕ) (at : ℕ) → AreFilled slots ids
+    → placed_of slots (remove ids at) ≡ remove (placed_of slots ids) at
 placed_taken slots [] zero h = refl
 placed_taken slots [] (suc at) h = refl
 placed_taken slots (x ∷ ids) zero h = let w = some_there (slot_stored slots x) (h 0 x refl) in rw w.1 refl
@@ -129,10 +133,12 @@ value_distinct slots value e h = let P : List ℕ → Type 0 = λ xs. AreDistinc
 pub value_has : (slots : Inside) (value : Slots) (id : ℕ) → listing_of slots ≡ value → IsIndexed slots → Has (ids_of value) id → Has slots.order.listed id
 value_has slots value id e h there = let P : List ℕ → Type 0 = λ xs. Has xs id in subst P (value_ids slots value e h) there
 
-pub has_slot : (slots : Inside) (value : Slots) (id : ℕ) → listing_of slots ≡ value → IsIndexed slots → Has (ids_of value) id → IsSome (slot_stored slots.slots.items id)
+pub has_slot : (slots : Inside) (value : Slots) (id : ℕ) → listing_of slots ≡ value → IsIndexed slots → Has (ids_of value) id
+    → IsSome (slot_stored slots.slots.items id)
 has_slot slots value id e h there = let w = value_has slots value id e h there in h.filled w.0 id w.1
 
-pub value_slot : (slots : Inside) (value : Slots) (at id : ℕ) (slot : Slot) → listing_of slots ≡ value → IsIndexed slots → slot_stored slots.slots.items id ≡ Some slot → slice_get (ids_of value) at ≡ Some id → slice_get (slots_of value) at ≡ Some slot
+pub value_slot : (slots : Inside) (value : Slots) (at id : ℕ) (slot : Slot) → listing_of slots ≡ value → IsIndexed slots
+    → slot_stored slots.slots.items id ≡ Some slot → slice_get (ids_of value) at ≡ Some id → slice_get (slots_of value) at ≡ Some slot
 value_slot slots value at id slot e h read stands =
     let stored : slice_get slots.order.listed at ≡ Some id = ap (λ xs. slice_get xs at) (sym (value_ids slots value e h)) ∙ stands in
     let there = placed_there slots.slots.items slots.order.listed at id slot h.filled stored read in
@@ -140,7 +146,8 @@ value_slot slots value at id slot e h read stands =
 
 -- ---- what is stored for a name
 
-room_by : (name : List ℕ) (entries : List (Vec ℕ Global × Mentions)) → lookup (bytes_eq name) (map room_of_name entries) ≡ option_map room_of (lookup (λ (key : Vec ℕ Global). is_eq (slice_cmp nat_cmp name key.items)) entries)
+room_by : (name : List ℕ) (entries : List (Vec ℕ Global × Mentions)) → lookup (bytes_eq name) (map room_of_name entries)
+    ≡ option_map room_of (lookup (λ (key : Vec ℕ Global). is_eq (slice_cmp nat_cmp name key.items)) entries)
 room_by name [] = refl
 room_by name (entry ∷ entries) =
     let same : bytes_eq name entry.0.items ≡ is_eq (slice_cmp nat_cmp name entry.0.items) = texts_ties name entry.0.items in

@@ -11,7 +11,8 @@ remove-inserted xs zero x l = refl
 remove-inserted [] (suc at) x l = absurd (omega arith)
 remove-inserted (z ∷ xs) (suc at) x l = ap (λ ys. z ∷ ys) (remove-inserted xs at x (omega arith))
 
-pub fits_again : (old put back : Slots) (at : ℕ) (slot gone : Slot) (id : ℕ) → at ≤ length old.placed → PutsIn old put at slot id → TakesOut put back at gone → KeepsRooms old back
+pub fits_again : (old put back : Slots) (at : ℕ) (slot gone : Slot) (id : ℕ) → at ≤ length old.placed → PutsIn old put at slot id
+    → TakesOut put back at gone → KeepsRooms old back
 fits_again old put back at slot gone id within puts takes block room =
     let same : back.placed ≡ old.placed =
     takes.placed ∙ (ap (λ xs. remove xs at) puts.placed ∙ remove-inserted old.placed at (record { id = id; slot = slot }) within) in

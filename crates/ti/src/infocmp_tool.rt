@@ -1,5 +1,4 @@
 //! `ti infocmp`: lists entries as source, or compares them.
-use crate::disk_tree::DiskTree;
 use crate::environment::{entry_places, own_terminal};
 use crate::failure::Failure;
 use crate::job_end::end_job;
@@ -8,6 +7,7 @@ use std::io::{self, Write};
 use std::rt::{Clock, Env, Files};
 use ti_layout::View;
 use ti_tools::{InfocmpMode, InfocmpOptions, Job, ToolError, entry, infocmp, locate};
+use tools_disk::DiskTree;
 
 /// Prints what the options ask for on standard output, or says on standard error why it did not.
 /// `names` are those of the terminals, or the one that `TERM` names if there is none. `first_dir`

@@ -1,7 +1,7 @@
 //! How a job ends that stops before its work is done.
-use crate::error_stream::ErrorStream;
 use crate::failure::Failure;
 use ti_tools::{Counted, Job, ToolError, message, status};
+use tools_disk::ErrorStream;
 
 /// Says on standard error why a job stopped; `name` is that of the terminal, and `found` says that
 /// its entry was read. Answers the status of the process, even if standard error takes nothing.

@@ -1,18 +1,13 @@
 //! The program `ti`: the tools of `ti_tools` over real files, streams and the environment.
 #![tactic(auto)]
 
-mod disk_tree;
 mod environment;
-mod error_stream;
 mod failure;
 mod infocmp_tool;
 mod job_end;
-mod made_directories;
-mod new_file;
 mod session_tool;
 mod tic_tool;
 mod tput_tool;
-mod whole;
 
 use crate::failure::Failure;
 use crate::job_end::end_job;

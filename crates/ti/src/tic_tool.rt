@@ -1,11 +1,10 @@
 //! `ti tic`: compiles a source into files.
-use crate::disk_tree::DiskTree;
 use crate::environment::own_directory;
 use crate::failure::Failure;
-use crate::whole::read_source;
 use std::rt::{Clock, Env, Files};
 use std::str;
 use ti_tools::{TicOptions, ToolError, TreeFault, place, tic};
+use tools_disk::{DiskTree, read_source};
 
 /// Compiles the source in `file`, or on standard input, and writes the files below `dir`. Nothing
 /// is written before the whole source is compiled. Answers the status of the process.

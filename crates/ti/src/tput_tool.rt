@@ -1,13 +1,12 @@
 //! `ti tput`: writes what drives a terminal.
-use crate::disk_tree::DiskTree;
 use crate::environment::{entry_places, own_terminal};
-use crate::error_stream::ErrorStream;
 use crate::failure::Failure;
 use crate::job_end::end_job;
 use std::io::{self, Write};
 use std::rt::{Clock, Env, Files};
 use ti_layout::View;
 use ti_tools::{Counted, Job, ToolError, entry, locate, message, tput, tput_lines};
+use tools_disk::{DiskTree, ErrorStream};
 
 /// Writes to standard output what the words ask of a terminal, or what each line of standard input
 /// asks if `lines` is set, or says on standard error why it did not. The terminal is `term`, else

@@ -14,11 +14,13 @@ use Rattle.ti_base.proofs.Lists.{take_get}
 pub lines_more : (texts : List (List ℕ)) (i : ℕ) (t : List ℕ) → slice_get texts i ≡ Some t → lines_before texts (i + 1) ≡ lines_before texts i + line_count t
 lines_more texts i t e = rw (take_get texts i t e, sum_by-append line_count (take i texts) (t ∷ [])) (omega arith)
 
-pub starts_more : (texts : List (List ℕ)) (i lines : ℕ) (starts : List ℕ) → starts ≡ map (lines_before texts) (range_with_len 0 i) → lines ≡ lines_before texts i → starts ++ lines ∷ [] ≡ map (lines_before texts) (range_with_len 0 (i + 1))
+pub starts_more : (texts : List (List ℕ)) (i lines : ℕ) (starts : List ℕ) → starts ≡ map (lines_before texts) (range_with_len 0 i)
+    → lines ≡ lines_before texts i → starts ++ lines ∷ [] ≡ map (lines_before texts) (range_with_len 0 (i + 1))
 starts_more texts i lines starts e f = rw (map-range_with_len_more (lines_before texts) 0 i i (omega arith), e, f) refl
 
 -- what is read of the starts
-pub start_read : (texts : List (List ℕ)) (starts : List ℕ) (n k x : ℕ) → starts ≡ map (lines_before texts) (range_with_len 0 n) → k < n → x ≡ get_or starts k x → x ≡ lines_before texts k
+pub start_read : (texts : List (List ℕ)) (starts : List ℕ) (n k x : ℕ) → starts ≡ map (lines_before texts) (range_with_len 0 n) → k < n
+    → x ≡ get_or starts k x → x ≡ lines_before texts k
 start_read texts starts n k x e l r = r ∙ (ap (λ s. get_or s k x) e ∙ get_or-map-range_with_len (lines_before texts) 0 n k k x l (omega arith))
 
 pub length_starts : (texts : List (List ℕ)) (starts : List ℕ) (n : ℕ) → starts ≡ map (lines_before texts) (range_with_len 0 n) → length starts ≡ n

@@ -1,5 +1,6 @@
 -- An edit made as an exchange of slots: the list after it, what planning asks, and what is rebuilt.
-use Rattle.std.proofs.Common.{◌≡◌, ◌↔◌, inl, inr, ℕ, zero, suc, ◌<◌, ◌≤◌, Bool, true, false, ◌||◌, List, [], ◌∷◌, ◌++◌, length, set, map, Option, Some, None, option_map, slice_get, refl, sym, ◌∙◌, ap, subst, arith}
+use Rattle.std.proofs.Common.{◌≡◌, ◌↔◌, inl, inr, ℕ, zero, suc, ◌<◌, ◌≤◌, Bool, true, false, ◌||◌, List, [], ◌∷◌, ◌++◌, length, set, map, Option, Some}
+use Rattle.std.proofs.Common.{None, option_map, slice_get, refl, sym, ◌∙◌, ap, subst, arith}
 use Rattle.std.specs.Prelude.{IfSome}
 use Rattle.std.specs.List.{insert, remove}
 use Rattle.std.proofs.lemmas.List.{length-map, length-set, map-set}
@@ -22,9 +23,11 @@ use Rattle.base_slots.proofs.Owners.{length_slots, length_texts}
 use Rattle.ti_text.proofs.Lists.{item_at}
 use Rattle.base_dependents.specs.Dependents.{IsExchangeOf}
 use Rattle.base_plan.specs.Plans.{OthersAreSettled}
-use Rattle.ti_base.specs.inside.Database.{AreRead, SlotsAreSettled, SlotsAreSound, IsSoundSlot, PlacedSlot, reading_seen, text_seen, with_slot, block_seen, exchange_with}
+use Rattle.ti_base.specs.inside.Database.{AreRead, SlotsAreSettled, SlotsAreSound, IsSoundSlot, PlacedSlot, reading_seen, text_seen, with_slot, block_seen}
+use Rattle.ti_base.specs.inside.Database.{exchange_with}
 use Rattle.ti_base.specs.inside.Texts.{IsBlockText}
-use Rattle.ti_base.specs.inside.Exchanges.{out_position, put_position, new_text, IsNewOf, names_seen, without, slot_out, slot_put, spare_after, placed, placed_put, with_exchange, IsOfSlots, CanExchange, IsMade, IsUndone, IsEdited}
+use Rattle.ti_base.specs.inside.Exchanges.{out_position, put_position, new_text, IsNewOf, names_seen, without, slot_out, slot_put, spare_after, placed}
+use Rattle.ti_base.specs.inside.Exchanges.{placed_put, with_exchange, IsOfSlots, CanExchange, IsMade, IsUndone, IsEdited}
 use Rattle.ti_base.proofs.SlotLists.{blocks_read, readings_with}
 use Rattle.ti_base.proofs.Untouched.{others_settled, settled_as}
 use Rattle.ti_base.proofs.SlotExchanges.{gone, fits_slots, exchanged_back}
@@ -46,23 +49,28 @@ sound_out : (xs : List Slot) (out : Option ℕ) (slot : Slot) → SlotsAreSound 
 sound_out xs None slot h e = absurd (none-some slot e)
 sound_out xs (Some at) slot h e = h at slot e
 
-sound_put : (out spare : Option Slot) → ((slot : Slot) → out ≡ Some slot → IsSoundSlot slot) → IfSome spare IsSoundSlot → IfSome (slot_put out spare) IsSoundSlot
+sound_put : (out spare : Option Slot) → ((slot : Slot) → out ≡ Some slot → IsSoundSlot slot) → IfSome spare IsSoundSlot
+    → IfSome (slot_put out spare) IsSoundSlot
 sound_put None None h k = tt
 sound_put (Some slot) None h k = h slot refl
 sound_put out (Some new) h k = k
 
-sound_placed : (rest : List Slot) (put : Option ℕ) (slot : Option Slot) → IfSome put (λ to. to ≤ length rest) → IfSome slot IsSoundSlot → SlotsAreSound rest → SlotsAreSound (with_slot rest (placed put slot))
+sound_placed : (rest : List Slot) (put : Option ℕ) (slot : Option Slot) → IfSome put (λ to. to ≤ length rest) → IfSome slot IsSoundSlot → SlotsAreSound rest
+    → SlotsAreSound (with_slot rest (placed put slot))
 sound_placed rest None slot l k h = h
 sound_placed rest (Some to) None l k h = h
 sound_placed rest (Some to) (Some slot) l k h = sound_with rest to slot l k h
 
-sound_exchanged : (xs : List Slot) (out put : Option ℕ) (spare : Option Slot) → IfSome put (λ to. to ≤ length (without xs out)) → SlotsAreSound xs → IfSome spare IsSoundSlot → SlotsAreSound (with_exchange xs out put spare)
+sound_exchanged : (xs : List Slot) (out put : Option ℕ) (spare : Option Slot) → IfSome put (λ to. to ≤ length (without xs out)) → SlotsAreSound xs
+    → IfSome spare IsSoundSlot → SlotsAreSound (with_exchange xs out put spare)
 sound_exchanged xs out put spare l h k =
-    sound_placed (without xs out) put (slot_put (slot_out xs out) spare) l (sound_put (slot_out xs out) spare (λ slot e. sound_out xs out slot h e) k) (sound_without xs out h)
+    sound_placed (without xs out) put (slot_put (slot_out xs out) spare) l (sound_put (slot_out xs out) spare (λ slot e. sound_out xs out slot h e) k)
+    (sound_without xs out h)
 
 -- ---- an edit is an exchange
 
-pub can_edit : (slots : Slots) (change : Change) (spare : Option Slot) → AreRead slots → IsInPlace (slot_texts slots) change → IsNewOf slots change spare → CanExchange slots (out_position change) (put_position change) spare
+pub can_edit : (slots : Slots) (change : Change) (spare : Option Slot) → AreRead slots → IsInPlace (slot_texts slots) change → IsNewOf slots change spare
+    → CanExchange slots (out_position change) (put_position change) spare
 can_edit slots (insertion at text) None h l n = absurd (none-some text n.text)
 can_edit slots (insertion at text) (Some new) h l n = record {
   from = tt;
@@ -131,34 +139,42 @@ texts_after xs (relocation from to) None l e =
     let k : from < length (map text_seen xs) = l.0 in
     let m : from < length xs = omega (arith, length-map xs text_seen) in
     let there = item_at xs from m in
-    rw (slice_get-map text_seen xs from, there.1) (map-insert text_seen (remove xs from) to there.0 ∙ ap (λ ts. insert ts to there.0.text.items) (map-remove text_seen xs from))
+    rw (slice_get-map text_seen xs from, there.1) (map-insert text_seen (remove xs from) to there.0
+    ∙ ap (λ ts. insert ts to there.0.text.items) (map-remove text_seen xs from))
 
 few_after : (texts : List (List ℕ)) (change : Change) → IsSoundEdit texts change → length texts ≤ blocks_max → length (list_after texts change) ≤ blocks_max
-few_after texts (insertion at text) h l = (let n = length-insert texts at text h.in_place in let k : length texts < blocks_max = h.room in let m : length (insert texts at text) ≤ blocks_max = omega arith in m)
+few_after texts (insertion at text) h l =
+    (let n = length-insert texts at text h.in_place in let k : length texts < blocks_max = h.room in let m : length (insert texts at text) ≤ blocks_max =
+    omega arith in m)
 few_after texts (replacement at text) h l = (let n = length-set texts at text in let m : length (set texts at text) ≤ blocks_max = omega arith in m)
 few_after texts (removal at) h l = (let n = length-remove texts at h.in_place in let m : length (remove texts at) ≤ blocks_max = omega arith in m)
-few_after texts (relocation from to) h l = (let n = length-relocated texts from to h.in_place.0 h.in_place.1 in let m : length (with_item_moved texts from to) ≤ blocks_max = omega arith in m)
+few_after texts (relocation from to) h l =
+    (let n = length-relocated texts from to h.in_place.0 h.in_place.1 in let m : length (with_item_moved texts from to) ≤ blocks_max = omega arith in m)
 
 readings_seen : (slots : Slots) → AreRead slots → readings (slot_texts slots) ≡ map reading_seen (slots_of slots)
 readings_seen slots h = sym (blocks_read slots h)
 
 -- an exchange is given by its parts
-exchange_same : (e : Exchange) (rest : List Slot) (out put : Option PlacedSlot) → e.rest ≡ map reading_seen rest → e.out ≡ option_map block_seen out → e.put ≡ option_map block_seen put → e ≡ exchange_with rest out put
+exchange_same : (e : Exchange) (rest : List Slot) (out put : Option PlacedSlot) → e.rest ≡ map reading_seen rest → e.out ≡ option_map block_seen out
+    → e.put ≡ option_map block_seen put → e ≡ exchange_with rest out put
 exchange_same e rest out put r o p = rw (← r, ← o, ← p) refl
 
-block_there : (bs : List Reading) (slots : List Slot) (from to : ℕ) (slot : Slot) → bs ≡ map reading_seen slots → slice_get slots from ≡ Some slot → block_from bs from to ≡ Some (block_seen (record { at = to; slot = slot }))
+block_there : (bs : List Reading) (slots : List Slot) (from to : ℕ) (slot : Slot) → bs ≡ map reading_seen slots → slice_get slots from ≡ Some slot
+    → block_from bs from to ≡ Some (block_seen (record { at = to; slot = slot }))
 block_there bs slots from to slot e s =
     let here : slice_get bs from ≡ Some (reading_of slot.block) = ap (λ xs. slice_get xs from) e ∙ (rw (slice_get-map reading_seen slots from, s) refl) in
     rw here refl
 
-text_there : (at : ℕ) (text : List ℕ) (new : Slot) → IsSoundSlot new → new.text.items ≡ text → Some (record { at = at; block = reading_of_text text }) ≡ Some (block_seen (record { at = at; slot = new }))
+text_there : (at : ℕ) (text : List ℕ) (new : Slot) → IsSoundSlot new → new.text.items ≡ text
+    → Some (record { at = at; block = reading_of_text text }) ≡ Some (block_seen (record { at = at; slot = new }))
 text_there at text new h e = ap (λ b. Some (record { at = at; block = b })) (ap reading_of_text (sym e) ∙ sym h.read)
 
 -- the exchange of blocks that it is
 abbrev seen_by : (old : Slots) (change : Change) (spare : Option Slot) → Type 0
 seen_by old change spare =
     exchange_of (slot_texts old) change
-    ≡ exchange_with (without (slots_of old) (out_position change)) (placed (out_position change) (slot_out (slots_of old) (out_position change))) (placed_put (slots_of old) (out_position change) (put_position change) spare)
+    ≡ exchange_with (without (slots_of old) (out_position change)) (placed (out_position change) (slot_out (slots_of old) (out_position change)))
+    (placed_put (slots_of old) (out_position change) (put_position change) spare)
 
 there_in : (old : Slots) (at : ℕ) → AreRead old → at < length (slot_texts old) → (slot : Slot) × (slice_get (slots_of old) at ≡ Some slot)
 there_in old at h l = item_at (slots_of old) at (let m : at < length (slots_of old) = omega (arith, length_texts old, length_slots old) in m)
@@ -166,15 +182,19 @@ there_in old at h l = item_at (slots_of old) at (let m : at < length (slots_of o
 left_in : (old : Slots) (at : ℕ) → AreRead old → remove (readings (slot_texts old)) at ≡ map reading_seen (remove (slots_of old) at)
 left_in old at h = ap (λ bs. remove bs at) (readings_seen old h) ∙ sym (map-remove reading_seen (slots_of old) at)
 
-exchange_seen : (old : Slots) (change : Change) (spare : Option Slot) → AreRead old → IsInPlace (slot_texts old) change → IsNewOf old change spare → seen_by old change spare
+exchange_seen : (old : Slots) (change : Change) (spare : Option Slot) → AreRead old → IsInPlace (slot_texts old) change → IsNewOf old change spare
+    → seen_by old change spare
 exchange_seen old (insertion at text) None h l n = absurd (none-some text n.text)
 exchange_seen old (insertion at text) (Some new) h l n =
-    exchange_same (exchange_of (slot_texts old) (insertion at text)) (slots_of old) None (Some (record { at = at; slot = new })) (readings_seen old h) refl (text_there at text new n.sound (same_Some new.text.items text n.text))
+    exchange_same (exchange_of (slot_texts old) (insertion at text)) (slots_of old) None (Some (record { at = at; slot = new })) (readings_seen old h) refl
+    (text_there at text new n.sound (same_Some new.text.items text n.text))
 exchange_seen old (replacement at text) None h l n = absurd (none-some text n.text)
 exchange_seen old (replacement at text) (Some new) h l n =
     let there = there_in old at h l in
-    rw there.1 (exchange_same (exchange_of (slot_texts old) (replacement at text)) (remove (slots_of old) at) (Some (record { at = at; slot = there.0 })) (Some (record { at = at; slot = new }))
-    (left_in old at h) (block_there (readings (slot_texts old)) (slots_of old) at at there.0 (readings_seen old h) there.1) (text_there at text new n.sound (same_Some new.text.items text n.text)))
+    rw there.1 (exchange_same (exchange_of (slot_texts old) (replacement at text)) (remove (slots_of old) at) (Some (record { at = at; slot = there.0 }))
+    (Some (record { at = at; slot = new }))
+    (left_in old at h) (block_there (readings (slot_texts old)) (slots_of old) at at there.0 (readings_seen old h) there.1)
+    (text_there at text new n.sound (same_Some new.text.items text n.text)))
 exchange_seen old (removal at) (Some new) h l n = absurd (none-some new.text.items (sym n.text))
 exchange_seen old (removal at) None h l n =
     let there = there_in old at h l in
@@ -183,8 +203,10 @@ exchange_seen old (removal at) None h l n =
 exchange_seen old (relocation from to) (Some new) h l n = absurd (none-some new.text.items (sym n.text))
 exchange_seen old (relocation from to) None h l n =
     let there = there_in old from h l.0 in
-    rw there.1 (exchange_same (exchange_of (slot_texts old) (relocation from to)) (remove (slots_of old) from) (Some (record { at = from; slot = there.0 })) (Some (record { at = to; slot = there.0 }))
-    (left_in old from h) (block_there (readings (slot_texts old)) (slots_of old) from from there.0 (readings_seen old h) there.1) (block_there (readings (slot_texts old)) (slots_of old) from to there.0 (readings_seen old h) there.1))
+    rw there.1 (exchange_same (exchange_of (slot_texts old) (relocation from to)) (remove (slots_of old) from) (Some (record { at = from; slot = there.0 }))
+    (Some (record { at = to; slot = there.0 }))
+    (left_in old from h) (block_there (readings (slot_texts old)) (slots_of old) from from there.0 (readings_seen old h) there.1)
+    (block_there (readings (slot_texts old)) (slots_of old) from to there.0 (readings_seen old h) there.1))
 
 -- ---- a block taken out that has the names of the block put in
 
@@ -194,7 +216,9 @@ among_twice n names = list_any-append n names names ∙ or_same (is_among n name
   or_same true = refl
   or_same false = refl
 
-dependent_moved : (rest : List Slot) (from to : ℕ) (slot : Slot) (at : ℕ) → IsDependent (exchange_with rest (Some (record { at = from; slot = slot })) (Some (record { at = to; slot = slot }))) at ↔ IsDependent (exchange_with rest None (Some (record { at = to; slot = slot }))) at
+dependent_moved : (rest : List Slot) (from to : ℕ) (slot : Slot) (at : ℕ)
+    → IsDependent (exchange_with rest (Some (record { at = from; slot = slot })) (Some (record { at = to; slot = slot }))) at
+    ↔ IsDependent (exchange_with rest None (Some (record { at = to; slot = slot }))) at
 dependent_moved rest from to slot at =
     let names = (reading_of slot.block).names in (
       λ d. (d.0, d.1, elim d.2 [ inl put ↦ inl put | inr r ↦ inr (r.0, sym (among_twice r.0 names) ∙ r.1, r.2) ]),
@@ -204,7 +228,8 @@ dependent_moved rest from to slot at =
 -- so those that depend on the edit are told by the block that is spare after it: a moved block is
 -- not, since it is put in
 same_dependents : (xs : List Slot) (out put : Option ℕ) (spare : Option Slot) → IfSome out (λ at. at < length xs) → (n : ℕ)
-    → IsDependent (exchange_with (without xs out) (placed out (slot_out xs out)) (placed_put xs out put spare)) n ↔ IsDependent (exchange_with (without xs out) (placed out (spare_after put (slot_out xs out) spare)) (placed_put xs out put spare)) n
+    → IsDependent (exchange_with (without xs out) (placed out (slot_out xs out)) (placed_put xs out put spare)) n
+    ↔ IsDependent (exchange_with (without xs out) (placed out (spare_after put (slot_out xs out) spare)) (placed_put xs out put spare)) n
 same_dependents xs None put spare l n = (λ d. d, λ d. d)
 same_dependents xs (Some at) None spare l n = (λ d. d, λ d. d)
 same_dependents xs (Some at) (Some to) None l n = let there = item_at xs at l in rw there.1 (dependent_moved (remove xs at) at to there.0 n)
@@ -216,10 +241,12 @@ old_slots : (xs : List Slot) (out : Option ℕ) → IfSome out (λ at. at < leng
 old_slots xs None l = refl
 old_slots xs (Some at) l = let there = item_at xs at l in rw there.1 (sym (insert-remove xs at there.0 there.1))
 
-placed_fits : (rest : List Slot) (at : Option ℕ) (slot : Option Slot) → IfSome at (λ k. k ≤ length rest) → HasPlace (map reading_seen rest) (option_map block_seen (placed at slot))
+placed_fits : (rest : List Slot) (at : Option ℕ) (slot : Option Slot) → IfSome at (λ k. k ≤ length rest)
+    → HasPlace (map reading_seen rest) (option_map block_seen (placed at slot))
 placed_fits rest None slot l = tt
 placed_fits rest (Some at) None l = tt
-placed_fits rest (Some at) (Some slot) l = (let k : at ≤ length rest = l in let m : at ≤ length (map reading_seen rest) = omega (arith, length-map rest reading_seen) in m)
+placed_fits rest (Some at) (Some slot) l =
+    (let k : at ≤ length rest = l in let m : at ≤ length (map reading_seen rest) = omega (arith, length-map rest reading_seen) in m)
 
 out_fits : (xs : List Slot) (out : Option ℕ) → IfSome out (λ at. at < length xs) → IfSome out (λ at. at ≤ length (without xs out))
 out_fits xs None l = tt
@@ -231,13 +258,15 @@ names_out None (Some to) after h = rw h refl
 names_out (Some at) put None h = refl
 names_out (Some at) put (Some slot) h = refl
 
-others_ready : (new : Slots) (rest : List Slot) (out put : Option PlacedSlot) → IsExchange (exchange_with rest out put) → SlotsAreSettled (with_slot rest out) → slots_of new ≡ with_slot rest put → OthersAreSettled new (exchange_with rest out put)
+others_ready : (new : Slots) (rest : List Slot) (out put : Option PlacedSlot) → IsExchange (exchange_with rest out put)
+    → SlotsAreSettled (with_slot rest out) → slots_of new ≡ with_slot rest put → OthersAreSettled new (exchange_with rest out put)
 others_ready new rest out put fits before is at free slot e =
     let there : slice_get (with_slot rest put) at ≡ Some slot = ap (λ xs. slice_get xs at) (sym is) ∙ e in
     let now = others_settled rest out put fits before at slot there free in
     settled_as (map reading_seen (with_slot rest put)) (blocks_of new) at (reading_of slot.block) slot.settled (ap (map reading_seen) (sym is)) now
 
-pub edited : (old new : Slots) (change : Change) (spare after : Option Slot) (id : Option ℕ) → AreRead old → IsSoundEdit (slot_texts old) change → IsNewOf old change spare → IsMade old new change spare after id → IsEdited old new change id (names_seen after)
+pub edited : (old new : Slots) (change : Change) (spare after : Option Slot) (id : Option ℕ) → AreRead old → IsSoundEdit (slot_texts old) change
+    → IsNewOf old change spare → IsMade old new change spare after id → IsEdited old new change id (names_seen after)
 edited old new change spare after id h sound n x =
     let out = out_position change in
     let put = put_position change in
@@ -252,7 +281,8 @@ edited old new change spare after id h sound n x =
     let texts : slot_texts new ≡ list_after (slot_texts old) change =
     ap (map text_seen) x.slots ∙ texts_after xs change spare sound.in_place n.text in
     let read : AreRead new = record {
-      few = (let k = few_after (slot_texts old) change sound (let n = h.few in omega (arith, length_texts old)) in let n : length (slot_texts new) ≡ length (list_after (slot_texts old) change) = ap (λ ts. length ts) texts in omega (arith, length_texts new));
+      few = (let k = few_after (slot_texts old) change sound (let n = h.few in omega (arith, length_texts old)) in
+          let n : length (slot_texts new) ≡ length (list_after (slot_texts old) change) = ap (λ ts. length ts) texts in omega (arith, length_texts new));
       sound = subst SlotsAreSound (sym x.slots) (sound_exchanged xs out put spare fits h.sound n.sound);
     } in
     let put_fits : HasPlace (map reading_seen rest) (option_map block_seen come) = placed_fits rest put (slot_put (slot_out xs out) spare) fits in
@@ -263,7 +293,8 @@ edited old new change spare after id h sound n x =
       put_id = x.has_id;
     } in
     let same : (k : ℕ) → IsDependent (exchange_with rest was come) k ↔ IsDependent (exchange_with rest half come) k =
-    λ k. subst (λ s. IsDependent (exchange_with rest was come) k ↔ IsDependent (exchange_with rest (placed out s) come) k) (sym x.spare) (same_dependents xs out put spare within k) in
+    λ k. subst (λ s. IsDependent (exchange_with rest was come) k ↔ IsDependent (exchange_with rest (placed out s) come) k) (sym x.spare)
+    (same_dependents xs out put spare within k) in
     record {
       read = read;
       texts = texts;

@@ -1,6 +1,7 @@
 -- What was found out about blocks is put into their slots: nothing else of them changes, and then
 -- all are settled.
-use Rattle.std.proofs.Common.{◌≡◌, ◌≢◌, ◌⊎◌, inl, inr, ℕ, zero, suc, ◌+◌, ◌<◌, Bool, true, false, cond, List, [], ◌∷◌, length, nat_eq, get_or, set, drop, map, All, Option, Some, slice_get, refl, sym, ◌∙◌, ap, subst, arith}
+use Rattle.std.proofs.Common.{◌≡◌, ◌≢◌, ◌⊎◌, inl, inr, ℕ, zero, suc, ◌+◌, ◌<◌, Bool, true, false, cond, List, [], ◌∷◌, length, nat_eq, get_or, set, drop}
+use Rattle.std.proofs.Common.{map, All, Option, Some, slice_get, refl, sym, ◌∙◌, ap, subst, arith}
 use Rattle.std.proofs.lemmas.Bool.{cases_eq, eq-eqb, false≢true}
 use Rattle.std.proofs.lemmas.List.{drop-set-lt}
 use Rattle.std.proofs.lemmas.Option.{same_Some, none-some, get_or_from_slice_get}
@@ -70,7 +71,8 @@ settled_other id s p n = by (nat_eq p.id id) (neq_false p.id id n) where
   by true t = absurd (false≢true (sym t))
   by false t = refl
 
-found_all : (ids : List ℕ) (settled : List Settled) (p : Placed) → length settled ≡ length ids → IsFound ids settled p.id p.slot.settled (installed_at ids settled p).slot.settled
+found_all : (ids : List ℕ) (settled : List Settled) (p : Placed) → length settled ≡ length ids
+    → IsFound ids settled p.id p.slot.settled (installed_at ids settled p).slot.settled
 found_all [] settled p l = inr (refl, λ i h. none-some p.id h)
 found_all (first ∷ ids) [] p l = absurd (omega arith)
 found_all (first ∷ ids) (s ∷ settled) p l =
@@ -92,7 +94,8 @@ found_all (first ∷ ids) (s ∷ settled) p l =
 -- ---- the list
 
 -- a block was there with what was found out before
-was_there : (slots : Slots) (ids : List ℕ) (settled : List Settled) (at : ℕ) (q : Placed) → slice_get (settled_all slots ids settled).placed at ≡ Some q → (p : Placed) × (slice_get slots.placed at ≡ Some p) × (installed_at ids settled p ≡ q)
+was_there : (slots : Slots) (ids : List ℕ) (settled : List Settled) (at : ℕ) (q : Placed) → slice_get (settled_all slots ids settled).placed at ≡ Some q
+    → (p : Placed) × (slice_get slots.placed at ≡ Some p) × (installed_at ids settled p ≡ q)
 was_there slots [] settled at q e = (q, e, refl)
 was_there slots (id ∷ ids) [] at q e = (q, e, refl)
 was_there slots (id ∷ ids) (s ∷ settled) at q e =
@@ -108,7 +111,8 @@ module _ {Y : Type 0} (f : Slot → Y) (blind : (slot : Slot) (s : Settled) → 
     by true = blind p.slot s
     by false = refl
 
-  same_step : (ps : List Placed) (id : ℕ) (s : Settled) → map f (map (λ (p : Placed). p.slot) (map (settled_if id s) ps)) ≡ map f (map (λ (p : Placed). p.slot) ps)
+  same_step : (ps : List Placed) (id : ℕ) (s : Settled) → map f (map (λ (p : Placed). p.slot) (map (settled_if id s) ps))
+      ≡ map f (map (λ (p : Placed). p.slot) ps)
   same_step [] id s = refl
   same_step (p ∷ ps) id s =
       ap (λ y. y ∷ map f (map (λ (q : Placed). q.slot) (map (settled_if id s) ps))) (same_one id s p) ∙ ap (λ ys. f p.slot ∷ ys) (same_step ps id s)
@@ -131,13 +135,16 @@ ids_step [] id s = refl
 ids_step (p ∷ ps) id s =
     ap (λ n. n ∷ map (λ (q : Placed). q.id) (map (settled_if id s) ps)) (same_if id s p).id ∙ ap (λ ns. p.id ∷ ns) (ids_step ps id s)
 
-pub all_stay : (slots now : Slots) (ids : List ℕ) (id : ℕ) (s : Settled) → now ≡ settled_in slots id s → All (Has (ids_of slots)) ids → All (Has (ids_of now)) ids
+pub all_stay : (slots now : Slots) (ids : List ℕ) (id : ℕ) (s : Settled) → now ≡ settled_in slots id s → All (Has (ids_of slots)) ids
+    → All (Has (ids_of now)) ids
 all_stay slots now ids id s e h =
     let P : List ℕ → Type 0 = λ xs. All (Has xs) ids in
     subst P (sym (ap ids_of e ∙ ids_step slots.placed id s)) h
 
-pub one_more_settled : (slots : Slots) (ids : List ℕ) (settled : List Settled) (place id : ℕ) (s swapped : Settled) → place < length ids → length settled ≡ length ids → id ≡ get_or ids place id → s ≡ get_or settled place s
-    → settled_all (settled_in slots id s) (drop (place + 1) ids) (drop (place + 1) (set settled place swapped)) ≡ settled_all slots (drop place ids) (drop place settled)
+pub one_more_settled : (slots : Slots) (ids : List ℕ) (settled : List Settled) (place id : ℕ) (s swapped : Settled) → place < length ids
+    → length settled ≡ length ids → id ≡ get_or ids place id → s ≡ get_or settled place s
+    → settled_all (settled_in slots id s) (drop (place + 1) ids) (drop (place + 1) (set settled place swapped))
+    ≡ settled_all slots (drop place ids) (drop place settled)
 one_more_settled slots ids settled place id s swapped l n e f =
     let within : place < length settled = omega arith in
     let less : place < place + 1 = omega arith in
@@ -154,7 +161,8 @@ pub record WasSlot (old : Slots) (ids : List ℕ) (settled : List Settled) (at :
   pub block : slot.block ≡ before.block
   pub found : IsFound ids settled id before.settled slot.settled
 
-was_slot : (old new : Slots) (ids : List ℕ) (settled : List Settled) (at : ℕ) (slot : Slot) → length settled ≡ length ids → new ≡ settled_all old ids settled → slice_get (slots_of new) at ≡ Some slot → WasSlot old ids settled at slot
+was_slot : (old new : Slots) (ids : List ℕ) (settled : List Settled) (at : ℕ) (slot : Slot) → length settled ≡ length ids
+    → new ≡ settled_all old ids settled → slice_get (slots_of new) at ≡ Some slot → WasSlot old ids settled at slot
 was_slot old new ids settled at slot l h e =
     let q = mapped (λ (p : Placed). p.slot) (settled_all old ids settled).placed at slot (ap (λ (s : Slots). slice_get (slots_of s) at) (sym h) ∙ e) in
     let w = was_there old ids settled at q.0 q.1 in
@@ -173,7 +181,8 @@ was_slot old new ids settled at slot l h e =
 
 -- ---- all blocks are sound and settled
 
-sound_stays : (old new : Slots) (ids : List ℕ) (settled : List Settled) → length settled ≡ length ids → new ≡ settled_all old ids settled → SlotsAreSound (slots_of old) → SlotsAreSound (slots_of new)
+sound_stays : (old new : Slots) (ids : List ℕ) (settled : List Settled) → length settled ≡ length ids → new ≡ settled_all old ids settled
+    → SlotsAreSound (slots_of old) → SlotsAreSound (slots_of new)
 sound_stays old new ids settled l h k at slot e =
     let w = was_slot old new ids settled at slot l h e in
     let s = k at w.before w.was in
@@ -183,7 +192,8 @@ sound_stays old new ids settled l h k at slot e =
       usable = subst (λ b. IsUsable (reading_of b)) (sym w.block) s.usable;
     }
 
-read_stays : (old new : Slots) (ids : List ℕ) (settled : List Settled) → length settled ≡ length ids → new ≡ settled_all old ids settled → AreRead old → AreRead new
+read_stays : (old new : Slots) (ids : List ℕ) (settled : List Settled) → length settled ≡ length ids → new ≡ settled_all old ids settled → AreRead old
+    → AreRead new
 read_stays old new ids settled l h read = record {
   few =
       let n : length (blocks_of new) ≡ length (blocks_of old) = ap (λ bs. length bs) (blocks_stay old new ids settled h) in
@@ -193,14 +203,17 @@ read_stays old new ids settled l h read = record {
 }
 
 -- the block of a slot, as it was before
-block_here : (old : Slots) (ids : List ℕ) (settled : List Settled) (at : ℕ) (slot : Slot) → WasSlot old ids settled at slot → slice_get (blocks_of old) at ≡ Some (reading_of slot.block)
+block_here : (old : Slots) (ids : List ℕ) (settled : List Settled) (at : ℕ) (slot : Slot) → WasSlot old ids settled at slot
+    → slice_get (blocks_of old) at ≡ Some (reading_of slot.block)
 block_here old ids settled at slot w = block_of_slot old at w.before w.was ∙ ap (λ b. Some (reading_of b)) (sym w.block)
 
-all_settled : (old new : Slots) (put : Option ℕ) (out : List (List ℕ)) (plan : Plan) → IsReady old put out → IsPlan old put out plan → new ≡ settled_all old plan.ids.items plan.settled.items → SlotsAreSettled (slots_of new)
+all_settled : (old new : Slots) (put : Option ℕ) (out : List (List ℕ)) (plan : Plan) → IsReady old put out → IsPlan old put out plan
+    → new ≡ settled_all old plan.ids.items plan.settled.items → SlotsAreSettled (slots_of new)
 all_settled old new put out plan ready is h at slot e =
     let w = was_slot old new plan.ids.items plan.settled.items at slot is.as_many h e in
     let here : IsSettled (blocks_of old) at (reading_of slot.block) slot.settled = elim w.found [
-      | inl there ↦ is.settled there.0 at w.id (reading_of slot.block) slot.settled there.1 there.2 w.stands (block_here old plan.ids.items plan.settled.items at slot w)
+      | inl there ↦ is.settled there.0 at w.id (reading_of slot.block) slot.settled there.1 there.2 w.stands
+          (block_here old plan.ids.items plan.settled.items at slot w)
       | inr none ↦
           let other : IsDependent ready.0 at → ⊥ = λ d.
           let i = (is.rebuilt at w.id w.stands).0 (((is.dependents ready.0 ready.1).dependents at).1 d) in
@@ -210,7 +223,8 @@ all_settled old new put out plan ready is h at slot e =
     ] in
     settled_as (blocks_of old) (blocks_of new) at (reading_of slot.block) slot.settled (sym (blocks_stay old new plan.ids.items plan.settled.items h)) here
 
-pub kept_installed : (old new : Slots) (put : Option ℕ) (out : List (List ℕ)) (plan : Plan) → AreRead old → IsReady old put out → IsPlan old put out plan → new ≡ settled_all old plan.ids.items plan.settled.items → AreKept new
+pub kept_installed : (old new : Slots) (put : Option ℕ) (out : List (List ℕ)) (plan : Plan) → AreRead old → IsReady old put out → IsPlan old put out plan
+    → new ≡ settled_all old plan.ids.items plan.settled.items → AreKept new
 kept_installed old new put out plan read ready is h = record {
   read = read_stays old new plan.ids.items plan.settled.items is.as_many h read;
   settled = all_settled old new put out plan ready is h;
@@ -218,11 +232,13 @@ kept_installed old new put out plan read ready is h = record {
 
 -- ---- all blocks are settled by the plan of all
 
-all_settled_once : (old new : Slots) (plan : Plan) → IsPlanOfAll old plan → new ≡ settled_all old plan.ids.items plan.settled.items → SlotsAreSettled (slots_of new)
+all_settled_once : (old new : Slots) (plan : Plan) → IsPlanOfAll old plan → new ≡ settled_all old plan.ids.items plan.settled.items
+    → SlotsAreSettled (slots_of new)
 all_settled_once old new plan is h at slot e =
     let w = was_slot old new plan.ids.items plan.settled.items at slot is.as_many h e in
     let here : IsSettled (blocks_of old) at (reading_of slot.block) slot.settled = elim w.found [
-      | inl there ↦ is.settled there.0 at w.id (reading_of slot.block) slot.settled there.1 there.2 w.stands (block_here old plan.ids.items plan.settled.items at slot w)
+      | inl there ↦ is.settled there.0 at w.id (reading_of slot.block) slot.settled there.1 there.2 w.stands
+          (block_here old plan.ids.items plan.settled.items at slot w)
       | inr none ↦ absurd (none.1 at (ap (λ xs. slice_get xs at) is.listed ∙ w.stands))
     ] in
     settled_as (blocks_of old) (blocks_of new) at (reading_of slot.block) slot.settled (sym (blocks_stay old new plan.ids.items plan.settled.items h)) here

@@ -49,7 +49,8 @@ module _ {K : Type 0} (bytes : K → List ℕ) where
           ap (λ b. b || has_key name keys) (same refl)
           ∙ (or_twice (bytes_eq name (bytes k)) (has_key name keys) ∙ ap (λ b. bytes_eq name (bytes k) || (b || has_key name keys)) (sym (same refl)))
       by_order Greater same more =
-          ap (λ b. is_eq (slice_cmp nat_cmp name (bytes x)) || b) more ∙ or_swap (is_eq (slice_cmp nat_cmp name (bytes x))) (bytes_eq name (bytes k)) (has_key name keys)
+          ap (λ b. is_eq (slice_cmp nat_cmp name (bytes x)) || b) more
+          ∙ or_swap (is_eq (slice_cmp nat_cmp name (bytes x))) (bytes_eq name (bytes k)) (has_key name keys)
 
 -- the names seen are those before
 abbrev pub AreSeen : (List ℕ → Bool) → List (List ℕ) → Type 0
@@ -59,11 +60,13 @@ AreSeen seen before = (name : List ℕ) → seen name ≡ is_among name before
 pub none_once : (test : List ℕ → Bool) (before names : List (List ℕ)) → list_any test names ≡ false → filter test (distinct_after before names) ≡ []
 none_once test before [] none = refl
 none_once test before (name ∷ names) none = by_test (test name) refl none (none_once test (before ++ name ∷ []) names) where
-  by_place : (b : Bool) → test name ≡ false → filter test (distinct_after (before ++ name ∷ []) names) ≡ [] → filter test (cond b [] (name ∷ []) ++ distinct_after (before ++ name ∷ []) names) ≡ []
+  by_place : (b : Bool) → test name ≡ false → filter test (distinct_after (before ++ name ∷ []) names) ≡ []
+      → filter test (cond b [] (name ∷ []) ++ distinct_after (before ++ name ∷ []) names) ≡ []
   by_place true fails rest = rest
   by_place false fails rest = rw fails rest
 
-  by_test : (b : Bool) → test name ≡ b → (b || list_any test names) ≡ false → (list_any test names ≡ false → filter test (distinct_after (before ++ name ∷ []) names) ≡ [])
+  by_test : (b : Bool) → test name ≡ b → (b || list_any test names) ≡ false
+      → (list_any test names ≡ false → filter test (distinct_after (before ++ name ∷ []) names) ≡ [])
       → filter test (distinct_after before (name ∷ names)) ≡ []
   by_test true is e rest = absurd (false≢true (sym e))
   by_test false is e rest = by_place (is_among name before) is (rest e)

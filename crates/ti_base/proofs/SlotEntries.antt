@@ -35,11 +35,13 @@ shown_with b (Some ms) = shown_if (is_too_large b ms) (image_of b ms)
 pub text_of_slot : (slots : Slots) (at : ℕ) (slot : Slot) → slice_get (slots_of slots) at ≡ Some slot → slice_get (slot_texts slots) at ≡ Some slot.text.items
 text_of_slot slots at slot e = rw (slice_get-map text_seen (slots_of slots) at, e) refl
 
-block_read : (slots : Slots) (at : ℕ) (slot : Slot) → AreKept slots → slice_get (slots_of slots) at ≡ Some slot → slice_get (readings (slot_texts slots)) at ≡ Some (reading_of slot.block)
+block_read : (slots : Slots) (at : ℕ) (slot : Slot) → AreKept slots → slice_get (slots_of slots) at ≡ Some slot
+    → slice_get (readings (slot_texts slots)) at ≡ Some (reading_of slot.block)
 block_read slots at slot h e = ap (λ bs. slice_get bs at) (sym (blocks_read slots h.read)) ∙ block_of_slot slots at slot e
 
 -- the values that a slot holds are those of its block
-pub table_of_slot : (slots : Slots) (at : ℕ) (slot : Slot) (block : Reading) → AreKept slots → slice_get (slots_of slots) at ≡ Some slot → slice_get (readings (slot_texts slots)) at ≡ Some block → HasTable contents (readings (slot_texts slots)) block (table_of slot.settled.state)
+pub table_of_slot : (slots : Slots) (at : ℕ) (slot : Slot) (block : Reading) → AreKept slots → slice_get (slots_of slots) at ≡ Some slot
+    → slice_get (readings (slot_texts slots)) at ≡ Some block → HasTable contents (readings (slot_texts slots)) block (table_of slot.settled.state)
 table_of_slot slots at slot block h e there =
     let same = same_Some (reading_of slot.block) block (sym (block_read slots at slot h e) ∙ there) in
     let P : Reading → Type 0 = λ b. HasTable contents (readings (slot_texts slots)) b (table_of slot.settled.state) in
@@ -47,11 +49,13 @@ table_of_slot slots at slot block h e there =
     subst P same (subst Q (blocks_read slots h.read) (h.settled at slot e).table)
 
 -- the entry that a slot holds is the compiled one
-pub entry_of_slot : (slots : Slots) (at : ℕ) (slot : Slot) → AreKept slots → slice_get (slots_of slots) at ≡ Some slot → entry_seen (state_seen slot.settled.state) ≡ compiled (slot_texts slots) at
+pub entry_of_slot : (slots : Slots) (at : ℕ) (slot : Slot) → AreKept slots → slice_get (slots_of slots) at ≡ Some slot
+    → entry_seen (state_seen slot.settled.state) ≡ compiled (slot_texts slots) at
 entry_of_slot slots at slot h e =
     let block = reading_of slot.block in
     let read : slice_get (readings (slot_texts slots)) at ≡ Some block = block_read slots at slot h e in
-    let state : state_seen slot.settled.state ≡ state_of (readings (slot_texts slots)) block = (h.settled at slot e).state ∙ ap (λ bs. state_of bs block) (blocks_read slots h.read) in
+    let state : state_seen slot.settled.state ≡ state_of (readings (slot_texts slots)) block =
+    (h.settled at slot e).state ∙ ap (λ bs. state_of bs block) (blocks_read slots h.read) in
     let there : compiled (slot_texts slots) at ≡ entry (readings (slot_texts slots)) block = rw read refl in
     ap entry_seen state ∙ (shown_with block (expansion (readings (slot_texts slots)) block) ∙ sym there)
 

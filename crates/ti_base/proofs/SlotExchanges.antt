@@ -1,6 +1,7 @@
 -- Slots exchanged: what becomes of the list, the way back, and what planning asks of an edit made
 -- so.
-use Rattle.std.proofs.Common.{◌≡◌, ◌≢◌, inl, inr, ℕ, zero, suc, ◌+◌, ◌<◌, ◌≤◌, List, [], ◌∷◌, length, map, Option, Some, None, slice_get, refl, sym, ◌∙◌, ap, subst, arith}
+use Rattle.std.proofs.Common.{◌≡◌, ◌≢◌, inl, inr, ℕ, zero, suc, ◌+◌, ◌<◌, ◌≤◌, List, [], ◌∷◌, length, map, Option, Some, None, slice_get, refl, sym, ◌∙◌}
+use Rattle.std.proofs.Common.{ap, subst, arith}
 use Rattle.std.specs.Prelude.{IfSome, IsSome}
 use Rattle.std.specs.List.{insert, remove}
 use Rattle.std.proofs.lemmas.Bool.{false≢true}
@@ -19,17 +20,20 @@ use Rattle.base_slots.specs.Changes.{HasRoomFor, PutsIn, TakesOut}
 use Rattle.base_slots.proofs.Owners.{length_ids, length_slots, slot_there}
 use Rattle.base_slots.proofs.Undoing.{fits_again}
 use Rattle.ti_base.specs.inside.Database.{AreKept, AreRead, SlotsAreSettled, SlotsAreSound, text_seen, with_slot, HasId}
-use Rattle.ti_base.specs.inside.Exchanges.{without, slot_out, slot_put, slot_left, spare_after, placed, placed_put, with_exchange, IsOfSlots, HasRoomThen, CanExchange, IsOut, IsExchanged}
+use Rattle.ti_base.specs.inside.Exchanges.{without, slot_out, slot_put, slot_left, spare_after, placed, placed_put, with_exchange, IsOfSlots, HasRoomThen}
+use Rattle.ti_base.specs.inside.Exchanges.{CanExchange, IsOut, IsExchanged}
 
 -- ---- a slot is put in or taken out
 
 slots_put : (old new : Slots) (at id : ℕ) (slot : Slot) → PutsIn old new at slot id → slots_of new ≡ insert (slots_of old) at slot
-slots_put old new at id slot h = ap (map (λ (p : Placed). p.slot)) h.placed ∙ map-insert (λ (p : Placed). p.slot) old.placed at (record { id = id; slot = slot })
+slots_put old new at id slot h =
+    ap (map (λ (p : Placed). p.slot)) h.placed ∙ map-insert (λ (p : Placed). p.slot) old.placed at (record { id = id; slot = slot })
 
 ids_put : (old new : Slots) (at id : ℕ) (slot : Slot) → PutsIn old new at slot id → ids_of new ≡ insert (ids_of old) at id
 ids_put old new at id slot h = ap (map (λ (p : Placed). p.id)) h.placed ∙ map-insert (λ (p : Placed). p.id) old.placed at (record { id = id; slot = slot })
 
-id_put : (old new : Slots) (at id : ℕ) (slot : Slot) → at ≤ length old.placed → PutsIn old new at slot id → HasId new (Some (record { at = at; slot = slot })) (Some id)
+id_put : (old new : Slots) (at id : ℕ) (slot : Slot) → at ≤ length old.placed → PutsIn old new at slot id
+    → HasId new (Some (record { at = at; slot = slot })) (Some id)
 id_put old new at id slot l h =
     let ids = ids_of old in
     let listed = ids_put old new at id slot h in
@@ -38,7 +42,11 @@ id_put old new at id slot l h =
       (λ e. sym (get-insert_at ids at id within) ∙ (ap (slice_get (insert ids at id)) e ∙ (ap (λ xs. slice_get xs k) (sym listed) ∙ stands))),
       (λ e. elim (split-insert at k) [
         | inl same ↦ same
-        | inr behind ↦ absurd (h.fresh (behind.0, sym (get-insert ids at id behind.0 within) ∙ (ap (slice_get (insert ids at id)) behind.1 ∙ (ap (λ xs. slice_get xs k) (sym listed) ∙ (stands ∙ sym e)))))
+        | inr behind ↦ absurd (h.fresh (
+          behind.0,
+          sym (get-insert ids at id behind.0 within)
+              ∙ (ap (slice_get (insert ids at id)) behind.1 ∙ (ap (λ xs. slice_get xs k) (sym listed) ∙ (stands ∙ sym e))),
+        ))
       ]),
     )
 
@@ -107,7 +115,8 @@ no_id : (slots : Slots) → HasId slots None None
 no_id slots = λ at other stands. ((λ h. absurd h), (λ e. absurd (none-some other e)))
 
 -- nothing is put in
-pub exchanged_out : (old rest : Slots) (out : Option ℕ) (spare taken : Option Slot) → CanExchange old out None spare → IsOut old rest out taken → IsExchanged old rest out None spare taken None
+pub exchanged_out : (old rest : Slots) (out : Option ℕ) (spare taken : Option Slot) → CanExchange old out None spare → IsOut old rest out taken
+    → IsExchanged old rest out None spare taken None
 exchanged_out old rest None spare taken can is = absurd can.other
 exchanged_out old rest (Some at) spare taken can is =
     let left = is_left old rest (Some at) taken is in
@@ -119,33 +128,40 @@ exchanged_out old rest (Some at) spare taken can is =
       listed = λ n e. absurd (none-some n e);
       back = record {
         from = tt;
-        into = (let m : length rest.placed ≡ length (remove old.placed at) = ap (λ xs. length xs) left.placed in let l : at < length old.placed = can.from in let k : at ≤ length rest.placed = omega arith in k);
+        into = (let m : length rest.placed ≡ length (remove old.placed at) = ap (λ xs. length xs) left.placed in let l : at < length old.placed =
+            can.from in let k : at ≤ length rest.placed = omega arith in k);
         other = rw is.1 refl;
         room = rw is.1 is.2.room;
       };
     }
 
 -- a block is put in: it is there, it fits, and there is room for it
-pub put_fits : (old rest : Slots) (out : Option ℕ) (to : ℕ) (spare taken : Option Slot) → CanExchange old out (Some to) spare → IsOut old rest out taken → to ≤ length rest.placed
+pub put_fits : (old rest : Slots) (out : Option ℕ) (to : ℕ) (spare taken : Option Slot) → CanExchange old out (Some to) spare → IsOut old rest out taken
+    → to ≤ length rest.placed
 put_fits old rest out to spare taken can is = rw (is_left old rest out taken is).placed can.into
 
-pub put_there : (old rest : Slots) (out : Option ℕ) (to : ℕ) (spare taken : Option Slot) → CanExchange old out (Some to) spare → IsOut old rest out taken → IsSome (slot_put taken spare)
+pub put_there : (old rest : Slots) (out : Option ℕ) (to : ℕ) (spare taken : Option Slot) → CanExchange old out (Some to) spare → IsOut old rest out taken
+    → IsSome (slot_put taken spare)
 put_there old rest out to (Some new) taken can is = refl
 put_there old rest None to None taken can is = absurd (false≢true can.other)
 put_there old rest (Some at) to None taken can is = rw is.1 refl
 
-room_then : (old rest : Slots) (out : Option ℕ) (taken : Option Slot) (block : Reading) → HasRoomThen old out block → IsOut old rest out taken → HasRoomFor rest block
+room_then : (old rest : Slots) (out : Option ℕ) (taken : Option Slot) (block : Reading) → HasRoomThen old out block → IsOut old rest out taken
+    → HasRoomFor rest block
 room_then old rest None taken block room is = subst (λ s. HasRoomFor s block) (sym is.0) room
 room_then old rest (Some at) taken block room is = room rest is.0 is.2
 
-pub put_room : (old rest : Slots) (out : Option ℕ) (to : ℕ) (spare taken : Option Slot) (slot : Slot) → CanExchange old out (Some to) spare → IsOut old rest out taken → Some slot ≡ slot_put taken spare → HasRoomFor rest (reading_of slot.block)
+pub put_room : (old rest : Slots) (out : Option ℕ) (to : ℕ) (spare taken : Option Slot) (slot : Slot) → CanExchange old out (Some to) spare
+    → IsOut old rest out taken → Some slot ≡ slot_put taken spare → HasRoomFor rest (reading_of slot.block)
 put_room old rest out to (Some new) taken slot can is e =
     subst (λ (s : Slot). HasRoomFor rest (reading_of s.block)) (sym (same_Some slot new e)) (room_then old rest out taken (reading_of new.block) can.room is)
 put_room old rest None to None taken slot can is e = absurd (false≢true can.other)
-put_room old rest (Some at) to None taken slot can is e = subst (λ (s : Slot). HasRoomFor rest (reading_of s.block)) (sym (same_Some slot is.0 (e ∙ is.1))) is.2.room
+put_room old rest (Some at) to None taken slot can is e =
+    subst (λ (s : Slot). HasRoomFor rest (reading_of s.block)) (sym (same_Some slot is.0 (e ∙ is.1))) is.2.room
 
 -- once it is taken out again, there is room for the one that was taken out before
-room_back : (old rest new : Slots) (out : Option ℕ) (to id : ℕ) (spare taken : Option Slot) (slot : Slot) → to ≤ length rest.placed → IsOut old rest out taken → PutsIn rest new to slot id → IfSome (slot_left taken spare) (λ s. HasRoomThen new (Some to) (reading_of s.block))
+room_back : (old rest new : Slots) (out : Option ℕ) (to id : ℕ) (spare taken : Option Slot) (slot : Slot) → to ≤ length rest.placed
+    → IsOut old rest out taken → PutsIn rest new to slot id → IfSome (slot_left taken spare) (λ s. HasRoomThen new (Some to) (reading_of s.block))
 room_back old rest new out to id None taken slot fits is put = tt
 room_back old rest new out to id (Some one) None slot fits is put = tt
 room_back old rest new None to id (Some one) (Some gone) slot fits is put = absurd (none-some gone (sym is.1))
@@ -159,7 +175,8 @@ pub exchanged_put : (old rest new : Slots) (out : Option ℕ) (to id : ℕ) (spa
 exchanged_put old rest new out to id spare taken after slot can is put e f =
     let left = is_left old rest out taken is in
     let fits = put_fits old rest out to spare taken can is in
-    let come : Some (record { at = to; slot = slot }) ≡ placed_put (slots_of old) out (Some to) spare = ap (placed (Some to)) (e ∙ ap (λ t. slot_put t spare) left.slot) in
+    let come : Some (record { at = to; slot = slot }) ≡ placed_put (slots_of old) out (Some to) spare =
+    ap (placed (Some to)) (e ∙ ap (λ t. slot_put t spare) left.slot) in
     let one : Placed = record { id = id; slot = slot } in
     let again : remove new.placed to ≡ rest.placed = ap (λ xs. remove xs to) put.placed ∙ remove-insert rest.placed to one fits in
     let n : length new.placed ≡ length rest.placed + 1 = ap (λ xs. length xs) put.placed ∙ length-insert rest.placed to one fits in
@@ -172,11 +189,13 @@ exchanged_put old rest new out to id spare taken after slot can is put e f =
         from = (let l : to < length new.placed = omega arith in l);
         into = out_fits out can.from (again ∙ left.placed);
         other = of_slots out spare taken after is f;
-        room = subst (λ o. IfSome o (λ s. HasRoomThen new (Some to) (reading_of s.block))) (sym f) (room_back old rest new out to id spare taken slot fits is put);
+        room = subst (λ o. IfSome o (λ s. HasRoomThen new (Some to) (reading_of s.block))) (sym f)
+            (room_back old rest new out to id spare taken slot fits is put);
       };
     }
   where
-    out_fits : (out : Option ℕ) → IfSome out (λ at. at < length old.placed) → remove new.placed to ≡ without old.placed out → IfSome out (λ at. at ≤ length (remove new.placed to))
+    out_fits : (out : Option ℕ) → IfSome out (λ at. at < length old.placed) → remove new.placed to ≡ without old.placed out
+        → IfSome out (λ at. at ≤ length (remove new.placed to))
     out_fits None l e = tt
     out_fits (Some at) l e =
         let n = length-remove old.placed at l in
@@ -192,12 +211,14 @@ exchanged_put old rest new out to id spare taken after slot can is put e f =
 
 -- ---- the way back
 
-pub fits_slots : (slots : Slots) (out put : Option ℕ) → IfSome put (λ to. to ≤ length (without slots.placed out)) → IfSome put (λ to. to ≤ length (without (slots_of slots) out))
+pub fits_slots : (slots : Slots) (out put : Option ℕ) → IfSome put (λ to. to ≤ length (without slots.placed out))
+    → IfSome put (λ to. to ≤ length (without (slots_of slots) out))
 fits_slots slots out None l = tt
 fits_slots slots None (Some to) l = (let k : to ≤ length slots.placed = l in let m : to ≤ length (slots_of slots) = omega (arith, length_slots slots) in m)
 fits_slots slots (Some at) (Some to) l =
     let f : Placed → Slot = λ p. p.slot in
-    let n : length (remove (slots_of slots) at) ≡ length (remove slots.placed at) = ap (λ xs. length xs) (sym (map-remove f slots.placed at)) ∙ length-map (remove slots.placed at) f in
+    let n : length (remove (slots_of slots) at) ≡ length (remove slots.placed at) =
+    ap (λ xs. length xs) (sym (map-remove f slots.placed at)) ∙ length-map (remove slots.placed at) f in
     let k : to ≤ length (remove slots.placed at) = l in
     let m : to ≤ length (remove (slots_of slots) at) = omega arith in
     m
@@ -206,7 +227,8 @@ back_at : (rest : List Slot) (to : ℕ) (x : Slot) → to ≤ length rest → (r
 back_at rest to x l = (remove-insert rest to x l, get-insert_at rest to x l)
 
 -- what is exchanged and exchanged back leaves the slots
-undone : (xs : List Slot) (out put : Option ℕ) (spare : Option Slot) → IsOfSlots out put spare → IfSome out (λ at. at < length xs) → IfSome put (λ to. to ≤ length (without xs out)) → with_exchange (with_exchange xs out put spare) put out (spare_after put (slot_out xs out) spare) ≡ xs
+undone : (xs : List Slot) (out put : Option ℕ) (spare : Option Slot) → IsOfSlots out put spare → IfSome out (λ at. at < length xs)
+    → IfSome put (λ to. to ≤ length (without xs out)) → with_exchange (with_exchange xs out put spare) put out (spare_after put (slot_out xs out) spare) ≡ xs
 undone xs None None spare s l m = absurd s
 undone xs None (Some to) None s l m = absurd (false≢true s)
 undone xs None (Some to) (Some new) s l m = remove-insert xs to new m
@@ -216,7 +238,8 @@ undone xs (Some at) (Some to) None s l m =
     let rest = remove xs at in
     let put : Slot = there.0 in
     let b = back_at rest to put m in
-    rw there.1 (ap (λ o. with_slot (remove (insert rest to put) to) (placed (Some at) (slot_put o None))) b.1 ∙ (ap (λ ys. insert ys at put) b.0 ∙ insert-remove xs at put there.1))
+    rw there.1 (ap (λ o. with_slot (remove (insert rest to put) to) (placed (Some at) (slot_put o None))) b.1
+    ∙ (ap (λ ys. insert ys at put) b.0 ∙ insert-remove xs at put there.1))
 undone xs (Some at) (Some to) (Some new) s l m =
     let there = item_at xs at l in
     let rest = remove xs at in
@@ -224,7 +247,8 @@ undone xs (Some at) (Some to) (Some new) s l m =
     rw there.1 (ap (λ o. with_slot (remove (insert rest to new) to) (placed (Some at) (slot_put o (Some there.0)))) b.1
     ∙ (ap (λ ys. insert ys at there.0) b.0 ∙ insert-remove xs at there.0 there.1))
 
-pub exchanged_back : (old new : Slots) (out put : Option ℕ) (spare after : Option Slot) (id : Option ℕ) → CanExchange old out put spare → IsExchanged old new out put spare after id → with_exchange (slots_of new) put out after ≡ slots_of old
+pub exchanged_back : (old new : Slots) (out put : Option ℕ) (spare after : Option Slot) (id : Option ℕ) → CanExchange old out put spare
+    → IsExchanged old new out put spare after id → with_exchange (slots_of new) put out after ≡ slots_of old
 exchanged_back old new out put spare after id can x =
     ap (λ a. with_exchange (slots_of new) put out a) x.spare
     ∙ (ap (λ xs. with_exchange xs put out (spare_after put (slot_out (slots_of old) out) spare)) x.slots

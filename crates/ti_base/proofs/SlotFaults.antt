@@ -8,5 +8,6 @@ use Rattle.base_slots.specs.Slots.{blocks_of, slots_of}
 use Rattle.base_slots.specs.Settled.{fault_at}
 use Rattle.ti_base.specs.inside.Database.{AreKept}
 
-pub kept_of_slot : (slots : Slots) (at : ℕ) (slot : Slot) → AreKept slots → slice_get (slots_of slots) at ≡ Some slot → map (fault_at at) slot.settled.faults.items ≡ lasting_faults (blocks_of slots) at (reading_of slot.block)
+pub kept_of_slot : (slots : Slots) (at : ℕ) (slot : Slot) → AreKept slots → slice_get (slots_of slots) at ≡ Some slot
+    → map (fault_at at) slot.settled.faults.items ≡ lasting_faults (blocks_of slots) at (reading_of slot.block)
 kept_of_slot slots at slot h e = (h.settled at slot e).faults

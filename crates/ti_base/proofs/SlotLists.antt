@@ -1,6 +1,9 @@
 -- The slots of a list of blocks, in its order, and what they say of the blocks.
 use Rattle.std.proofs.Common.{◌≡◌, ℕ, suc, ◌<◌, ◌≤◌, List, [], ◌∷◌, length, map, Option, Some, None, option_map, slice_get, refl, sym, ◌∙◌, ap, arith}
+use Rattle.std.specs.List.{All}
 use Rattle.std.proofs.lemmas.List.{length-map}
+use Rattle.std.proofs.lemmas.List.Elements.{All-nil, All-cons}
+use Rattle.ti_source.specs.Cutting.{OneBlock}
 use Rattle.base_meaning.specs.Owner.{readings}
 use Rattle.base_meaning.specs.Exchange.{with_block, HasPlace, shifted_position}
 use Rattle.base_meaning.proofs.EditedLists.{map-insert}
@@ -15,8 +18,16 @@ use Rattle.ti_base.specs.inside.Database.{reading_seen, text_seen, AreRead, Slot
 pub as_many_listed : (slots : Slots) (texts : List (List ℕ)) (count : ℕ) → slot_texts slots ≡ texts → count ≡ length texts → length slots.placed ≡ count
 as_many_listed slots texts count e n = sym (length_texts slots) ∙ (ap (λ xs. length xs) e ∙ sym n)
 
-pub within_list : (slots : Slots) (texts : List (List ℕ)) (at count : ℕ) → slot_texts slots ≡ texts → count ≡ length texts → at < count → at < length slots.placed
+pub within_list : (slots : Slots) (texts : List (List ℕ)) (at count : ℕ) → slot_texts slots ≡ texts → count ≡ length texts → at < count
+    → at < length slots.placed
 within_list slots texts at count e n l = rw (as_many_listed slots texts count e n) l
+
+-- ---- each text is one block
+
+pub texts_single : (listed : List Slot) → SlotsAreSound listed → All OneBlock (map text_seen listed)
+texts_single [] h = All-nil OneBlock
+texts_single (slot ∷ listed) h =
+    All-cons OneBlock (text_seen slot) (map text_seen listed) ((h 0 slot refl).text.block) (texts_single listed (λ at s e. h (suc at) s e))
 
 -- ---- blocks are read from their texts
 
@@ -29,10 +40,12 @@ blocks_read slots h = read_from_texts (slots_of slots) h.sound
 
 -- ---- a slot put in
 
-pub readings_with : (rest : List Slot) (o : Option PlacedSlot) → map reading_seen (with_slot rest o) ≡ with_block (map reading_seen rest) (option_map block_seen o)
+pub readings_with : (rest : List Slot) (o : Option PlacedSlot) → map reading_seen (with_slot rest o)
+    ≡ with_block (map reading_seen rest) (option_map block_seen o)
 readings_with rest None = refl
 readings_with rest (Some p) = map-insert reading_seen rest p.at p.slot
 
-pub get-with_slot : (rest : List Slot) (o : Option PlacedSlot) (k : ℕ) → HasPlace (map reading_seen rest) (option_map block_seen o) → slice_get (with_slot rest o) (shifted_position (option_map block_seen o) k) ≡ slice_get rest k
+pub get-with_slot : (rest : List Slot) (o : Option PlacedSlot) (k : ℕ) → HasPlace (map reading_seen rest) (option_map block_seen o)
+    → slice_get (with_slot rest o) (shifted_position (option_map block_seen o) k) ≡ slice_get rest k
 get-with_slot rest None k l = refl
 get-with_slot rest (Some p) k l = get-insert rest p.at p.slot k (let m : p.at ≤ length rest = omega (arith, length-map rest reading_seen) in m)

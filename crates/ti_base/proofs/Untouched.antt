@@ -27,7 +27,8 @@ faults_moved : (p q : ℕ) (fs : List KeptFault) → map (fault_at p) fs ≡ map
 faults_moved p q [] = refl
 faults_moved p q (f ∷ fs) = ap (λ gs. fault_at p f ∷ gs) (faults_moved p q fs)
 
-settled_moved : (bs cs : List Reading) (p q : ℕ) (b : Reading) (settled : Settled) → expansion cs b ≡ expansion bs b → state_of cs b ≡ state_of bs b → lasting_faults cs p b ≡ map (moved_to p) (lasting_faults bs q b) → IsSettled bs q b settled → IsSettled cs p b settled
+settled_moved : (bs cs : List Reading) (p q : ℕ) (b : Reading) (settled : Settled) → expansion cs b ≡ expansion bs b → state_of cs b ≡ state_of bs b
+    → lasting_faults cs p b ≡ map (moved_to p) (lasting_faults bs q b) → IsSettled bs q b settled → IsSettled cs p b settled
 settled_moved bs cs p q b settled e s f h = record {
   table = table_stays bs cs b (table_of settled.state) e h.table;
   state = h.state ∙ sym s;
@@ -45,7 +46,8 @@ others_settled rest out put fits settled at slot s other =
     let e = exchange_with rest out put in
     let new : new_list e ≡ map reading_seen (with_slot rest put) = sym (readings_with rest put) in
     let old : map reading_seen (with_slot rest out) ≡ old_list e = readings_with rest out in
-    let here : slice_get (new_list e) at ≡ Some (reading_of slot.block) = ap (λ xs. slice_get xs at) new ∙ (rw (slice_get-map reading_seen (with_slot rest put) at, s) refl) in
+    let here : slice_get (new_list e) at ≡ Some (reading_of slot.block) =
+    ap (λ xs. slice_get xs at) new ∙ (rw (slice_get-map reading_seen (with_slot rest put) at, s) refl) in
     elim (split-with e.put at) [
       | inl there ↦ absurd (other (reading_of slot.block, here, inl there))
       | inr stays ↦
@@ -53,8 +55,10 @@ others_settled rest out put fits settled at slot s other =
           let stands : slice_get rest k ≡ Some slot = sym (get-with_slot rest put k fits.put) ∙ (ap (λ n. slice_get (with_slot rest put) n) stays.1 ∙ s) in
           let before = settled (shifted_position e.out k) slot (get-with_slot rest out k fits.out ∙ stands) in
           let in_rest : slice_get (map reading_seen rest) k ≡ Some (reading_of slot.block) = rw (slice_get-map reading_seen rest k, stands) refl in
-          let kept = kept_block e k (reading_of slot.block) fits in_rest (λ r. other (reading_of slot.block, here, inr ((touched_in_both e (reading_of slot.block) fits).0 r))) in
-          let moved = settled_moved (old_list e) (new_list e) (shifted_position e.put k) (shifted_position e.out k) (reading_of slot.block) slot.settled kept.mentions kept.state kept.faults
+          let kept = kept_block e k (reading_of slot.block) fits in_rest
+          (λ r. other (reading_of slot.block, here, inr ((touched_in_both e (reading_of slot.block) fits).0 r))) in
+          let moved = settled_moved (old_list e) (new_list e) (shifted_position e.put k) (shifted_position e.out k)
+          (reading_of slot.block) slot.settled kept.mentions kept.state kept.faults
           (settled_as (map reading_seen (with_slot rest out)) (old_list e) (shifted_position e.out k) (reading_of slot.block) slot.settled old before) in
           settled_as (new_list e) (map reading_seen (with_slot rest put)) at (reading_of slot.block) slot.settled new
           (subst (λ n. IsSettled (new_list e) n (reading_of slot.block) slot.settled) stays.1 moved)

@@ -55,6 +55,7 @@ impl Model for Database {
 impl Database {
     ghost use Rattle.base_meaning.specs.Owner.{owner, readings};
     ghost use Rattle.base_meaning.specs.Compiled.{compiled};
+    ghost use Rattle.ti_source.specs.Cutting.{OneBlock};
     ghost use Rattle.ti_source.specs.Reading.{Reading};
     ghost use Rattle.ti_layout.specs.Values.{contents};
     ghost use Rattle.base_meaning.specs.ValueTables.{HasTable};
@@ -81,6 +82,13 @@ impl Database {
         ensures { result ≡ length self.now }
     {
         self.slots.len()
+    }
+
+    /// Each text is one block, since no edit puts in another. It computes nothing.
+    pub fn each_is_one_block(&self)
+        ensures { All OneBlock self.now }
+    {
+        let _ = &self.slots;
     }
 
     /// The text of a block.

@@ -1,5 +1,6 @@
 -- What a search of the keys says of the names.
-use Rattle.std.proofs.Common.{◌≡◌, ◌≢◌, ℕ, zero, suc, ◌<◌, ◌≤◌, Bool, true, ◌&&◌, nat_lt, inl, inr, List, [], ◌∷◌, map, length, get_or, Option, Some, None, IfNone, refl, sym, ◌∙◌, ap, subst, arith, ltb-true}
+use Rattle.std.proofs.Common.{◌≡◌, ◌≢◌, ℕ, zero, suc, ◌<◌, ◌≤◌, Bool, true, ◌&&◌, nat_lt, inl, inr, List, [], ◌∷◌, map, length, get_or, Option, Some, None}
+use Rattle.std.proofs.Common.{IfNone, refl, sym, ◌∙◌, ap, subst, arith, ltb-true}
 use Rattle.std.proofs.lemmas.Bool.{and_parts, cases_lt}
 use Rattle.std.proofs.lemmas.List.{get_or-map, length-map}
 use Rattle.ti_caps.specs.declared.keys.TheConstants.{KEYS}
@@ -79,7 +80,8 @@ only_place x i there here other = λ k d within same.
     ]
 
 -- if no row has that key, no row has the name
-pub no_place : (x : List ℕ) (i : ℕ) → ((k : ℕ) → k < i → get_or KEYS k 0 < key_of x) → ((k : ℕ) → i ≤ k → k < length KEYS → key_of x < get_or KEYS k 0) → HasNoRow by_name x
+pub no_place : (x : List ℕ) (i : ℕ) → ((k : ℕ) → k < i → get_or KEYS k 0 < key_of x) → ((k : ℕ) → i ≤ k → k < length KEYS → key_of x < get_or KEYS k 0)
+    → HasNoRow by_name x
 no_place x i low high = λ k d within same.
     let at : get_or KEYS k 0 ≡ key_of x = key_at x k d within same in
     let inside : k < length KEYS = rw as_long within in
@@ -96,7 +98,8 @@ numbers_as_long = sym (length-map BY_NAME (λ n. row_of (capability_numbered n))
 -- the row at a place is that of the capability whose number is there
 row_at_place : (i n : ℕ) (d : NameRow) → i < length by_name → n ≡ get_or BY_NAME i 0 → get_or by_name i d ≡ row_of (capability_numbered n)
 unfolding by_name
-row_at_place i n d within at = get_or-map (λ m. row_of (capability_numbered m)) BY_NAME i 0 d (rw numbers_as_long within) ∙ ap (λ m. row_of (capability_numbered m)) (sym at)
+row_at_place i n d within at =
+    get_or-map (λ m. row_of (capability_numbered m)) BY_NAME i 0 d (rw numbers_as_long within) ∙ ap (λ m. row_of (capability_numbered m)) (sym at)
 
 module _ (i n : ℕ) (c : Capability) (within : i < length by_name) (at : n ≡ get_or BY_NAME i 0) (is : c ≡ capability_numbered n) where
   -- the number is that of a capability

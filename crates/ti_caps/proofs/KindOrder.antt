@@ -1,5 +1,6 @@
 -- The capabilities of a kind by name: the tables of the code, and what the order has.
-use Rattle.std.proofs.Common.{◌≡◌, ℕ, zero, suc, ◌<◌, Bool, true, false, ◌&&◌, nat_lt, List, [], ◌∷◌, map, refl, ap, ◌∙◌, subst, arith, ltb-true, slice_get, Option, Some, None, IsSome, IfSome, ◌↔◌}
+use Rattle.std.proofs.Common.{◌≡◌, ℕ, zero, suc, ◌<◌, Bool, true, false, ◌&&◌, nat_lt, List, [], ◌∷◌, map, refl, ap, ◌∙◌, subst, arith, ltb-true, slice_get}
+use Rattle.std.proofs.Common.{Option, Some, None, IsSome, IfSome, ◌↔◌}
 use Rattle.std.specs.Ordering.{nat_cmp}
 use Rattle.std.specs.Cmp.Lexicographic.{slice_cmp}
 use Rattle.std.specs.List.{list_all, Contains}
@@ -65,7 +66,8 @@ is_of-true : (k : Kind) (c : Capability) → is_of k c ≡ true → (c.kind ≡ 
 is_of-true k c h = let parts = and_parts _ _ h in (same_kind-true c.kind k parts.0, ltb-true _ _ parts.1)
 
 -- each capability of the kind is in the table
-kept_by : (k : Kind) (q : NameRow) (rest : List NameRow) (r : NameRow) (b : Bool) → same_kind q.1 k ≡ b → same_kind r.1 k ≡ true → Contains (q ∷ rest) r → (Contains rest r → Contains (rows_of_kind k rest) (capability r.1 r.2)) → Contains (rows_of_kind k (q ∷ rest)) (capability r.1 r.2)
+kept_by : (k : Kind) (q : NameRow) (rest : List NameRow) (r : NameRow) (b : Bool) → same_kind q.1 k ≡ b → same_kind r.1 k ≡ true → Contains (q ∷ rest) r
+    → (Contains rest r → Contains (rows_of_kind k rest) (capability r.1 r.2)) → Contains (rows_of_kind k (q ∷ rest)) (capability r.1 r.2)
 kept_by k q rest r true e same (zero, l, at) later = let cap : NameRow → Capability = λ (x : NameRow). capability x.1 x.2 in rw e (0, omega arith, ap cap at)
 kept_by k q rest r true e same (suc i, l, at) later = rw e (Contains-cons _ _ _ (later (i, omega arith, at)))
 kept_by k q rest r false e same (zero, l, at) later = let kind : NameRow → Bool = λ (x : NameRow). same_kind x.1 k in let both = ap kind at in absurd (cc)
@@ -96,7 +98,8 @@ pub texts_by_name : map (capability Text) TEXTS_BY_NAME ≡ in_name_order Text
 texts_by_name = text_rows ∙ rows_are_the_order Text
 
 -- the capability at a place of the code's table is at that place of the order
-at_place : (k : Kind) (xs : List ℕ) (place index : ℕ) → map (capability k) xs ≡ in_name_order k → slice_get xs place ≡ Some index → slice_get (in_name_order k) place ≡ Some (capability k index)
+at_place : (k : Kind) (xs : List ℕ) (place index : ℕ) → map (capability k) xs ≡ in_name_order k → slice_get xs place ≡ Some index
+    → slice_get (in_name_order k) place ≡ Some (capability k index)
 at_place k xs place index same at = rw (← same, slice_get-map, at)
 
 within_count : (k : Kind) (place index : ℕ) → slice_get (in_name_order k) place ≡ Some (capability k index) → index < count_of k
@@ -107,7 +110,9 @@ within_count k place index at =
     let valid = (in_order k).valid place c l in
     subst (λ (d : Capability). d.index < count_of d.kind) is valid.1
 
-pub by_place : (k : Kind) (xs : List ℕ) (place index : ℕ) (o : Option Capability) → map (capability k) xs ≡ in_name_order k → slice_get xs place ≡ Some index → (IsSome o ↔ (index < count_of k)) → IfSome o (λ c. c ≡ capability k index)
+pub by_place : (k : Kind) (xs : List ℕ) (place index : ℕ) (o : Option Capability) → map (capability k) xs ≡ in_name_order k
+    → slice_get xs place ≡ Some index → (IsSome o ↔ (index < count_of k)) → IfSome o (λ c. c ≡ capability k index)
     → o ≡ slice_get (in_name_order k) place
-by_place k xs place index None same at within value = let there : false ≡ true = within.1 (within_count k place index (at_place k xs place index same at)) in absurd (cc)
+by_place k xs place index None same at within value =
+    let there : false ≡ true = within.1 (within_count k place index (at_place k xs place index same at)) in absurd (cc)
 by_place k xs place index (Some c) same at within value = rw (at_place k xs place index same at, value)

@@ -1,6 +1,7 @@
 -- The capabilities of a kind have one order by name: lists that are such an order are equal, and
 -- the sorted list is one.
-use Rattle.std.proofs.Common.{◌≡◌, ◌≢◌, ℕ, zero, suc, ◌<◌, true, false, cond, List, [], ◌∷◌, map, length, get_or, refl, sym, ap, ◌∙◌, subst, arith, inl, inr, All}
+use Rattle.std.proofs.Common.{◌≡◌, ◌≢◌, ℕ, zero, suc, ◌<◌, true, false, cond, List, [], ◌∷◌, map, length, get_or, refl, sym, ap, ◌∙◌, subst, arith, inl}
+use Rattle.std.proofs.Common.{inr, All}
 use Rattle.std.specs.Prelude.{◌⊎◌}
 use Rattle.std.specs.Ordering.{nat_cmp, is_lt}
 use Rattle.std.specs.declared.cmp.Ordering.TheVariants.{Less, Equal, Greater}
@@ -42,7 +43,8 @@ other_way c d apart above =
     ] refl above
 
 from_test : (c d : Capability) → is_lt (slice_cmp nat_cmp (name_of c) (name_of d)) ≡ true → Before c d
-from_test c d below = elim (slice_cmp nat_cmp (name_of c) (name_of d)) as (λ o. is_lt o ≡ true → o ≡ Less) [ Less ↦ λ _. refl | Equal ↦ λ h. cc | Greater ↦ λ h. cc ] below
+from_test c d below =
+    elim (slice_cmp nat_cmp (name_of c) (name_of d)) as (λ o. is_lt o ≡ true → o ≡ Less) [ Less ↦ λ _. refl | Equal ↦ λ h. cc | Greater ↦ λ h. cc ] below
 
 -- ---- lists that are an order by name are equal
 
@@ -84,7 +86,8 @@ equal (x ∷ xs) (y ∷ ys) s t f g =
     let e = heads x xs y ys s t f g in
     ap (λ (c : Capability). c ∷ xs) e
     ∙ ap (λ (cs : List Capability). y ∷ cs)
-    (equal xs ys (sorted_tail (slice_cmp nat_cmp) (name_of x) (map (λ c. name_of c) xs) s) (sorted_tail (slice_cmp nat_cmp) (name_of y) (map (λ c. name_of c) ys) t)
+    (equal xs ys (sorted_tail (slice_cmp nat_cmp) (name_of x) (map (λ c. name_of c) xs) s)
+    (sorted_tail (slice_cmp nat_cmp) (name_of y) (map (λ c. name_of c) ys) t)
     (tails x xs y ys s t e f) (tails y ys x xs t s (sym e) g))
 
 within_order : (kind : Kind) (xs ys : List Capability) → IsNameOrder kind xs → IsNameOrder kind ys → IsWithin xs ys
@@ -120,12 +123,14 @@ Rises (c ∷ cs) = AllByRecursion (λ d. Before c d) cs × Rises cs
 
 put-rises : (c : Capability) (xs : List Capability) → Rises xs → AllByRecursion (λ d. name_of c ≢ name_of d) xs → Rises (put_by_name c xs)
 put-rises c [] r apart = (tt, tt)
-put-rises c (d ∷ ds) r apart = elim (is_lt (slice_cmp nat_cmp (name_of c) (name_of d))) as (λ b. is_lt (slice_cmp nat_cmp (name_of c) (name_of d)) ≡ b → Rises (cond b (c ∷ d ∷ ds) (d ∷ put_by_name c ds))) [
-  | true ↦ λ e. let low = from_test c d e in ((low, all-weaker (λ f. Before d f) (λ f. Before c f) ds (λ f h. before-trans c d f low h) r.0), r)
-  | false ↦ λ e. (put-all (λ f. Before d f) c ds (other_way c d apart.0 e) r.0, put-rises c ds r.1 apart.1)
-] refl
+put-rises c (d ∷ ds) r apart = elim (is_lt (slice_cmp nat_cmp (name_of c) (name_of d))) as (λ b. is_lt (slice_cmp nat_cmp (name_of c) (name_of d)) ≡ b
+    → Rises (cond b (c ∷ d ∷ ds) (d ∷ put_by_name c ds))) [
+      | true ↦ λ e. let low = from_test c d e in ((low, all-weaker (λ f. Before d f) (λ f. Before c f) ds (λ f h. before-trans c d f low h) r.0), r)
+      | false ↦ λ e. (put-all (λ f. Before d f) c ds (other_way c d apart.0 e) r.0, put-rises c ds r.1 apart.1)
+    ] refl
 
-names-above : (c : Capability) (xs : List Capability) → AllByRecursion (λ d. Before c d) xs → AllByRecursion (λ n. slice_cmp nat_cmp (name_of c) n ≡ Less) (map (λ d. name_of d) xs)
+names-above : (c : Capability) (xs : List Capability) → AllByRecursion (λ d. Before c d) xs
+    → AllByRecursion (λ n. slice_cmp nat_cmp (name_of c) n ≡ Less) (map (λ d. name_of d) xs)
 names-above c [] all = tt
 names-above c (d ∷ ds) all = (all.0, names-above c ds all.1)
 
@@ -159,10 +164,11 @@ contains_from_has (x ∷ xs) c (inr later) = let w = contains_from_has xs c late
 
 put-length : (c : Capability) (xs : List Capability) → length (put_by_name c xs) ≡ suc (length xs)
 put-length c [] = refl
-put-length c (d ∷ ds) = elim (is_lt (slice_cmp nat_cmp (name_of c) (name_of d))) as (λ b. length (cond b (c ∷ d ∷ ds) (d ∷ put_by_name c ds)) ≡ suc (length (d ∷ ds))) [
-  | true ↦ refl
-  | false ↦ ap (λ n. suc n) (put-length c ds)
-]
+put-length c (d ∷ ds) =
+    elim (is_lt (slice_cmp nat_cmp (name_of c) (name_of d))) as (λ b. length (cond b (c ∷ d ∷ ds) (d ∷ put_by_name c ds)) ≡ suc (length (d ∷ ds))) [
+      | true ↦ refl
+      | false ↦ ap (λ n. suc n) (put-length c ds)
+    ]
 
 -- the capabilities of a kind below a place
 abbrev IsBelow : Kind → ℕ → Capability → Type 0
@@ -203,7 +209,8 @@ module _ (kind : Kind) where
     | inl under ↦ put-keeps (capability kind n) (sorted_by_name kind n) (capability kind i) (sorted-has n i under)
     | inr over ↦
         let same : n ≡ i = omega arith in
-        subst (λ m. Has (put_by_name (capability kind n) (sorted_by_name kind n)) (capability kind m)) same (put-has (capability kind n) (sorted_by_name kind n))
+        subst (λ m. Has (put_by_name (capability kind n) (sorted_by_name kind n)) (capability kind m)) same
+        (put-has (capability kind n) (sorted_by_name kind n))
   ]
 
 pub in_order : EachKindIsInOrder

@@ -1,5 +1,6 @@
 -- The table by name holds each capability once, with its name.
-use Rattle.std.proofs.Common.{◌≡◌, ◌≢◌, ℕ, zero, suc, ◌+◌, ◌<◌, Bool, inl, inr, true, false, ◌&&◌, nat_lt, nat_eq, List, [], ◌∷◌, length, get_or, refl, sym, ◌∙◌, ap, subst, arith, bytes_eq, ltb-true, eqb-true, add-zero, zero-add}
+use Rattle.std.proofs.Common.{◌≡◌, ◌≢◌, ℕ, zero, suc, ◌+◌, ◌<◌, Bool, inl, inr, true, false, ◌&&◌, nat_lt, nat_eq, List, [], ◌∷◌, length, get_or, refl, sym}
+use Rattle.std.proofs.Common.{◌∙◌, ap, subst, arith, bytes_eq, ltb-true, eqb-true, add-zero, zero-add}
 use Rattle.std.specs.List.{list_all, Contains}
 use Rattle.std.proofs.lemmas.Bool.{and_parts, cases_lt}
 use Rattle.std.proofs.lemmas.List.Sums.{AllPass-from_list_all}
@@ -58,7 +59,9 @@ row_names r among =
 pub Contains-cons : {X : Type 0} (y : X) (xs : List X) (x : X) → Contains xs x → Contains (y ∷ xs) x
 Contains-cons y xs x (j, l, e) = (suc j, omega arith, e)
 
-row_cases : (k : Kind) (i : ℕ) (r : NameRow) (rs : List NameRow) (b : Bool) → (same_kind r.1 k && nat_eq r.2 i) ≡ b → (has_row k i rs ≡ true → (n : List ℕ) × Contains rs (n, k, i)) → elim b [ true ↦ true | false ↦ has_row k i rs ] ≡ true → (n : List ℕ) × Contains (r ∷ rs) (n, k, i)
+row_cases : (k : Kind) (i : ℕ) (r : NameRow) (rs : List NameRow) (b : Bool) → (same_kind r.1 k && nat_eq r.2 i) ≡ b
+    → (has_row k i rs ≡ true → (n : List ℕ) × Contains rs (n, k, i)) → elim b [ true ↦ true | false ↦ has_row k i rs ] ≡ true → (n : List ℕ)
+    × Contains (r ∷ rs) (n, k, i)
 row_cases k i r rs true e rest h =
     let parts = and_parts _ _ e in
     let with_kind : Kind → NameRow = λ m. (r.0, m, r.2) in

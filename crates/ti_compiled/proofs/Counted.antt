@@ -45,7 +45,8 @@ module _ (f g : ℕ → Option Content) (n i : ℕ) (within : i < n) (others : (
       (λ j low lt. past_or_here none j (λ _. last_passing-past (λ x. is_there (f x)) n j low lt))
 
   -- m is the end of the places before it
-  pub count-down : is_there (g i) ≡ false → suc i ≡ count f n → (m : ℕ) → m ≤ i → ((j : ℕ) → suc j ≡ m → is_there (f j) ≡ true) → ((j : ℕ) → m ≤ j → j < i → is_there (f j) ≡ false) → count g n ≡ m
+  pub count-down : is_there (g i) ≡ false → suc i ≡ count f n → (m : ℕ) → m ≤ i → ((j : ℕ) → suc j ≡ m → is_there (f j) ≡ true)
+      → ((j : ℕ) → m ≤ j → j < i → is_there (f j) ≡ false) → count g n ≡ m
   count-down none here m low last past = last_passing-is (λ j. is_there (g j)) n m (omega arith)
       (λ j h. same_there j (λ same. omega arith) ∙ last j h)
       (λ j l lt. past_or_here none j (λ other. elim (cases_lt j i) [

@@ -1,5 +1,6 @@
 -- The booleans of an image: their bytes, and how many are written when one changes.
-use Rattle.std.proofs.Common.{◌≡◌, ◌≢◌, ℕ, suc, ◌+◌, ◌-◌, ◌%◌, ◌<◌, ◌≤◌, max, Bool, true, false, List, length, drop, get_or, slice_range, Option, Some, None, refl, sym, ap, ◌∙◌, arith}
+use Rattle.std.proofs.Common.{◌≡◌, ◌≢◌, ℕ, suc, ◌+◌, ◌-◌, ◌%◌, ◌<◌, ◌≤◌, max, Bool, true, false, List, length, drop, get_or, slice_range, Option, Some}
+use Rattle.std.proofs.Common.{None, refl, sym, ap, ◌∙◌, arith}
 use Rattle.std.proofs.lemmas.List.{get_or-take, get_or-drop}
 use Rattle.ti_caps.specs.Tables.{capability}
 use Rattle.ti_caps.specs.declared.capability.Kind.TheVariants.{Flag, Text}
@@ -56,12 +57,14 @@ module _ (b : List ℕ) (is : IsImage b) (h : Header) (has : HasSizes (names_in 
       let F = has.flags in
       let counted = f.flag_count in
       let e : flags_below c (written_count c Flag) ≡ flags_below c h.flags = ap (flags_below c) (sym has.flags) in
-      let long : h.flags ≡ length (flags_below c (written_count c Flag)) = has.flags ∙ sym (length-below (λ i. flag_value (of_kind c Flag i)) (written_count c Flag)) in
+      let long : h.flags ≡ length (flags_below c (written_count c Flag)) =
+      has.flags ∙ sym (length-below (λ i. flag_value (of_kind c Flag i)) (written_count c Flag)) in
       let start : names_size b ≡ h.names = m ∙ sym n in
       let size : flag_count b ≡ h.flags = counted ∙ sym long in
       let under : j < 12 + names_size b + flag_count b - (12 + names_size b) = omega arith in
       let at : 12 + names_size b + j ≡ 12 + h.names + j = omega arith in
-      sym (get_or-take (12 + names_size b + flag_count b - (12 + names_size b)) (drop (12 + names_size b) b) j 0 under ∙ get_or-drop (12 + names_size b) b j 0 ∙ ap (λ x. get_or b x 0) at)
+      sym (get_or-take (12 + names_size b + flag_count b - (12 + names_size b)) (drop (12 + names_size b) b) j 0 under
+      ∙ get_or-drop (12 + names_size b) b j 0 ∙ ap (λ x. get_or b x 0) at)
       ∙ ap (λ t. get_or t j 0) (f.flags ∙ e) ∙ get_or-below (λ i. flag_value (of_kind c Flag i)) h.flags j 0 lt
 
   pub flag_byte_in : (x y j : ℕ) → x ≡ 12 + h.names → j < y - x → j < h.flags → get_or (slice_range b x y) j 0 ≡ flag_value (of_kind c Flag j)
@@ -78,7 +81,8 @@ module _ (b : List ℕ) (is : IsImage b) (h : Header) (has : HasSizes (names_in 
     here on = given_here c (capability Flag index) (flag_content on)
 
     -- the other sizes do not change
-    with_flags : (on : Bool) (m : ℕ) (k : Header) → written_count (g on) Flag ≡ m → m ≤ 44 → k ≡ record { format = h.format; names = h.names; flags = m; numbers = h.numbers; texts = h.texts; strings = h.strings } → HasSizes (names_in b) (g on) k
+    with_flags : (on : Bool) (m : ℕ) (k : Header) → written_count (g on) Flag ≡ m → m ≤ 44 → k
+        ≡ record { format = h.format; names = h.names; flags = m; numbers = h.numbers; texts = h.texts; strings = h.strings } → HasSizes (names_in b) (g on) k
     with_flags on m k e le same = rw same (record {
       format = has.format;
       names = has.names;
@@ -91,16 +95,21 @@ module _ (b : List ℕ) (is : IsImage b) (h : Header) (has : HasSizes (names_in 
       texts_fit = has.texts_fit;
     })
 
-    pub sizes_set : (m : ℕ) → m ≡ max h.flags (index + 1) → HasSizes (names_in b) (g true) (record { format = h.format; names = h.names; flags = m; numbers = h.numbers; texts = h.texts; strings = h.strings })
+    pub sizes_set : (m : ℕ) → m ≡ max h.flags (index + 1)
+        → HasSizes (names_in b) (g true) (record { format = h.format; names = h.names; flags = m; numbers = h.numbers; texts = h.texts; strings = h.strings })
     sizes_set m e =
         let F = has.flags in
         let fit = has.flags_fit in
-        with_flags true m _ (count-put (of_kind c Flag) (of_kind (g true) Flag) 44 index within (others true) (ap is_there (here true)) m (omega arith)) (omega arith) refl
+        with_flags true m _ (count-put (of_kind c Flag) (of_kind (g true) Flag) 44 index within (others true) (ap is_there (here true)) m (omega arith))
+        (omega arith) refl
 
-    pub sizes_unchanged : index + 1 ≢ h.flags → HasSizes (names_in b) (g false) (record { format = h.format; names = h.names; flags = h.flags; numbers = h.numbers; texts = h.texts; strings = h.strings })
+    pub sizes_unchanged : index + 1 ≢ h.flags
+        → HasSizes (names_in b) (g false)
+        (record { format = h.format; names = h.names; flags = h.flags; numbers = h.numbers; texts = h.texts; strings = h.strings })
     sizes_unchanged other =
         let F = has.flags in
-        with_flags false h.flags _ (count-unchanged (of_kind c Flag) (of_kind (g false) Flag) 44 index within (others false) (ap is_there (here false)) (λ e. other (omega arith)) ∙ sym F) has.flags_fit refl
+        with_flags false h.flags _ (count-unchanged (of_kind c Flag) (of_kind (g false) Flag) 44 index within (others false) (ap is_there (here false))
+        (λ e. other (omega arith)) ∙ sym F) has.flags_fit refl
 
     pub sizes_down : (x y m : ℕ) → x ≡ 12 + h.names → y ≡ x + index → index + 1 ≡ h.flags → m ≤ length (slice_range b x y)
         → ((j : ℕ) → suc j ≡ m → get_or (slice_range b x y) j 0 ≢ 0) → ((j : ℕ) → m ≤ j → j < length (slice_range b x y) → get_or (slice_range b x y) j 0 ≡ 0)
@@ -112,5 +121,6 @@ module _ (b : List ℕ) (is : IsImage b) (h : Header) (has : HasSizes (names_in 
         let long : length (slice_range b x y) ≡ index = length-part b x y (omega arith) (omega arith) ∙ omega arith in
         let count = count-down (of_kind c Flag) (of_kind (g false) Flag) 44 index within (others false) (ap is_there (here false)) (omega arith) m (omega arith)
         (λ j e. flag_present (of_kind c Flag j) (λ z. set j e (flag_byte_in x y j ex (omega arith) (omega arith) ∙ z)))
-        (λ j low lt. flag_absent j (of_kind c Flag j) (is.imaged.agree (capability Flag j) (omega arith)) (sym (flag_byte_in x y j ex (omega arith) (omega arith)) ∙ past j low (omega arith))) in
+        (λ j low lt. flag_absent j (of_kind c Flag j) (is.imaged.agree (capability Flag j) (omega arith))
+        (sym (flag_byte_in x y j ex (omega arith) (omega arith)) ∙ past j low (omega arith))) in
         with_flags false m _ count (omega arith) refl

@@ -21,7 +21,8 @@ module _ (c : Contents) where
   pub given_other : (k : Capability) (v : Option Content) (d : Capability) → d ≢ k → with_content c k v d ≡ c d
   given_other k v d other = ap (λ b. cond b v (c d)) (test_from_other k d (λ e. other (sym e)))
 
-  pub given_place : (kind : Kind) (i : ℕ) (v : Option Content) (j : ℕ) → j ≢ i → with_content c (capability kind i) v (capability kind j) ≡ c (capability kind j)
+  pub given_place : (kind : Kind) (i : ℕ) (v : Option Content) (j : ℕ) → j ≢ i → with_content c (capability kind i) v (capability kind j)
+      ≡ c (capability kind j)
   given_place kind i v j other = given_other (capability kind i) v (capability kind j) (λ e. other (ap (λ (d : Capability). d.index) e))
 
   -- a place that is not written holds nothing
@@ -35,4 +36,5 @@ module _ (c : Contents) where
   beyond k d e valid over = let under = subst IsCapability (sym e) valid in omega arith
 
   pub given_past : HoldsNoOther c → (k : Capability) (v : Option Content) → IsCapability k → HoldsNoOther (with_content c k v)
-  given_past past k v valid kind index over = given_other k v (capability kind index) (λ e. beyond k (capability kind index) e valid over) ∙ past kind index over
+  given_past past k v valid kind index over =
+      given_other k v (capability kind index) (λ e. beyond k (capability kind index) e valid over) ∙ past kind index over

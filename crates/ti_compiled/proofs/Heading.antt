@@ -20,7 +20,8 @@ found_image names c is =
     found (format_of c) (sections_of (format_of c) names c) (sections-sound names c sound)
 
 pub found_in : (b : List ℕ) → IsImage b → Found b (format_of (contents_in b)) (sections_of (format_of (contents_in b)) (names_in b) (contents_in b))
-found_in b is = subst (λ (x : List ℕ). Found x (format_of (contents_in b)) (sections_of (format_of (contents_in b)) (names_in b) (contents_in b))) (sym is.whole) (found_image (names_in b) (contents_in b) is.imaged)
+found_in b is = subst (λ (x : List ℕ). Found x (format_of (contents_in b)) (sections_of (format_of (contents_in b)) (names_in b) (contents_in b)))
+    (sym is.whole) (found_image (names_in b) (contents_in b) is.imaged)
 
 -- the names lie between the header and their NUL
 pub record Named (b : List ℕ) (size : ℕ) : Type 0 where

@@ -46,18 +46,22 @@ moved_there removed added n other = ap (λ b. cond b 65535 (n + added - removed)
 module _ (old : List ℕ) (place from to removed added : ℕ) where
   pub moved_start : MovedUpTo old old place from to removed added from
   moved_start p r f whole long fit =
-      whole ∙ ap (λ t. p ++ (number_section Legacy t ++ r)) (below-same f (mixed f (moved_later f from removed added) from) to (λ j lt. sym (elim (cases_lt j from) [
+      whole ∙ ap (λ t. p ++ (number_section Legacy t ++ r)) (below-same f (mixed f (moved_later f from removed added) from) to
+      (λ j lt. sym (elim (cases_lt j from) [
         | inl low ↦ mixed_low f (moved_later f from removed added) from j low ∙ later_before f from removed added j low
         | inr high ↦ mixed_high f (moved_later f from removed added) from j high
       ])))
 
-  pub moved_end : (new : List ℕ) (at : ℕ) → from ≤ at → to ≤ at → MovedUpTo old new place from to removed added at → (p r : List ℕ) (f : ℕ → ℕ) → old ≡ p ++ (number_section Legacy (below f to) ++ r) → length p ≡ place
+  pub moved_end : (new : List ℕ) (at : ℕ) → from ≤ at → to ≤ at → MovedUpTo old new place from to removed added at → (p r : List ℕ) (f : ℕ → ℕ)
+      → old ≡ p ++ (number_section Legacy (below f to) ++ r) → length p ≡ place
       → ((j : ℕ) → f j ≤ 65535) → new ≡ p ++ (number_section Legacy (below (moved_later f from removed added) to) ++ r)
   moved_end new at _ le so_far p r f whole long fit =
       so_far p r f whole long fit
-      ∙ ap (λ t. p ++ (number_section Legacy t ++ r)) (below-same (mixed f (moved_later f from removed added) at) (moved_later f from removed added) to (λ j lt. mixed_low f (moved_later f from removed added) at j (omega arith)))
+      ∙ ap (λ t. p ++ (number_section Legacy t ++ r)) (below-same (mixed f (moved_later f from removed added) at) (moved_later f from removed added) to
+      (λ j lt. mixed_low f (moved_later f from removed added) at j (omega arith)))
 
-  module _ (v0 : List ℕ) (at offset : ℕ) (low : from ≤ at) (lt : at < to) (so_far : MovedUpTo old v0 place from to removed added at) (read : offset ≡ word_at (place + 2 * at) v0) where
+  module _ (v0 : List ℕ) (at offset : ℕ) (low : from ≤ at) (lt : at < to) (so_far : MovedUpTo old v0 place from to removed added at)
+      (read : offset ≡ word_at (place + 2 * at) v0) where
     here : (p r : List ℕ) (f : ℕ → ℕ) → old ≡ p ++ (number_section Legacy (below f to) ++ r) → length p ≡ place → ((j : ℕ) → f j ≤ 65535) → f at ≡ offset
     here p r f whole long fit =
         let m = mixed f (moved_later f from removed added) at in
@@ -68,18 +72,23 @@ module _ (old : List ℕ) (place from to removed added : ℕ) where
     next : (f : ℕ → ℕ) → mixed f (moved_later f from removed added) (at + 1) at ≡ offset_after removed added (f at)
     next f = mixed_low f (moved_later f from removed added) (at + 1) at (omega arith) ∙ later_from f from removed added at low
 
-    pub moved_over : (v1 : List ℕ) (n : ℕ) → offset ≢ 65535 → n ≡ offset + added - removed → Replaces v0 v1 (place + 2 * at) 2 (λ _. number_bytes Legacy n) → MovedUpTo old v1 place from to removed added (at + 1)
+    pub moved_over : (v1 : List ℕ) (n : ℕ) → offset ≢ 65535 → n ≡ offset + added - removed → Replaces v0 v1 (place + 2 * at) 2 (λ _. number_bytes Legacy n)
+        → MovedUpTo old v1 place from to removed added (at + 1)
     moved_over v1 n there e replaces p r f whole long fit =
         let h = here p r f whole long fit in
-        let step : mixed f (moved_later f from removed added) (at + 1) at ≡ n = next f ∙ ap (offset_after removed added) h ∙ moved_there removed added offset there ∙ sym e in
-        place-set Legacy p r place long v0 v1 (mixed f (moved_later f from removed added) at) (mixed f (moved_later f from removed added) (at + 1)) to at n lt step
+        let step : mixed f (moved_later f from removed added) (at + 1) at ≡ n =
+        next f ∙ ap (offset_after removed added) h ∙ moved_there removed added offset there ∙ sym e in
+        place-set Legacy p r place long v0 v1 (mixed f (moved_later f from removed added) at)
+        (mixed f (moved_later f from removed added) (at + 1)) to at n lt step
         (λ j other. mixed_more f (moved_later f from removed added) at j other) (so_far p r f whole long fit) replaces
 
     pub moved_past : offset ≡ 65535 → MovedUpTo old v0 place from to removed added (at + 1)
     moved_past void p r f whole long fit =
         let h = here p r f whole long fit in
         let m = mixed f (moved_later f from removed added) in
-        let step : m (at + 1) at ≡ m at at = next f ∙ moved_absent removed added (f at) (h ∙ void) ∙ sym void ∙ sym h ∙ sym (mixed_high f (moved_later f from removed added) at at (omega arith)) in
+        let step : m (at + 1) at ≡ m at at =
+        next f ∙ moved_absent removed added (f at) (h ∙ void) ∙ sym void ∙ sym h
+        ∙ sym (mixed_high f (moved_later f from removed added) at at (omega arith)) in
         so_far p r f whole long fit ∙ ap (λ t. p ++ (number_section Legacy t ++ r)) (below-same (m at) (m (at + 1)) to (λ j l. elim (cases_eq j at) [
           | inl same ↦ ap (m at) same ∙ sym step ∙ ap (m (at + 1)) (sym same)
           | inr other ↦ sym (mixed_more f (moved_later f from removed added) at j other)

@@ -1,5 +1,6 @@
 -- An image in which a number changes, byte for byte.
-use Rattle.std.proofs.Common.{◌≡◌, ◌≢◌, ℕ, zero, suc, ◌+◌, ◌*◌, ◌%◌, ◌<◌, ◌≤◌, true, false, List, [], ◌∷◌, ◌++◌, length, take, set, get_or, Option, Some, None, IfSome, refl, sym, ap, ◌∙◌, append_assoc, arith}
+use Rattle.std.proofs.Common.{◌≡◌, ◌≢◌, ℕ, zero, suc, ◌+◌, ◌*◌, ◌%◌, ◌<◌, ◌≤◌, true, false, List, [], ◌∷◌, ◌++◌, length, take, set, get_or, Option, Some}
+use Rattle.std.proofs.Common.{None, IfSome, refl, sym, ap, ◌∙◌, append_assoc, arith}
 use Rattle.ti_caps.specs.Tables.{capability}
 use Rattle.ti_caps.specs.declared.capability.Kind.TheVariants.{Number, Text}
 use Rattle.ti_layout.specs.declared.layout.Format.{Format}
@@ -38,7 +39,8 @@ unfolding below
 narrow_spelled w c zero = refl
 narrow_spelled w c (suc n) =
     spelled-append w (below (wide_value c) n) (wide_value c n ∷ []) ∙ ap (λ t. t ++ number_section w (wide_value c n ∷ [])) (narrow_spelled w c n)
-    ∙ ap (λ t. number_section w (below (number_in w c) n) ++ t) (spelled-one w (wide_value c n) ∙ narrow_bytes w (of_kind c Number n) ∙ sym (spelled-one w (number_in w c n)))
+    ∙ ap (λ t. number_section w (below (number_in w c) n) ++ t) (spelled-one w (wide_value c n) ∙ narrow_bytes w (of_kind c Number n)
+    ∙ sym (spelled-one w (number_in w c n)))
     ∙ sym (spelled-append w (below (number_in w c) n) (number_in w c n ∷ []))
 
 there : (o : Option Content) → number_value 4294967295 o ≢ 4294967295 → is_there o ≡ true
@@ -59,7 +61,8 @@ pub number_agrees : (i : ℕ) (n : Option ℕ) → IfSome n (λ n. n ≤ 2147483
 number_agrees i None h = tt
 number_agrees i (Some n) h = (refl, h)
 
-lengths_differ : (n f x y t s lc lg cap n' f' t' s' : ℕ) → n' ≡ n → f' ≡ f → t' ≡ t → s' ≡ s → lc ≡ 12 + n + f + (n + f) % 2 + x + 2 * t + s → lg ≡ 12 + n' + f' + (n' + f') % 2 + y + 2 * t' + s' → lg ≤ cap → lc + y ≤ cap + x
+lengths_differ : (n f x y t s lc lg cap n' f' t' s' : ℕ) → n' ≡ n → f' ≡ f → t' ≡ t → s' ≡ s → lc ≡ 12 + n + f + (n + f) % 2 + x + 2 * t + s
+    → lg ≡ 12 + n' + f' + (n' + f') % 2 + y + 2 * t' + s' → lg ≤ cap → lc + y ≤ cap + x
 lengths_differ n f x y t s lc lg cap n' f' t' s' en ef et es lc_is lg_is le =
     let same : 12 + n' + f' + (n' + f') % 2 + y + 2 * t' + s' ≡ 12 + n + f + (n + f) % 2 + y + 2 * t + s = rw (en, ef, et, es) refl in
     omega arith
@@ -71,21 +74,26 @@ module _ (b : List ℕ) (is : IsImage b) (h : Header) (has : HasSizes (names_in 
   abbrev g : Contents
   g = with_number b index n
 
-  pub number_put : (values : List ℕ) (v : ℕ) → values ≡ below (wide_value (contents_in b)) 39 → v ≡ number_value 4294967295 (number_content n) → set values index v ≡ below (wide_value (with_number b index n)) 39
+  pub number_put : (values : List ℕ) (v : ℕ) → values ≡ below (wide_value (contents_in b)) 39 → v ≡ number_value 4294967295 (number_content n)
+      → set values index v ≡ below (wide_value (with_number b index n)) 39
   number_put values v all e =
       let here : wide_value g index ≡ v = ap (number_value 4294967295) (given_here c (capability Number index) (number_content n)) ∙ sym e in
-      ap (λ t. set t index v) all ∙ set-below (wide_value c) (wide_value g) 39 index v within here (λ j other. ap (number_value 4294967295) (given_place c Number index (number_content n) j other))
+      ap (λ t. set t index v) all ∙ set-below (wide_value c) (wide_value g) 39 index v within here
+      (λ j other. ap (number_value 4294967295) (given_place c Number index (number_content n) j other))
 
   module _ (fits : IfSome n (λ n. n ≤ 2147483647)) (values : List ℕ) (all : values ≡ below (wide_value (with_number b index n)) 39) where
     pub has_numbers : HasNumbers (with_number b index n)
-    has_numbers j lt = given_agrees c (capability Number index) (number_content n) (number_agrees index n fits) (capability Number j) (is.imaged.agree (capability Number j) lt)
+    has_numbers j lt = given_agrees c (capability Number index) (number_content n) (number_agrees index n fits) (capability Number j)
+        (is.imaged.agree (capability Number j) lt)
 
     value_at : (j : ℕ) → j < 39 → get_or values j 0 ≡ wide_value g j
     value_at j lt = ap (λ t. get_or t j 0) all ∙ get_or-below (wide_value g) 39 j 0 lt
 
-    pub sizes_numbered : (w : Format) (m : ℕ) → w ≡ format_of (with_number b index n) → m ≤ length values → ((j : ℕ) → suc j ≡ m → get_or values j 0 ≢ 4294967295)
+    pub sizes_numbered : (w : Format) (m : ℕ) → w ≡ format_of (with_number b index n) → m ≤ length values
+        → ((j : ℕ) → suc j ≡ m → get_or values j 0 ≢ 4294967295)
         → ((j : ℕ) → m ≤ j → j < length values → get_or values j 0 ≡ 4294967295)
-        → HasSizes (names_in b) (with_number b index n) (record { format = w; names = h.names; flags = h.flags; numbers = m; texts = h.texts; strings = h.strings })
+        → HasSizes (names_in b) (with_number b index n)
+        (record { format = w; names = h.names; flags = h.flags; numbers = m; texts = h.texts; strings = h.strings })
     sizes_numbered w m e le last past =
         let l : length values ≡ 39 = ap (λ (t : List ℕ). length t) all ∙ length-below (wide_value g) 39 in
         let fit : m ≤ 39 = omega arith in record {
@@ -104,27 +112,34 @@ module _ (b : List ℕ) (is : IsImage b) (h : Header) (has : HasSizes (names_in 
 
   module _ (k : Header) (has_g : HasSizes (names_in b) (with_number b index n) k) where
     -- the two images differ in the bytes of the numbers
-    pub number_room : (len room : ℕ) → len ≡ length b → length (image (names_in b) (with_number b index n)) ≤ room → len + width k.format * k.numbers ≤ room + width h.format * h.numbers
+    pub number_room : (len room : ℕ) → len ≡ length b → length (image (names_in b) (with_number b index n)) ≤ room
+        → len + width k.format * k.numbers ≤ room + width h.format * h.numbers
     number_room len room el le =
         let texts : k.texts ≡ h.texts = has_g.texts ∙ sym has.texts in
-        lengths_differ h.names h.flags (width h.format * h.numbers) (width k.format * k.numbers) h.texts (length (texts_below c (written_count c Text))) len (length (image (names_in b) g)) room k.names k.flags k.texts (length (texts_below g (written_count g Text)))
+        lengths_differ h.names h.flags (width h.format * h.numbers) (width k.format * k.numbers) h.texts (length (texts_below c (written_count c Text))) len
+        (length (image (names_in b) g)) room k.names k.flags k.texts (length (texts_below g (written_count g Text)))
         (has_g.names ∙ sym has.names) (has_g.flags ∙ sym has.flags) texts (ap (λ (t : List ℕ). length t) (same_strings g c (λ i. refl)))
         (el ∙ ap (λ (x : List ℕ). length x) is.whole ∙ length_sized (names_in b) c h has) (length_sized (names_in b) g k has_g) le
 
     same_after : after_numbers (with_number b index n) ≡ after_numbers (contents_in b)
     same_after =
-        ap (λ t. number_section Legacy t ++ texts_below g (written_count g Text) ++ []) (same_offsets g c (λ i. refl) (written_count g Text) ∙ ap (offsets_below c) (same_text_count g c (λ i. refl)))
+        ap (λ t. number_section Legacy t ++ texts_below g (written_count g Text) ++ []) (same_offsets g c (λ i. refl) (written_count g Text)
+        ∙ ap (offsets_below c) (same_text_count g c (λ i. refl)))
         ∙ ap (λ t. number_section Legacy (offsets_below c (written_count c Text)) ++ t ++ []) (same_strings g c (λ i. refl))
 
     all_spelled : (values : List ℕ) → values ≡ below (wide_value (with_number b index n)) 39
-        → number_section k.format (take k.numbers values) ≡ number_section (format_of (with_number b index n)) (below (number_in (format_of (with_number b index n)) (with_number b index n)) (written_count (with_number b index n) Number))
+        → number_section k.format (take k.numbers values) ≡ number_section (format_of (with_number b index n))
+        (below (number_in (format_of (with_number b index n)) (with_number b index n)) (written_count (with_number b index n) Number))
     all_spelled values all =
         ap (λ t. number_section k.format (take k.numbers t)) all ∙ ap (number_section k.format) (take-below (wide_value g) 39 k.numbers has_g.numbers_fit)
-        ∙ ap (λ w. number_section w (below (wide_value g) k.numbers)) has_g.format ∙ ap (λ m. number_section (format_of g) (below (wide_value g) m)) has_g.numbers ∙ narrow_spelled (format_of g) g (written_count g Number)
+        ∙ ap (λ w. number_section w (below (wide_value g) k.numbers)) has_g.format
+        ∙ ap (λ m. number_section (format_of g) (below (wide_value g) m)) has_g.numbers ∙ narrow_spelled (format_of g) g (written_count g Number)
 
-    pub numbers_changed : (b1 b2 b3 values : List ℕ) (place size wanted fill : ℕ) → place ≡ numbers_from h → size ≡ width h.format * h.numbers → wanted ≡ width k.format * k.numbers
+    pub numbers_changed : (b1 b2 b3 values : List ℕ) (place size wanted fill : ℕ) → place ≡ numbers_from h → size ≡ width h.format * h.numbers
+        → wanted ≡ width k.format * k.numbers
         → values ≡ below (wide_value (with_number b index n)) 39 → length (image (names_in b) (with_number b index n)) ≤ image_limit (with_number b index n)
-        → Replaces b b1 place size (λ m. with_length m wanted fill) → Replaces b1 b2 place (width k.format * k.numbers) (λ _. number_section k.format (take k.numbers values))
+        → Replaces b b1 place size (λ m. with_length m wanted fill)
+        → Replaces b1 b2 place (width k.format * k.numbers) (λ _. number_section k.format (take k.numbers values))
         → Replaces b2 b3 0 12 (λ _. header k.format k.names k.flags k.numbers k.texts k.strings) → b3 ≡ image (names_in b) (with_number b index n)
     numbers_changed b1 b2 b3 values place size wanted fill ep es ew all small resizes puts heads =
         let names = names_in b in
@@ -133,13 +148,18 @@ module _ (b : List ℕ) (is : IsImage b) (h : Header) (has : HasSizes (names_in 
         let m = number_section w (below (number_in w c) (written_count c Number)) in
         let r = after_numbers c in
         let lp : length p ≡ place = length_before names c h has ∙ sym ep in
-        let lm : length m ≡ size = length-spelled w (below (number_in w c) (written_count c Number)) ∙ ap (λ x. width w * x) (length-below (number_in w c) (written_count c Number) ∙ sym has.numbers) ∙ ap (λ f. width f * h.numbers) (sym has.format) ∙ sym es in
-        let one : b1 ≡ p ++ (with_length m wanted fill ++ r) = resizes p m r (is.whole ∙ number_frame names c ∙ sym (append_assoc (head_of names c) (before_numbers names c) (m ++ r))) lp lm in
+        let lm : length m ≡ size = length-spelled w (below (number_in w c) (written_count c Number))
+        ∙ ap (λ x. width w * x) (length-below (number_in w c) (written_count c Number) ∙ sym has.numbers)
+        ∙ ap (λ f. width f * h.numbers) (sym has.format) ∙ sym es in
+        let one : b1 ≡ p ++ (with_length m wanted fill ++ r) =
+        resizes p m r (is.whole ∙ number_frame names c ∙ sym (append_assoc (head_of names c) (before_numbers names c) (m ++ r))) lp lm in
         let new = number_section k.format (take k.numbers values) in
         let two : b2 ≡ p ++ (new ++ r) = puts p (with_length m wanted fill) r one lp (length-resized m wanted fill ∙ ew) in
         let three : b3 ≡ header k.format k.names k.flags k.numbers k.texts k.strings ++ (before_numbers names c ++ (new ++ r)) =
-        heads [] (head_of names c) (before_numbers names c ++ (new ++ r)) (two ∙ append_assoc (head_of names c) (before_numbers names c) (new ++ r)) refl (length_head names c) in
+        heads [] (head_of names c) (before_numbers names c ++ (new ++ r)) (two ∙ append_assoc (head_of names c) (before_numbers names c) (new ++ r)) refl
+        (length_head names c) in
         three ∙ ap (λ t. t ++ (before_numbers names c ++ (new ++ r))) (header_written names g k has_g small)
         ∙ ap (λ t. head_of names g ++ (before_numbers names c ++ (t ++ r))) (all_spelled values all)
-        ∙ ap (λ t. head_of names g ++ (before_numbers names c ++ (number_section (format_of g) (below (number_in (format_of g) g) (written_count g Number)) ++ t))) (sym same_after)
+        ∙ ap (λ t. head_of names g ++ (before_numbers names c
+        ++ (number_section (format_of g) (below (number_in (format_of g) g) (written_count g Number)) ++ t))) (sym same_after)
         ∙ sym (number_frame names g)

@@ -1,5 +1,6 @@
 -- The format that the numbers of an image need, found by their wide values.
-use Rattle.std.proofs.Common.{◌≡◌, ◌≢◌, ℕ, ◌<◌, ◌≤◌, ◌⊎◌, true, false, cond, List, length, get_or, Option, Some, None, refl, sym, ap, ◌∙◌, subst, arith, inl, inr}
+use Rattle.std.proofs.Common.{◌≡◌, ◌≢◌, ℕ, ◌<◌, ◌≤◌, ◌⊎◌, true, false, cond, List, length, get_or, Option, Some, None, refl, sym, ap, ◌∙◌, subst, arith}
+use Rattle.std.proofs.Common.{inl, inr}
 use Rattle.std.proofs.lemmas.Bool.{lt-ltb, le-ltb}
 use Rattle.ti_caps.specs.Tables.{capability}
 use Rattle.ti_caps.specs.declared.capability.Kind.TheVariants.{Number}
@@ -9,7 +10,8 @@ use Rattle.ti_layout.specs.Values.{Content, content_true, content_number, conten
 use Rattle.ti_layout.proofs.Below.{length-below, get_or-below, some_below-true, some_below-false}
 use Rattle.ti_compiled.specs.inside.Changes.{wide_value, HasNumbers}
 
-narrow : (j : ℕ) (o : Option Content) → AgreesIfSome (capability Number j) o → (number_value 4294967295 o ≤ 32767) ⊎ (number_value 4294967295 o ≡ 4294967295) → is_wide o ≡ false
+narrow : (j : ℕ) (o : Option Content) → AgreesIfSome (capability Number j) o → (number_value 4294967295 o ≤ 32767)
+    ⊎ (number_value 4294967295 o ≡ 4294967295) → is_wide o ≡ false
 narrow j None a v = refl
 narrow j (Some content_true) a v = refl
 narrow j (Some (content_number n)) a v = elim v [
@@ -41,7 +43,8 @@ module _ (values : List ℕ) (c : Contents) (all : values ≡ below (wide_value 
       let passes = wide (of_kind c Number i) (subst (λ x. 32767 < x) v large) (λ e. there (v ∙ e)) in
       sym (ap (λ b. cond b Extended Legacy) (some_below-true (λ j. is_wide (of_kind c Number j)) 39 i under passes))
 
-  pub format_legacy : (end : ℕ) → length values ≤ end → HasNumbers c → ((j : ℕ) → j < end → (get_or values j 0 ≤ 32767) ⊎ (get_or values j 0 ≡ 4294967295)) → Legacy ≡ format_of c
+  pub format_legacy : (end : ℕ) → length values ≤ end → HasNumbers c → ((j : ℕ) → j < end → (get_or values j 0 ≤ 32767) ⊎ (get_or values j 0 ≡ 4294967295))
+      → Legacy ≡ format_of c
   format_legacy end le agree each =
       let l = length_values in
       sym (ap (λ b. cond b Extended Legacy) (some_below-false (λ j. is_wide (of_kind c Number j)) 39 (λ j lt.

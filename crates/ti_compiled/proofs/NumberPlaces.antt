@@ -1,5 +1,6 @@
 -- The numbers of an image: where they are, and what each means.
-use Rattle.std.proofs.Common.{◌≡◌, ℕ, suc, ◌+◌, ◌*◌, ◌%◌, ◌<◌, ◌≤◌, List, [], ◌∷◌, ◌++◌, length, set, replicate, Option, Some, None, refl, sym, ap, ◌∙◌, subst, append_assoc, arith, inl, inr}
+use Rattle.std.proofs.Common.{◌≡◌, ℕ, suc, ◌+◌, ◌*◌, ◌%◌, ◌<◌, ◌≤◌, List, [], ◌∷◌, ◌++◌, length, set, replicate, Option, Some, None, refl, sym, ap, ◌∙◌}
+use Rattle.std.proofs.Common.{subst, append_assoc, arith, inl, inr}
 use Rattle.std.proofs.lemmas.Bool.{cases_lt, cases_eq}
 use Rattle.std.proofs.lemmas.List.{length-append, length-replicate}
 use Rattle.ti_caps.specs.Tables.{capability}
@@ -7,7 +8,8 @@ use Rattle.ti_caps.specs.declared.capability.Kind.TheVariants.{Flag, Number, Tex
 use Rattle.ti_layout.specs.declared.layout.Format.{Format}
 use Rattle.ti_layout.specs.declared.layout.Format.TheVariants.{Legacy, Extended}
 use Rattle.ti_layout.specs.declared.header.Header.{Header}
-use Rattle.ti_layout.specs.Image.{image, image_in, below, even_gap, flags_below, format_of, numbers_below, number_value, of_kind, offsets_below, texts_below, written_count}
+use Rattle.ti_layout.specs.Image.{image, image_in, below, even_gap, flags_below, format_of, numbers_below, number_value, of_kind, offsets_below}
+use Rattle.ti_layout.specs.Image.{texts_below, written_count}
 use Rattle.ti_layout.specs.Layout.{absent_mark, first_negative, number_section, width}
 use Rattle.ti_layout.specs.Laws.{without_cancel}
 use Rattle.ti_layout.specs.Reading.{number_at}
@@ -44,7 +46,8 @@ least Extended = omega arith
 number_facts : (w : Format) (o : Option Content) → ((n : ℕ) → o ≡ Some (content_number n) → n < first_negative w) → NumberFacts w o
 number_facts w None small = let l = least w in record { fits = omega arith; plain = λ h. absurd (omega arith); void = λ h. refl }
 number_facts w (Some content_true) small = let l = least w in record { fits = omega arith; plain = λ h. absurd (omega arith); void = λ h. refl }
-number_facts w (Some (content_number n)) small = let l = least w in let s = small n refl in record { fits = omega arith; plain = λ h. refl; void = λ h. absurd (omega arith) }
+number_facts w (Some (content_number n)) small =
+    let l = least w in let s = small n refl in record { fits = omega arith; plain = λ h. refl; void = λ h. absurd (omega arith) }
 number_facts w (Some (content_text t)) small = let l = least w in record { fits = omega arith; plain = λ h. absurd (omega arith); void = λ h. refl }
 number_facts w (Some content_cancelled) small = let l = least w in record { fits = omega arith; plain = λ h. absurd (omega arith); void = λ h. refl }
 
@@ -64,7 +67,8 @@ after_numbers c = number_section Legacy (offsets_below c (written_count c Text))
 abbrev pub number_in : Format → Contents → ℕ → ℕ
 number_in w c j = number_value (absent_mark w) (of_kind c Number j)
 
-pub number_frame : (names : List ℕ) (c : Contents) → image names c ≡ head_of names c ++ (before_numbers names c ++ (number_section (format_of c) (below (number_in (format_of c) c) (written_count c Number)) ++ after_numbers c))
+pub number_frame : (names : List ℕ) (c : Contents) → image names c ≡ head_of names c
+    ++ (before_numbers names c ++ (number_section (format_of c) (below (number_in (format_of c) c) (written_count c Number)) ++ after_numbers c))
 unfolding image image_in
 number_frame names c =
     nine (head_of names c) names (0 ∷ []) (flags_below c (written_count c Flag)) (even_gap names (written_count c Flag))
@@ -102,14 +106,19 @@ module _ (b : List ℕ) (is : IsImage b) (h : Header) (has : HasSizes (names_in 
   pub numbers_end : numbers_from h + width h.format * h.numbers ≤ length b
   numbers_end = let l = ap (λ (x : List ℕ). length x) is.whole ∙ length_sized (names_in b) c h has in omega arith
 
-  number_read : (place size j n : ℕ) → place ≡ numbers_from h → size ≡ width h.format → j < h.numbers → n ≡ number_at h.format (place + size * j) b → n ≡ number_in (format_of (contents_in b)) (contents_in b) j
+  number_read : (place size j n : ℕ) → place ≡ numbers_from h → size ≡ width h.format → j < h.numbers → n ≡ number_at h.format (place + size * j) b
+      → n ≡ number_in (format_of (contents_in b)) (contents_in b) j
   number_read place size j n ep es lt value =
       let N = has.numbers in
       let w = format_of c in
-      value ∙ ap (λ p. number_at h.format (p + size * j) b) ep ∙ ap (λ x. number_at h.format (numbers_from h + x * j) b) es ∙ ap (λ f. number_at f (numbers_from h + width f * j) b) has.format
-      ∙ place-get w (head_of (names_in b) c ++ before_numbers (names_in b) c) (after_numbers c) (numbers_from h) (length_before (names_in b) c h has) b (number_in w c) (written_count c Number) j
+      value ∙ ap (λ p. number_at h.format (p + size * j) b) ep ∙ ap (λ x. number_at h.format (numbers_from h + x * j) b) es
+      ∙ ap (λ f. number_at f (numbers_from h + width f * j) b) has.format
+      ∙ place-get w (head_of (names_in b) c ++ before_numbers (names_in b) c) (after_numbers c) (numbers_from h) (length_before (names_in b) c h has) b
+      (number_in w c) (written_count c Number) j
       (number_tells j lt).fits (omega arith)
-      (is.whole ∙ number_frame (names_in b) c ∙ sym (append_assoc (head_of (names_in b) c) (before_numbers (names_in b) c) (number_section w (below (number_in w c) (written_count c Number)) ++ after_numbers c)))
+      (is.whole ∙ number_frame (names_in b) c
+      ∙ sym (append_assoc (head_of (names_in b) c) (before_numbers (names_in b) c)
+      (number_section w (below (number_in w c) (written_count c Number)) ++ after_numbers c)))
 
   abbrev pub ReadUpTo : List ℕ → ℕ → Type 0
   ReadUpTo values at = values ≡ below (mixed (λ _. 4294967295) (wide_value (contents_in b)) at) 39
@@ -123,10 +132,12 @@ module _ (b : List ℕ) (is : IsImage b) (h : Header) (has : HasSizes (names_in 
       let N = has.numbers in
       so_far ∙ below-same (mixed (λ _. 4294967295) (wide_value c) at) (wide_value c) 39 (λ j lt. elim (cases_lt j at) [
         | inl low ↦ mixed_low (λ _. 4294967295) (wide_value c) at j low
-        | inr high ↦ mixed_high (λ _. 4294967295) (wide_value c) at j high ∙ sym (void_number 4294967295 (of_kind c Number j) (nothing_past c is.imaged.past Number j (omega arith)))
+        | inr high ↦ mixed_high (λ _. 4294967295) (wide_value c) at j high
+            ∙ sym (void_number 4294967295 (of_kind c Number j) (nothing_past c is.imaged.past Number j (omega arith)))
       ])
 
-  module _ (values : List ℕ) (place size at n : ℕ) (ep : place ≡ numbers_from h) (es : size ≡ width h.format) (lt : at < h.numbers) (value : n ≡ number_at h.format (place + size * at) b) (so_far : ReadUpTo values at) where
+  module _ (values : List ℕ) (place size at n : ℕ) (ep : place ≡ numbers_from h) (es : size ≡ width h.format) (lt : at < h.numbers)
+      (value : n ≡ number_at h.format (place + size * at) b) (so_far : ReadUpTo values at) where
     found : n ≡ number_in (format_of (contents_in b)) (contents_in b) at
     found = number_read place size at n ep es lt value
 
@@ -143,7 +154,8 @@ module _ (b : List ℕ) (is : IsImage b) (h : Header) (has : HasSizes (names_in 
         let fit = has.numbers_fit in
         let under : number_in (format_of c) c at < first_negative (format_of c) = omega arith in
         ap (λ t. set t at n) so_far
-        ∙ set-below (mixed (λ _. 4294967295) (wide_value c) at) (mixed (λ _. 4294967295) (wide_value c) (at + 1)) 39 at n (omega arith) (next ∙ (number_tells at lt).plain under ∙ sym found)
+        ∙ set-below (mixed (λ _. 4294967295) (wide_value c) at) (mixed (λ _. 4294967295) (wide_value c) (at + 1)) 39 at n (omega arith)
+        (next ∙ (number_tells at lt).plain under ∙ sym found)
         (λ j other. mixed_more (λ _. 4294967295) (wide_value c) at j other)
 
     pub read_void : first_negative h.format ≤ n → ReadUpTo values (at + 1)
@@ -158,7 +170,8 @@ module _ (b : List ℕ) (is : IsImage b) (h : Header) (has : HasSizes (names_in 
           | inr other ↦ sym (mixed_more (λ _. 4294967295) (wide_value c) at j other)
         ])
 
-pub width_under : (b : List ℕ) (is : IsImage b) (h : Header) → HasSizes (names_in b) (contents_in b) h → (place size j : ℕ) → place ≡ numbers_from h → size ≡ width h.format → j < h.numbers → place + size * j + width h.format ≤ length b
+pub width_under : (b : List ℕ) (is : IsImage b) (h : Header) → HasSizes (names_in b) (contents_in b) h → (place size j : ℕ) → place ≡ numbers_from h
+    → size ≡ width h.format → j < h.numbers → place + size * j + width h.format ≤ length b
 width_under b is h has place size j ep es lt =
     let e = numbers_end b is h has in
     let u = place_under h.format j h.numbers lt in

@@ -54,14 +54,17 @@ pub record Again (bytes names : List ℕ) (contents : Contents) : Type 0 where
   pub is_image : IsImage bytes
 
 pub read_again : (bytes names : List ℕ) (contents : Contents) → 0 < length names → length names ≤ 127 → HasNoNul names
-    → ((c : Capability) → IsCapability c → AgreesIfSome c (contents c)) → length bytes ≤ image_limit contents → bytes ≡ image names contents → Again bytes names contents
+    → ((c : Capability) → IsCapability c → AgreesIfSome c (contents c)) → length bytes ≤ image_limit contents → bytes ≡ image names contents
+    → Again bytes names contents
 read_again bytes names contents some short no_nul agree within whole =
     let r = images_are_read names contents some short no_nul agree (subst (λ (b : List ℕ). length b ≤ image_limit contents) whole within) in
     let reads = subst (λ b. Reads b names r.0) (sym whole) r.1 in
     let n = read_names bytes names r.0 reads in
     let d = read_contents bytes names r.0 reads in
-    let said : (c : Capability) → IsCapability c → contents_in bytes c ≡ without_cancel (contents c) = λ c valid. ap (λ (f : Contents). f c) (sym d) ∙ r.2 c valid in
-    let same : (c : Capability) → IsCapability c → without_cancel (contents c) ≡ without_cancel (contents_in bytes c) = λ c valid. sym (ap without_cancel (said c valid) ∙ uncancelled-twice (contents c)) in
+    let said : (c : Capability) → IsCapability c → contents_in bytes c ≡ without_cancel (contents c) =
+    λ c valid. ap (λ (f : Contents). f c) (sym d) ∙ r.2 c valid in
+    let same : (c : Capability) → IsCapability c → without_cancel (contents c) ≡ without_cancel (contents_in bytes c) =
+    λ c valid. sym (ap without_cancel (said c valid) ∙ uncancelled-twice (contents c)) in
     let again : image names contents ≡ image (names_in bytes) (contents_in bytes) =
     ap (λ m. image m contents) n ∙ images_are_of_values (names_in bytes) contents (contents_in bytes) same in
     let limits = limits_are_of_values contents (contents_in bytes) same in
@@ -77,7 +80,8 @@ read_again bytes names contents some short no_nul agree within whole =
           present = λ c valid. ap without_cancel (said c valid) ∙ uncancelled-twice (contents c) ∙ sym (said c valid);
           past = λ kind index past.
               ap (λ (f : Contents). f (capability kind index)) (sym d ∙ reads.held)
-              ∙ says_past reads.format reads.sections.flags reads.sections.numbers reads.sections.offsets reads.sections.strings reads.sound.flag_count reads.sound.number_count reads.sound.text_count kind index past;
+              ∙ says_past reads.format reads.sections.flags reads.sections.numbers reads.sections.offsets reads.sections.strings reads.sound.flag_count
+              reads.sound.number_count reads.sound.text_count kind index past;
           within = subst (λ (b : List ℕ). length b ≤ image_limit (contents_in bytes)) (whole ∙ again) (subst (λ n. length bytes ≤ n) limits within);
         };
         whole = whole ∙ again;
@@ -88,7 +92,8 @@ pub some_bytes : (xs : List ℕ) → xs ≢ [] → 0 < length xs
 some_bytes [] none = absurd (none refl)
 some_bytes (x ∷ xs) none = omega arith
 
-pub given_agrees : (d : Contents) (k : Capability) (v : Option Content) → AgreesIfSome k v → (x : Capability) → AgreesIfSome x (d x) → AgreesIfSome x (with_content d k v x)
+pub given_agrees : (d : Contents) (k : Capability) (v : Option Content) → AgreesIfSome k v → (x : Capability) → AgreesIfSome x (d x)
+    → AgreesIfSome x (with_content d k v x)
 given_agrees d k v agrees x old = elim (same_capability k x) as (λ b. same_capability k x ≡ b → AgreesIfSome x (cond b v (d x))) [
   | true ↦ λ e. subst (λ y. AgreesIfSome y v) (same_capability-true k x e) agrees
   | false ↦ λ e. old
@@ -96,32 +101,40 @@ given_agrees d k v agrees x old = elim (same_capability k x) as (λ b. same_capa
 
 -- what is given leaves an image
 pub given_again : (b bytes : List ℕ) → IsImage b → (k : Capability) (v : Option Content) → AgreesIfSome k v
-    → length (image (names_in b) (with_content (contents_in b) k v)) ≤ image_limit (with_content (contents_in b) k v) → bytes ≡ image (names_in b) (with_content (contents_in b) k v) → Again bytes (names_in b) (with_content (contents_in b) k v)
+    → length (image (names_in b) (with_content (contents_in b) k v)) ≤ image_limit (with_content (contents_in b) k v)
+    → bytes ≡ image (names_in b) (with_content (contents_in b) k v) → Again bytes (names_in b) (with_content (contents_in b) k v)
 given_again b bytes is k v agrees within whole =
     let d = contents_in b in
     read_again bytes (names_in b) (with_content d k v) is.imaged.some is.imaged.short is.imaged.no_nul
     (λ x valid. given_agrees d k v agrees x (is.imaged.agree x valid))
     (subst (λ (y : List ℕ). length y ≤ image_limit (with_content d k v)) (sym whole) within) whole
 
-image_after : (r : Result (Unit {0}) WriteError) (b new : List ℕ) → IsImage b → (k : Capability) (v : Option Content) → AgreesIfSome k v → OnOk r (new ≡ image (names_in b) (with_content (contents_in b) k v))
+image_after : (r : Result (Unit {0}) WriteError) (b new : List ℕ) → IsImage b → (k : Capability) (v : Option Content) → AgreesIfSome k v
+    → OnOk r (new ≡ image (names_in b) (with_content (contents_in b) k v))
     → OnOk r (length (image (names_in b) (with_content (contents_in b) k v)) ≤ image_limit (with_content (contents_in b) k v)) → OnErr r (new ≡ b) → IsImage new
 image_after (Ok x) b new is k v agrees made within same = (given_again b new is k v agrees within made).is_image
 image_after (Err x) b new is k v agrees made within same = subst IsImage (sym same) is
 
-given_present : (d : Contents) (k : Capability) (v : Option Content) → without_cancel v ≡ v → (x : Capability) → without_cancel (d x) ≡ d x → without_cancel (with_content d k v x) ≡ with_content d k v x
+given_present : (d : Contents) (k : Capability) (v : Option Content) → without_cancel v ≡ v → (x : Capability) → without_cancel (d x) ≡ d x
+    → without_cancel (with_content d k v x) ≡ with_content d k v x
 given_present d k v present x old = elim (same_capability k x) as (λ b. without_cancel (cond b v (d x)) ≡ cond b v (d x)) [ true ↦ present | false ↦ old ]
 
-given_names : (r : Result (Unit {0}) WriteError) (b new : List ℕ) → IsImage b → (k : Capability) (v : Option Content) → AgreesIfSome k v → OnOk r (new ≡ image (names_in b) (with_content (contents_in b) k v))
-    → OnOk r (length (image (names_in b) (with_content (contents_in b) k v)) ≤ image_limit (with_content (contents_in b) k v)) → OnOk r (names_in new ≡ names_in b)
+given_names : (r : Result (Unit {0}) WriteError) (b new : List ℕ) → IsImage b → (k : Capability) (v : Option Content) → AgreesIfSome k v
+    → OnOk r (new ≡ image (names_in b) (with_content (contents_in b) k v))
+    → OnOk r (length (image (names_in b) (with_content (contents_in b) k v)) ≤ image_limit (with_content (contents_in b) k v))
+    → OnOk r (names_in new ≡ names_in b)
 given_names (Ok x) b new is k v agrees made within = (given_again b new is k v agrees within made).names_read
 given_names (Err x) b new is k v agrees made within = tt
 
-given_contents : (r : Result (Unit {0}) WriteError) (b new : List ℕ) → IsImage b → (k : Capability) (v : Option Content) → AgreesIfSome k v → without_cancel v ≡ v → OnOk r (new ≡ image (names_in b) (with_content (contents_in b) k v))
-    → OnOk r (length (image (names_in b) (with_content (contents_in b) k v)) ≤ image_limit (with_content (contents_in b) k v)) → OnOk r (HoldsGiven (seen b) (seen new) k v)
+given_contents : (r : Result (Unit {0}) WriteError) (b new : List ℕ) → IsImage b → (k : Capability) (v : Option Content) → AgreesIfSome k v
+    → without_cancel v ≡ v → OnOk r (new ≡ image (names_in b) (with_content (contents_in b) k v))
+    → OnOk r (length (image (names_in b) (with_content (contents_in b) k v)) ≤ image_limit (with_content (contents_in b) k v))
+    → OnOk r (HoldsGiven (seen b) (seen new) k v)
 given_contents (Ok x) b new is k v agrees present made within = record {
   says = λ c valid.
       let again = given_again b new is k v agrees within made in
-      ap (λ (f : Contents). f c) (seen_says new again.is_image) ∙ again.contents_read c valid ∙ given_present (contents_in b) k v present c (is.imaged.present c valid)
+      ap (λ (f : Contents). f c) (seen_says new again.is_image) ∙ again.contents_read c valid
+      ∙ given_present (contents_in b) k v present c (is.imaged.present c valid)
       ∙ ap (λ (f : Contents). with_content f k v c) (sym (seen_says b is));
 }
 given_contents (Err x) b new is k v agrees present made within = tt
@@ -156,7 +169,8 @@ given_at r b new k v is agrees present made within over wanting fit left =
       };
     }
 
-pub after_giving : (r : Result (Unit {0}) WriteError) (x : List ℕ) (b : NamedTable) (new : List ℕ) (k : Capability) (kind : Kind) (i : ℕ) (v : Option Content) → seen x ≡ b → k.kind ≡ kind → i ≡ k.index
+pub after_giving : (r : Result (Unit {0}) WriteError) (x : List ℕ) (b : NamedTable) (new : List ℕ) (k : Capability) (kind : Kind) (i : ℕ)
+    (v : Option Content) → seen x ≡ b → k.kind ≡ kind → i ≡ k.index
     → IsImage x → AgreesIfSome (capability kind i) v → without_cancel v ≡ v → OnOk r (new ≡ image_with x (capability kind i) v)
     → OnOk r (BytesFitWith x (capability kind i) v) → (IsErrOf r TooLarge ↔ BytesAreOverWith x (capability kind i) v)
     → (IsErrOf r Memory → BytesFitWith x (capability kind i) v) → (IsErrOf r NamesTooLong → ⊥) → OnErr r (new ≡ x)
@@ -174,7 +188,8 @@ pub record IsWrittenAs (i : NamedTable) (names : List ℕ) (t : Contents) : Type
 pub written_as : (i : NamedTable) (names : List ℕ) (t : Contents) → ImageFits i.names (held_by i) → i.names ≡ names
     → ((c : Capability) → IsCapability c → held_by i c ≡ without_cancel (t c)) → IsWrittenAs i names t
 written_as i names t within named said =
-    let same : (c : Capability) → IsCapability c → without_cancel (held_by i c) ≡ without_cancel (t c) = λ c valid. ap without_cancel (said c valid) ∙ uncancelled-twice (t c) in
+    let same : (c : Capability) → IsCapability c → without_cancel (held_by i c) ≡ without_cancel (t c) =
+    λ c valid. ap without_cancel (said c valid) ∙ uncancelled-twice (t c) in
     let again : image i.names (held_by i) ≡ image names t = images_are_of_values i.names (held_by i) t same ∙ ap (λ n. image n t) named in
     let limits = limits_are_of_values (held_by i) t same in
     record {

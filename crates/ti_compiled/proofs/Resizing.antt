@@ -23,7 +23,8 @@ module _ (f : ℕ → ℕ) where
       let l = length-below f m in
       elim (cases_lt n m) [
         | inl cut ↦
-            let none : replicate {A = ℕ} (n - length (below f m)) void ≡ [] = ap (λ k. replicate {A = ℕ} k void) {x = n - length (below f m)} {y = 0} (omega arith) in
+            let none : replicate {A = ℕ} (n - length (below f m)) void ≡ [] =
+            ap (λ k. replicate {A = ℕ} k void) {x = n - length (below f m)} {y = 0} (omega arith) in
             ap (λ t. take n (below f m) ++ t) none ∙ append-nil (take n (below f m)) ∙ take-below m n (omega arith)
         | inr more ↦
             let e : m + (n - m) ≡ n = omega arith in
@@ -41,6 +42,7 @@ set-below f g n i v within here others =
     same_lists (set (below f n) i v) (below g n) (omega arith) (λ j d lt.
     let under : j < n = omega arith in
     elim (cases_eq j i) [
-      | inl same ↦ ap (λ x. get_or (set (below f n) i v) x d) same ∙ get_or-set_same (below f n) i v d (omega arith) ∙ sym here ∙ ap g (sym same) ∙ sym (get_or-below g n j d under)
+      | inl same ↦ ap (λ x. get_or (set (below f n) i v) x d) same ∙ get_or-set_same (below f n) i v d (omega arith) ∙ sym here ∙ ap g (sym same)
+          ∙ sym (get_or-below g n j d under)
       | inr other ↦ get_or-set_other (below f n) i j v d other ∙ get_or-below f n j d under ∙ sym (others j other) ∙ sym (get_or-below g n j d under)
     ])

@@ -41,7 +41,8 @@ three xs ys zs c a b d h k l =
     ∙ ap (λ o. option_or (option_or a b) o) l
 
 module _ (f : Contents) where
-  one_more : (kind : Kind) (n : ℕ) (d : Capability) → contents (entries_below f kind (suc n)) d ≡ option_or (contents (entries_below f kind n) d) (contents (entry_if (capability kind n) (f (capability kind n))) d)
+  one_more : (kind : Kind) (n : ℕ) (d : Capability) → contents (entries_below f kind (suc n)) d
+      ≡ option_or (contents (entries_below f kind n) d) (contents (entry_if (capability kind n) (f (capability kind n))) d)
   unfolding entries_below
   one_more kind n d = contents-append (entries_below f kind n) (entry_if (capability kind n) (f (capability kind n))) d
 
@@ -68,7 +69,8 @@ module _ (f : Contents) where
         | inr not_under ↦
             let same : n ≡ i = omega arith in
             one_more kind n d ∙ ap (λ o. option_or o own) (below_silent kind n d (λ j l. apart kind j i (λ e. omega arith)))
-            ∙ subst (λ m. contents (entry_if (capability kind n) (f (capability kind n))) (capability kind m) ≡ f (capability kind m)) same (entry_here (capability kind n) (f (capability kind n)))
+            ∙ subst (λ m. contents (entry_if (capability kind n) (f (capability kind n))) (capability kind m) ≡ f (capability kind m)) same
+            (entry_here (capability kind n) (f (capability kind n)))
       ]
 
   -- the entries of a kind say what the capabilities of the kind have, if no other place has
@@ -84,13 +86,16 @@ module _ (f : Contents) where
 
   all_say : HoldsNoOther f → (kind : Kind) (i : ℕ) → contents (entries_with f) (capability kind i) ≡ f (capability kind i)
   all_say past Flag i =
-      three _ _ _ (capability Flag i) (f (capability Flag i)) None None (kind_says past Flag i) (other_silent Number Flag i (λ e. cc)) (other_silent Text Flag i (λ e. cc))
+      three _ _ _ (capability Flag i) (f (capability Flag i)) None None (kind_says past Flag i) (other_silent Number Flag i (λ e. cc))
+      (other_silent Text Flag i (λ e. cc))
       ∙ or_none (option_or (f (capability Flag i)) None) ∙ or_none (f (capability Flag i))
   all_say past Number i =
-      three _ _ _ (capability Number i) None (f (capability Number i)) None (other_silent Flag Number i (λ e. cc)) (kind_says past Number i) (other_silent Text Number i (λ e. cc))
+      three _ _ _ (capability Number i) None (f (capability Number i)) None (other_silent Flag Number i (λ e. cc)) (kind_says past Number i)
+      (other_silent Text Number i (λ e. cc))
       ∙ or_none (f (capability Number i))
   all_say past Text i =
-      three _ _ _ (capability Text i) None None (f (capability Text i)) (other_silent Flag Text i (λ e. cc)) (other_silent Number Text i (λ e. cc)) (kind_says past Text i)
+      three _ _ _ (capability Text i) None None (f (capability Text i)) (other_silent Flag Text i (λ e. cc)) (other_silent Number Text i (λ e. cc))
+      (kind_says past Text i)
 
 -- the map that is seen is what the sections say
 pub seen_says : (bytes : List ℕ) → IsImage bytes → held_by (seen bytes) ≡ contents_in bytes

@@ -47,10 +47,20 @@ pub record Passes (left later : Indices) (k : ℕ) : Type 0 where
   pub stays : (m : ℕ) → left m → m ≢ k → later m
 
 pub passes_up : (k : ℕ) → Passes (from k) (from (k + 1)) k
-passes_up k = record { was_left = λ m le. omega arith; is_passed = λ m le e. omega arith; stays = λ m le other. elim (cases_lt k m) [ inl lt ↦ omega arith | inr not_lt ↦ absurd (other (omega arith)) ] }
+passes_up k = record {
+  was_left = λ m le. omega arith;
+  is_passed = λ m le e. omega arith;
+  stays =
+      λ m le other. elim (cases_lt k m) [ inl lt ↦ omega arith | inr not_lt ↦ absurd (other (omega arith)) ];
+}
 
 pub passes_down : (k j : ℕ) → k ≡ j + 1 → Passes (below k) (below j) j
-passes_down k j e = record { was_left = λ m lt. omega arith; is_passed = λ m lt s. omega arith; stays = λ m lt other. elim (cases_lt m j) [ inl under ↦ under | inr not_under ↦ absurd (other (omega arith)) ] }
+passes_down k j e = record {
+  was_left = λ m lt. omega arith;
+  is_passed = λ m lt s. omega arith;
+  stays =
+      λ m lt other. elim (cases_lt m j) [ inl under ↦ under | inr not_under ↦ absurd (other (omega arith)) ];
+}
 
 module _ (es : List Mention) (sorted : IsSorted es) (first last : Wanted) where
   pub walk_begins : (held : Contents) (left : Indices) → ((m : ℕ) → m < length es → left m) → ((c : Capability) → IsCapability c → first c (held c))
@@ -60,7 +70,8 @@ module _ (es : List Mention) (sorted : IsSorted es) (first last : Wanted) where
     behind = λ c valid apart. quiet c (contents_nowhere es c (λ m e lt. apart m e (all m lt) lt)) (at_first c valid);
   }
 
-  module _ (held : Contents) (left later : Indices) (k : ℕ) (passes : Passes left later k) (here : left k) (x : Mention) (within : k < length es) (is : get_or es k x ≡ x) (walks : Walks es first last held left) where
+  module _ (held : Contents) (left later : Indices) (k : ℕ) (passes : Passes left later k) (here : left k) (x : Mention) (within : k < length es)
+      (is : get_or es k x ≡ x) (walks : Walks es first last held left) where
     read_here : (e : Mention) → get_or es k e ≡ x
     read_here e = get_or_default es k e x within ∙ is
 
@@ -79,11 +90,13 @@ module _ (es : List Mention) (sorted : IsSorted es) (first last : Wanted) where
       ]
     ]
 
-    pub walk_goes_on : (after : Contents) → last x.0 (after x.0) → ((c : Capability) → IsCapability c → c ≢ x.0 → after c ≡ held c) → Walks es first last after later
+    pub walk_goes_on : (after : Contents) → last x.0 (after x.0) → ((c : Capability) → IsCapability c → c ≢ x.0 → after c ≡ held c)
+        → Walks es first last after later
     walk_goes_on after done others = record {
       ahead = λ m e is_left lt.
           let c = (get_or es m e).0 in
-          subst (first c) (sym (others c (sorted.agree m e lt).0 (apart_elsewhere m e (passes.is_passed m is_left) lt))) (walks.ahead m e (passes.was_left m is_left) lt);
+          subst (first c) (sym (others c (sorted.agree m e lt).0 (apart_elsewhere m e (passes.is_passed m is_left) lt)))
+          (walks.ahead m e (passes.was_left m is_left) lt);
       behind = λ c valid apart. elim (same_capability x.0 c) as (λ b. same_capability x.0 c ≡ b → last c (after c)) [
         | true ↦ λ e. subst (λ d. last d (after d)) (same_capability-true x.0 c e) done
         | false ↦ λ e.
@@ -92,7 +105,8 @@ module _ (es : List Mention) (sorted : IsSorted es) (first last : Wanted) where
       ] refl;
     }
 
-  pub walk_ends : (held : Contents) (left : Indices) → ((m : ℕ) → left m → m < length es → ⊥) → Walks es first last held left → (c : Capability) → IsCapability c → last c (held c)
+  pub walk_ends : (held : Contents) (left : Indices) → ((m : ℕ) → left m → m < length es → ⊥) → Walks es first last held left → (c : Capability)
+      → IsCapability c → last c (held c)
   walk_ends held left none walks c valid = walks.behind c valid (λ m e here lt. absurd (none m here lt))
 
 -- ---- one capability given another content
@@ -130,7 +144,8 @@ nothing_comes old new c held none left =
 
 -- ---- the walks over slices
 
-module _ (xs : List (Capability × Value)) (sorted : IsSorted (entries_of xs)) (k : ℕ) (x : Capability × Value) (within : k < length xs) (item : x ≡ get_or xs k x) where
+module _ (xs : List (Capability × Value)) (sorted : IsSorted (entries_of xs)) (k : ℕ) (x : Capability × Value) (within : k < length xs)
+    (item : x ≡ get_or xs k x) where
   inside : k < length (entries_of xs)
   inside = rw length-map within
 
@@ -138,14 +153,17 @@ module _ (xs : List (Capability × Value)) (sorted : IsSorted (entries_of xs)) (
   entry_agrees = (subst (λ (y : Mention). IsCapability y.0 × Agrees y.0 y.1) (item_read xs k x within item) (sorted.agree k (x.0, content_of x.1) inside)).1
 
   entry_said : contents (entries_of xs) x.0 ≡ Some (content_of x.1)
-  entry_said = let e : Mention = (x.0, content_of x.1) in subst (λ (y : Mention). contents (entries_of xs) y.0 ≡ Some y.1) (item_read xs k x within item) (contents_read (entries_of xs) sorted k e inside)
+  entry_said = let e : Mention = (x.0, content_of x.1) in subst (λ (y : Mention). contents (entries_of xs) y.0 ≡ Some y.1) (item_read xs k x within item)
+      (contents_read (entries_of xs) sorted k e inside)
 
   module _ (other held : Contents) (left later : Indices) (passes : Passes left later k) (here : left k) where
     module _ (walks : Walks (entries_of xs) (says (contents (entries_of xs))) (leaves (contents (entries_of xs)) other) held left) where
       pub old_held : held x.0 ≡ without_cancel (Some (content_of x.1))
-      old_held = first_here (entries_of xs) sorted _ _ held left later k passes here (x.0, content_of x.1) inside (item_read xs k x within item) walks ∙ ap without_cancel entry_said
+      old_held = first_here (entries_of xs) sorted _ _ held left later k passes here (x.0, content_of x.1) inside (item_read xs k x within item) walks
+          ∙ ap without_cancel entry_said
 
-      pub one_taken_away : (after : Contents) → IsLeft (Some (content_of x.1)) (other x.0) (after x.0) → ((c : Capability) → IsCapability c → c ≢ x.0 → after c ≡ held c)
+      pub one_taken_away : (after : Contents) → IsLeft (Some (content_of x.1)) (other x.0) (after x.0)
+          → ((c : Capability) → IsCapability c → c ≢ x.0 → after c ≡ held c)
           → Walks (entries_of xs) (says (contents (entries_of xs))) (leaves (contents (entries_of xs)) other) after later
       one_taken_away after is_left same_elsewhere =
           walk_goes_on (entries_of xs) sorted _ _ held left later k passes here (x.0, content_of x.1) inside (item_read xs k x within item) walks after
@@ -153,7 +171,8 @@ module _ (xs : List (Capability × Value)) (sorted : IsSorted (entries_of xs)) (
 
     module _ (walks : Walks (entries_of xs) (leaves other (contents (entries_of xs))) (says (contents (entries_of xs))) held left) where
       pub old_left : IsLeft (other x.0) (Some (content_of x.1)) (held x.0)
-      old_left = subst (λ o. IsLeft (other x.0) o (held x.0)) entry_said (first_here (entries_of xs) sorted _ _ held left later k passes here (x.0, content_of x.1) inside (item_read xs k x within item) walks)
+      old_left = subst (λ o. IsLeft (other x.0) o (held x.0)) entry_said
+          (first_here (entries_of xs) sorted _ _ held left later k passes here (x.0, content_of x.1) inside (item_read xs k x within item) walks)
 
       pub one_given : (after : Contents) → after x.0 ≡ without_cancel (Some (content_of x.1)) → ((c : Capability) → IsCapability c → c ≢ x.0 → after c ≡ held c)
           → Walks (entries_of xs) (leaves other (contents (entries_of xs))) (says (contents (entries_of xs))) after later

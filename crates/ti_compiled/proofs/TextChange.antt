@@ -1,5 +1,6 @@
 -- An image in which a string changes, byte for byte.
-use Rattle.std.proofs.Common.{◌≡◌, ◌≢◌, ℕ, zero, suc, ◌+◌, ◌-◌, ◌<◌, ◌≤◌, List, [], ◌++◌, length, Option, Some, None, refl, sym, ap, ◌∙◌, append_assoc, append-nil, arith}
+use Rattle.std.proofs.Common.{◌≡◌, ◌≢◌, ℕ, zero, suc, ◌+◌, ◌-◌, ◌<◌, ◌≤◌, List, [], ◌++◌, length, Option, Some, None, refl, sym, ap, ◌∙◌, append_assoc}
+use Rattle.std.proofs.Common.{append-nil, arith}
 use Rattle.std.proofs.lemmas.List.{length-append}
 use Rattle.ti_caps.specs.Tables.{capability}
 use Rattle.ti_caps.specs.declared.capability.Kind.TheVariants.{Text}
@@ -19,14 +20,16 @@ module _ (c g : Contents) (index : ℕ) (others : (j : ℕ) → j ≢ index → 
   texts_before n le = texts-same g c n (λ i lt. ap text_piece (others i (λ same. omega arith)))
 
   abbrev Ends : ℕ → Type 0
-  Ends n = (tail : List ℕ) × (texts_below c n ≡ texts_below c index ++ (text_piece (of_kind c Text index) ++ tail)) × (texts_below g n ≡ texts_below c index ++ (text_piece (of_kind g Text index) ++ tail))
+  Ends n = (tail : List ℕ) × (texts_below c n ≡ texts_below c index ++ (text_piece (of_kind c Text index) ++ tail))
+      × (texts_below g n ≡ texts_below c index ++ (text_piece (of_kind g Text index) ++ tail))
 
   pub texts_about : (k : ℕ) → Ends (index + 1 + k)
   texts_about zero =
       let e : index + 1 + 0 ≡ index + 1 = omega arith in (
         [],
         ap (texts_below c) e ∙ texts-more c index ∙ ap (λ t. texts_below c index ++ t) (sym (append-nil (text_piece (of_kind c Text index)))),
-        ap (texts_below g) e ∙ texts-more g index ∙ ap (λ t. t ++ text_piece (of_kind g Text index)) (texts_before index (omega arith)) ∙ ap (λ t. texts_below c index ++ t) (sym (append-nil (text_piece (of_kind g Text index)))),
+        ap (texts_below g) e ∙ texts-more g index ∙ ap (λ t. t ++ text_piece (of_kind g Text index)) (texts_before index (omega arith))
+            ∙ ap (λ t. texts_below c index ++ t) (sym (append-nil (text_piece (of_kind g Text index)))),
       )
   texts_about (suc k) =
       let e : index + 1 + suc k ≡ (index + 1 + k) + 1 = omega arith in
@@ -37,12 +40,14 @@ module _ (c g : Contents) (index : ℕ) (others : (j : ℕ) → j ≢ index → 
         a.0 ++ last,
         ap (texts_below c) e ∙ texts-more c n ∙ ap (λ t. t ++ last) a.1 ∙ append_assoc (texts_below c index) (text_piece (of_kind c Text index) ++ a.0) last
             ∙ ap (λ t. texts_below c index ++ t) (append_assoc (text_piece (of_kind c Text index)) a.0 last),
-        ap (texts_below g) e ∙ texts-more g n ∙ ap (λ t. texts_below g n ++ t) same ∙ ap (λ t. t ++ last) a.2 ∙ append_assoc (texts_below c index) (text_piece (of_kind g Text index) ++ a.0) last
+        ap (texts_below g) e ∙ texts-more g n ∙ ap (λ t. texts_below g n ++ t) same ∙ ap (λ t. t ++ last) a.2
+            ∙ append_assoc (texts_below c index) (text_piece (of_kind g Text index) ++ a.0) last
             ∙ ap (λ t. texts_below c index ++ t) (append_assoc (text_piece (of_kind g Text index)) a.0 last),
       )
 
   -- what the tables have besides the string
-  pub lengths_about : (n : ℕ) → index < n → length (texts_below g n) + length (text_piece (of_kind c Text index)) ≡ length (texts_below c n) + length (text_piece (of_kind g Text index))
+  pub lengths_about : (n : ℕ) → index < n → length (texts_below g n) + length (text_piece (of_kind c Text index))
+      ≡ length (texts_below c n) + length (text_piece (of_kind g Text index))
   lengths_about n lt =
       let e : index + 1 + (n - (index + 1)) ≡ n = omega arith in
       let a = texts_about (n - (index + 1)) in

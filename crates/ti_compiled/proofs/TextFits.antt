@@ -29,10 +29,12 @@ pub record Lengths (len start end place removed added old_texts new_texts room :
   pub wanted : 2 * new_texts ≤ 828
   pub grows : removed ≤ end
 
-same_place : (w v : Format) (n f m n' f' m' : ℕ) → w ≡ v → n ≡ n' → f ≡ f' → m ≡ m' → 12 + n + f + (n + f) % 2 + width w * m ≡ 12 + n' + f' + (n' + f') % 2 + width v * m'
+same_place : (w v : Format) (n f m n' f' m' : ℕ) → w ≡ v → n ≡ n' → f ≡ f' → m ≡ m' → 12 + n + f + (n + f) % 2 + width w * m
+    ≡ 12 + n' + f' + (n' + f') % 2 + width v * m'
 same_place w v n f m n' f' m' a b c d = rw (a, b, c, d) refl
 
-plain : (start end place removed room added len from T U s u x m : ℕ) → end ≡ start + x → removed ≡ end - start → end ≤ s → len ≤ 32768 → place ≡ from → from + 2 * T + s ≡ len → m ≡ from + 2 * U + u
+plain : (start end place removed room added len from T U s u x m : ℕ) → end ≡ start + x → removed ≡ end - start → end ≤ s → len ≤ 32768 → place ≡ from
+    → from + 2 * T + s ≡ len → m ≡ from + 2 * U + u
     → u + x ≡ s + added → m ≤ room → m ≤ 32768 → 12 ≤ from → T ≤ 414 → U ≤ 414 → x ≤ s → Lengths len start end place removed added T U room
 plain start end place removed room added len from T U s u x m e r i l p w t q le small h tf uf y = record {
   removed_is = r;
@@ -47,11 +49,15 @@ plain start end place removed room added len from T U s u x m e r i l p w t q le
   grows = omega arith;
 }
 
-module _ (b : List ℕ) (is : IsImage b) (h : Header) (has : HasSizes (names_in b) (contents_in b) h) (index : ℕ) (within : index < 414) (t : Option (List ℕ)) (k : Header)
+module _ (b : List ℕ) (is : IsImage b) (h : Header) (has : HasSizes (names_in b) (contents_in b) h) (index : ℕ) (within : index < 414) (t : Option (List ℕ))
+    (k : Header)
     (sizes : HasSizes (names_in b) (with_content (contents_in b) (capability Text index) (text_content t)) k)
-    (small : length (image (names_in b) (with_content (contents_in b) (capability Text index) (text_content t))) ≤ image_limit (with_content (contents_in b) (capability Text index) (text_content t))) where
-  pub lengths : (start end place removed room added : ℕ) → start ≡ length (texts_below (contents_in b) index) → end ≡ length (texts_below (contents_in b) (index + 1)) → place ≡ offsets_from h → removed ≡ end - start
-      → added ≡ length (ended_text t) → length (image (names_in b) (with_content (contents_in b) (capability Text index) (text_content t))) ≤ room → Lengths (length b) start end place removed added h.texts k.texts room
+    (small : length (image (names_in b) (with_content (contents_in b) (capability Text index) (text_content t))) ≤ image_limit
+    (with_content (contents_in b) (capability Text index) (text_content t))) where
+  pub lengths : (start end place removed room added : ℕ) → start ≡ length (texts_below (contents_in b) index)
+      → end ≡ length (texts_below (contents_in b) (index + 1)) → place ≡ offsets_from h → removed ≡ end - start
+      → added ≡ length (ended_text t) → length (image (names_in b) (with_content (contents_in b) (capability Text index) (text_content t))) ≤ room
+      → Lengths (length b) start end place removed added h.texts k.texts room
   lengths start end place removed room added es ee ep er ea le =
       let c = contents_in b in
       let g = with_content (contents_in b) (capability Text index) (text_content t) in
@@ -61,25 +67,32 @@ module _ (b : List ℕ) (is : IsImage b) (h : Header) (has : HasSizes (names_in 
       let whole = texts_within b is h has in
       let long = length_sized (names_in b) g k sizes in
       let place_k : offsets_from k ≡ offsets_from h =
-      same_place k.format h.format k.names k.flags k.numbers h.names h.flags h.numbers (sizes.format ∙ sym has.format) (sizes.names ∙ sym has.names) (sizes.flags ∙ sym has.flags) (sizes.numbers ∙ sym has.numbers) in
+      same_place k.format h.format k.names k.flags k.numbers h.names h.flags h.numbers (sizes.format ∙ sym has.format) (sizes.names ∙ sym has.names)
+      (sizes.flags ∙ sym has.flags) (sizes.numbers ∙ sym has.numbers) in
       let most = limit-le (format_of g) in
       let most_c = limit-le (format_of c) in
       let within_c = is.imaged.within in
       let len = ap (λ (x : List ℕ). length x) is.whole in
       let tf = has.texts_fit in
       let kf = sizes.texts_fit in
-      let total : length (image (names_in b) g) ≡ offsets_from h + 2 * k.texts + length (texts_below g (written_count g Text)) = long ∙ ap (λ p. p + 2 * k.texts + length (texts_below g (written_count g Text))) place_k in
-      plain start end place removed room added (length b) (offsets_from h) h.texts k.texts (length (texts_below c (written_count c Text))) (length (texts_below g (written_count g Text)))
+      let total : length (image (names_in b) g) ≡ offsets_from h + 2 * k.texts + length (texts_below g (written_count g Text)) =
+      long ∙ ap (λ p. p + 2 * k.texts + length (texts_below g (written_count g Text))) place_k in
+      plain start end place removed room added (length b) (offsets_from h) h.texts k.texts (length (texts_below c (written_count c Text)))
+      (length (texts_below g (written_count g Text)))
       (length (text_piece (of_kind c Text index))) (length (image (names_in b) g))
       (omega arith) er (omega arith) (omega arith) ep (omega arith) total (omega arith) le (omega arith) (omega arith) tf kf (omega arith)
 
   -- how long the image is, by what calls answer that are given the bytes
-  pub lengths_of : (x y : List ℕ) (start end place room added : ℕ) → x ≡ b → y ≡ b → start ≡ length (texts_below (contents_in x) index) → end ≡ length (texts_below (contents_in y) (index + 1)) → place ≡ offsets_from h
-      → added ≡ length (ended_text t) → length (image (names_in b) (with_content (contents_in b) (capability Text index) (text_content t))) ≤ room → Lengths (length b) start end place (end - start) added h.texts k.texts room
+  pub lengths_of : (x y : List ℕ) (start end place room added : ℕ) → x ≡ b → y ≡ b → start ≡ length (texts_below (contents_in x) index)
+      → end ≡ length (texts_below (contents_in y) (index + 1)) → place ≡ offsets_from h
+      → added ≡ length (ended_text t) → length (image (names_in b) (with_content (contents_in b) (capability Text index) (text_content t))) ≤ room
+      → Lengths (length b) start end place (end - start) added h.texts k.texts room
   lengths_of x y start end place room added ex ey es ee ep ea le =
-      lengths start end place (end - start) room added (es ∙ ap (λ z. length (texts_below (contents_in z) index)) ex) (ee ∙ ap (λ z. length (texts_below (contents_in z) (index + 1))) ey) ep refl ea le
+      lengths start end place (end - start) room added (es ∙ ap (λ z. length (texts_below (contents_in z) index)) ex)
+      (ee ∙ ap (λ z. length (texts_below (contents_in z) (index + 1))) ey) ep refl ea le
 
-  pub removed_found : (x y : List ℕ) (start end : ℕ) → x ≡ b → y ≡ b → start ≡ length (texts_below (contents_in x) index) → end ≡ length (texts_below (contents_in y) (index + 1)) → end - start ≡ length (text_piece (of_kind (contents_in b) Text index))
+  pub removed_found : (x y : List ℕ) (start end : ℕ) → x ≡ b → y ≡ b → start ≡ length (texts_below (contents_in x) index)
+      → end ≡ length (texts_below (contents_in y) (index + 1)) → end - start ≡ length (text_piece (of_kind (contents_in b) Text index))
   removed_found x y start end ex ey es ee =
       let ends = text_ends b is h has index within t in
       let s : start ≡ length (texts_below (contents_in b) index) = es ∙ ap (λ z. length (texts_below (contents_in z) index)) ex in
@@ -96,6 +109,7 @@ module _ (b : List ℕ) (is : IsImage b) (h : Header) (has : HasSizes (names_in 
         let T = has.texts in
         let U = sizes.texts in
         let there : is_there (of_kind g Text index) ≡ true = ap is_there (here b is h has index within t ∙ ap text_content e) in
-        let count = count-put (of_kind c Text) (of_kind g Text) 414 index within (others b is h has index within t) there (max (written_count c Text) (suc index)) refl in
+        let count = count-put (of_kind c Text) (of_kind g Text) 414 index within (others b is h has index within t) there
+        (max (written_count c Text) (suc index)) refl in
         inr (omega arith)
   ] refl

@@ -1,12 +1,14 @@
 -- The strings of an image: their offsets, and where they are.
-use Rattle.std.proofs.Common.{◌≡◌, ◌≢◌, ℕ, suc, ◌+◌, ◌-◌, ◌*◌, ◌%◌, ◌<◌, ◌≤◌, true, false, List, [], ◌∷◌, ◌++◌, length, Option, Some, None, refl, sym, ap, ◌∙◌, subst, append_assoc, arith, inl, inr}
+use Rattle.std.proofs.Common.{◌≡◌, ◌≢◌, ℕ, suc, ◌+◌, ◌-◌, ◌*◌, ◌%◌, ◌<◌, ◌≤◌, true, false, List, [], ◌∷◌, ◌++◌, length, Option, Some, None, refl, sym, ap}
+use Rattle.std.proofs.Common.{◌∙◌, subst, append_assoc, arith, inl, inr}
 use Rattle.std.proofs.lemmas.Bool.{cases_lt}
 use Rattle.std.proofs.lemmas.List.{length-append, length-replicate}
 use Rattle.ti_caps.specs.Tables.{capability}
 use Rattle.ti_caps.specs.declared.capability.Kind.TheVariants.{Flag, Number, Text}
 use Rattle.ti_layout.specs.declared.layout.Format.TheVariants.{Legacy}
 use Rattle.ti_layout.specs.declared.header.Header.{Header}
-use Rattle.ti_layout.specs.Image.{image, image_in, below, even_gap, flags_below, format_of, is_there, numbers_below, of_kind, offset_value, offsets_below, text_piece, texts_below, written_count}
+use Rattle.ti_layout.specs.Image.{image, image_in, below, even_gap, flags_below, format_of, is_there, numbers_below, of_kind, offset_value, offsets_below}
+use Rattle.ti_layout.specs.Image.{text_piece, texts_below, written_count}
 use Rattle.ti_layout.specs.Layout.{header, number_section, width}
 use Rattle.ti_layout.specs.Laws.{without_cancel}
 use Rattle.ti_layout.specs.Reading.{word_at}
@@ -96,13 +98,17 @@ module _ (names : List ℕ) (c : Contents) (is : IsImaged names c) where
 -- what is before the offsets, after the header
 abbrev pub middle : List ℕ → Contents → List ℕ
 middle names c =
-    names ++ 0 ∷ [] ++ flags_below c (written_count c Flag) ++ even_gap names (written_count c Flag) ++ number_section (format_of c) (numbers_below (format_of c) c (written_count c Number))
+    names ++ 0 ∷ [] ++ flags_below c (written_count c Flag) ++ even_gap names (written_count c Flag)
+    ++ number_section (format_of c) (numbers_below (format_of c) c (written_count c Number))
 
 abbrev pub head_of : List ℕ → Contents → List ℕ
 head_of names c =
-    header (format_of c) (suc (length names)) (length (flags_below c (written_count c Flag))) (length (numbers_below (format_of c) c (written_count c Number))) (length (offsets_below c (written_count c Text))) (length (texts_below c (written_count c Text)))
+    header (format_of c) (suc (length names)) (length (flags_below c (written_count c Flag)))
+    (length (numbers_below (format_of c) c (written_count c Number))) (length (offsets_below c (written_count c Text)))
+    (length (texts_below c (written_count c Text)))
 
-pub text_frame : (names : List ℕ) (c : Contents) → image names c ≡ head_of names c ++ (middle names c ++ (number_section Legacy (offsets_below c (written_count c Text)) ++ (texts_below c (written_count c Text) ++ [])))
+pub text_frame : (names : List ℕ) (c : Contents) → image names c ≡ head_of names c
+    ++ (middle names c ++ (number_section Legacy (offsets_below c (written_count c Text)) ++ (texts_below c (written_count c Text) ++ [])))
 unfolding image image_in
 text_frame names c =
     nine (head_of names c) names (0 ∷ []) (flags_below c (written_count c Flag)) (even_gap names (written_count c Flag))
@@ -110,17 +116,21 @@ text_frame names c =
     (texts_below c (written_count c Text)) []
 
 pub length_head : (names : List ℕ) (c : Contents) → length (head_of names c) ≡ 12
-length_head names c = length-header (format_of c) (suc (length names)) (length (flags_below c (written_count c Flag))) (length (numbers_below (format_of c) c (written_count c Number))) (length (offsets_below c (written_count c Text))) (length (texts_below c (written_count c Text)))
+length_head names c = length-header (format_of c) (suc (length names)) (length (flags_below c (written_count c Flag)))
+    (length (numbers_below (format_of c) c (written_count c Number))) (length (offsets_below c (written_count c Text)))
+    (length (texts_below c (written_count c Text)))
 
 pub length_middle : (names : List ℕ) (c : Contents)
-    → length (middle names c) ≡ suc (length names) + written_count c Flag + (suc (length names) + written_count c Flag) % 2 + width (format_of c) * written_count c Number
+    → length (middle names c) ≡ suc (length names) + written_count c Flag + (suc (length names) + written_count c Flag) % 2 + width
+    (format_of c) * written_count c Number
 length_middle names c =
     let F = written_count c Flag in
     let N = written_count c Number in
     let l = length-five names (0 ∷ []) (flags_below c F) (even_gap names F) (number_section (format_of c) (numbers_below (format_of c) c N)) in
     let f : length (flags_below c F) ≡ F = length-below _ F in
     let g : length (even_gap names F) ≡ (suc (length names) + F) % 2 = length-replicate ((suc (length names) + F) % 2) 0 in
-    let m : length (number_section (format_of c) (numbers_below (format_of c) c N)) ≡ width (format_of c) * N = length-spelled (format_of c) (numbers_below (format_of c) c N) ∙ ap (λ k. width (format_of c) * k) (length-below _ N) in
+    let m : length (number_section (format_of c) (numbers_below (format_of c) c N)) ≡ width (format_of c) * N =
+    length-spelled (format_of c) (numbers_below (format_of c) c N) ∙ ap (λ k. width (format_of c) * k) (length-below _ N) in
     omega arith
 
 -- where the offsets begin, by a header
@@ -135,22 +145,30 @@ length_front names c h has =
     rw (has.format, has.names, has.flags, has.numbers) (omega arith)
 
 pub text_parts : (b names : List ℕ) (c : Contents) → b ≡ image names c
-    → b ≡ (head_of names c ++ middle names c) ++ (number_section Legacy (below (offset_of c) (written_count c Text)) ++ (texts_below c (written_count c Text) ++ []))
-text_parts b names c whole = whole ∙ text_frame names c ∙ sym (append_assoc (head_of names c) (middle names c) (number_section Legacy (offsets_below c (written_count c Text)) ++ (texts_below c (written_count c Text) ++ [])))
+    → b ≡ (head_of names c ++ middle names c) ++ (number_section Legacy (below (offset_of c) (written_count c Text))
+    ++ (texts_below c (written_count c Text) ++ []))
+text_parts b names c whole = whole ∙ text_frame names c
+    ∙ sym (append_assoc (head_of names c) (middle names c) (number_section Legacy (offsets_below c (written_count c Text))
+    ++ (texts_below c (written_count c Text) ++ [])))
 
 -- the offset in the bytes
-pub offset_read : (b : List ℕ) (is : IsImage b) (h : Header) → HasSizes (names_in b) (contents_in b) h → (j : ℕ) → j < h.texts → word_at (offsets_from h + 2 * j) b ≡ offset_of (contents_in b) j
+pub offset_read : (b : List ℕ) (is : IsImage b) (h : Header) → HasSizes (names_in b) (contents_in b) h → (j : ℕ) → j < h.texts
+    → word_at (offsets_from h + 2 * j) b ≡ offset_of (contents_in b) j
 offset_read b is h has j lt =
     let c = contents_in b in
     let T = has.texts in
-    place-get Legacy (head_of (names_in b) c ++ middle (names_in b) c) (texts_below c (written_count c Text) ++ []) (offsets_from h) (length_front (names_in b) c h has) b (offset_of c) (written_count c Text) j
+    place-get Legacy (head_of (names_in b) c ++ middle (names_in b) c) (texts_below c (written_count c Text) ++ []) (offsets_from h)
+    (length_front (names_in b) c h has) b (offset_of c) (written_count c Text) j
     (offset_tells (names_in b) c is.imaged j).fits (omega arith) (text_parts b (names_in b) c is.whole)
 
-pub texts_within : (b : List ℕ) (is : IsImage b) (h : Header) → HasSizes (names_in b) (contents_in b) h → offsets_from h + 2 * h.texts + length (texts_below (contents_in b) (written_count (contents_in b) Text)) ≡ length b
+pub texts_within : (b : List ℕ) (is : IsImage b) (h : Header) → HasSizes (names_in b) (contents_in b) h
+    → offsets_from h + 2 * h.texts + length (texts_below (contents_in b) (written_count (contents_in b) Text)) ≡ length b
 texts_within b is h has = sym (ap (λ (x : List ℕ). length x) is.whole ∙ length_sized (names_in b) (contents_in b) h has)
 
-pub strings_exact : (b : List ℕ) (is : IsImage b) (h : Header) → HasSizes (names_in b) (contents_in b) h → h.strings ≡ length (texts_below (contents_in b) (written_count (contents_in b) Text))
+pub strings_exact : (b : List ℕ) (is : IsImage b) (h : Header) → HasSizes (names_in b) (contents_in b) h
+    → h.strings ≡ length (texts_below (contents_in b) (written_count (contents_in b) Text))
 strings_exact b is h has = let s = table_small (names_in b) (contents_in b) is.imaged in let e = has.strings in omega arith
 
-pub offset_found : (b : List ℕ) (is : IsImage b) (h : Header) → HasSizes (names_in b) (contents_in b) h → (place j offset : ℕ) → place ≡ offsets_from h → j < h.texts → offset ≡ word_at (place + 2 * j) b → offset ≡ offset_of (contents_in b) j
+pub offset_found : (b : List ℕ) (is : IsImage b) (h : Header) → HasSizes (names_in b) (contents_in b) h → (place j offset : ℕ) → place ≡ offsets_from h
+    → j < h.texts → offset ≡ word_at (place + 2 * j) b → offset ≡ offset_of (contents_in b) j
 offset_found b is h has place j offset e lt value = value ∙ ap (λ p. word_at (p + 2 * j) b) e ∙ offset_read b is h has j lt

@@ -19,7 +19,8 @@ use Rattle.ti_compiled.proofs.Given.{HoldsNoOther, given_here, given_place, give
 use Rattle.ti_compiled.proofs.TextChange.{piece_of, lengths_about}
 use Rattle.ti_compiled.proofs.TextPlaces.{offset_tells, offset_found, offsets_from, table_small, strings_exact, texts_end, texts_past}
 
-module _ (b : List ℕ) (is : IsImage b) (h : Header) (has : HasSizes (names_in b) (contents_in b) h) (index : ℕ) (within : index < 414) (t : Option (List ℕ)) where
+module _ (b : List ℕ) (is : IsImage b) (h : Header) (has : HasSizes (names_in b) (contents_in b) h) (index : ℕ) (within : index < 414)
+    (t : Option (List ℕ)) where
   abbrev c : Contents
   c = contents_in b
 
@@ -39,7 +40,8 @@ module _ (b : List ℕ) (is : IsImage b) (h : Header) (has : HasSizes (names_in 
   count_le d = last_passing-le (λ j. is_there (of_kind d Text j)) 414
 
   -- the size of the string, and of all strings
-  pub text_ends : length (texts_below (contents_in b) (index + 1)) ≡ length (texts_below (contents_in b) index) + length (text_piece (of_kind (contents_in b) Text index))
+  pub text_ends : length (texts_below (contents_in b) (index + 1)) ≡ length (texts_below (contents_in b) index) + length
+      (text_piece (of_kind (contents_in b) Text index))
   text_ends = ap (λ (x : List ℕ). length x) (texts-more c index) ∙ length-append (texts_below c index) (text_piece (of_kind c Text index))
 
   pub text_within : length (texts_below (contents_in b) (index + 1)) ≤ length (texts_below (contents_in b) (written_count (contents_in b) Text))
@@ -48,11 +50,13 @@ module _ (b : List ℕ) (is : IsImage b) (h : Header) (has : HasSizes (names_in 
       let e = ap (λ (x : List ℕ). length x) (texts_past (names_in b) c is.imaged 414 (count_le c)) in
       omega arith
 
-  pub table_length : length (texts_below (with_content (contents_in b) (capability Text index) (text_content t)) (written_count (with_content (contents_in b) (capability Text index) (text_content t)) Text)) + length (text_piece (of_kind (contents_in b) Text index))
+  pub table_length : length (texts_below (with_content (contents_in b) (capability Text index) (text_content t))
+      (written_count (with_content (contents_in b) (capability Text index) (text_content t)) Text)) + length (text_piece (of_kind (contents_in b) Text index))
       ≡ length (texts_below (contents_in b) (written_count (contents_in b) Text)) + length (ended_text t)
   table_length =
       let l = lengths_about c g index others 414 within in
-      let p : length (text_piece (of_kind g Text index)) ≡ length (ended_text t) = ap (λ o. length (text_piece o)) here ∙ ap (λ (x : List ℕ). length x) (piece_of t) in
+      let p : length (text_piece (of_kind g Text index)) ≡ length (ended_text t) =
+      ap (λ o. length (text_piece o)) here ∙ ap (λ (x : List ℕ). length x) (piece_of t) in
       let e = ap (λ (x : List ℕ). length x) (texts_past (names_in b) c is.imaged 414 (count_le c)) in
       let f = ap (λ (x : List ℕ). length x) (texts_end g past_g 414 (count_le g)) in
       omega arith
@@ -79,7 +83,8 @@ module _ (b : List ℕ) (is : IsImage b) (h : Header) (has : HasSizes (names_in 
     removed_le = let l = text_within in let x = strings_exact b is h has in omega arith
 
     -- the table with only the other strings
-    pub others_sum : length (texts_below (with_content (contents_in b) (capability Text index) (text_content t)) (written_count (with_content (contents_in b) (capability Text index) (text_content t)) Text)) ≡ h.strings - (end - start) + length (ended_text t)
+    pub others_sum : length (texts_below (with_content (contents_in b) (capability Text index) (text_content t))
+        (written_count (with_content (contents_in b) (capability Text index) (text_content t)) Text)) ≡ h.strings - (end - start) + length (ended_text t)
     others_sum =
         let l = text_ends in
         let w = text_within in
@@ -87,13 +92,16 @@ module _ (b : List ℕ) (is : IsImage b) (h : Header) (has : HasSizes (names_in 
         let y = table_length in
         omega arith
 
-    pub sizes_given : (m n k : ℕ) → is_there (text_content t) ≡ true → m ≡ max h.texts (index + 1) → n ≡ min (h.strings - (end - start) + k) (2 ^ 64 - 1) → length (ended_text t) ≡ k + 1 → (z : ℕ) → z ≡ min (n + 1) (2 ^ 64 - 1)
-        → HasSizes (names_in b) (with_content (contents_in b) (capability Text index) (text_content t)) (record { format = h.format; names = h.names; flags = h.flags; numbers = h.numbers; texts = m; strings = z })
+    pub sizes_given : (m n k : ℕ) → is_there (text_content t) ≡ true → m ≡ max h.texts (index + 1) → n ≡ min (h.strings - (end - start) + k) (2 ^ 64 - 1)
+        → length (ended_text t) ≡ k + 1 → (z : ℕ) → z ≡ min (n + 1) (2 ^ 64 - 1)
+        → HasSizes (names_in b) (with_content (contents_in b) (capability Text index) (text_content t))
+        (record { format = h.format; names = h.names; flags = h.flags; numbers = h.numbers; texts = m; strings = z })
     sizes_given m n k there em en lk z ez =
         let T = has.texts in
         let fit = has.texts_fit in
         let o = others_sum in
-        with_texts m z (count-put (of_kind c Text) (of_kind g Text) 414 index within others (ap is_there here ∙ there) m (omega arith)) (omega arith) (omega arith)
+        with_texts m z (count-put (of_kind c Text) (of_kind g Text) 414 index within others (ap is_there here ∙ there) m (omega arith)) (omega arith)
+        (omega arith)
 
     module _ (none : t ≡ None) where
       gone : is_there (of_kind g Text index) ≡ false
@@ -107,13 +115,17 @@ module _ (b : List ℕ) (is : IsImage b) (h : Header) (has : HasSizes (names_in 
           let small = table_small (names_in b) c is.imaged in
           omega arith
 
-      pub sizes_other : index + 1 ≢ h.texts → HasSizes (names_in b) (with_content (contents_in b) (capability Text index) (text_content t)) (record { format = h.format; names = h.names; flags = h.flags; numbers = h.numbers; texts = h.texts; strings = h.strings - (end - start) })
+      pub sizes_other : index + 1 ≢ h.texts → HasSizes (names_in b) (with_content (contents_in b) (capability Text index) (text_content t))
+          (record { format = h.format; names = h.names; flags = h.flags; numbers = h.numbers; texts = h.texts; strings = h.strings - (end - start) })
       sizes_other other =
           let T = has.texts in
-          with_texts h.texts _ (count-unchanged (of_kind c Text) (of_kind g Text) 414 index within others gone (λ e. other (omega arith)) ∙ sym T) has.texts_fit sum
+          with_texts h.texts _ (count-unchanged (of_kind c Text) (of_kind g Text) 414 index within others gone (λ e. other (omega arith)) ∙ sym T)
+          has.texts_fit sum
 
-      pub sizes_last : (place m : ℕ) → place ≡ offsets_from h → index + 1 ≡ h.texts → m ≤ index → ((j : ℕ) → suc j ≡ m → word_at (place + 2 * j) b ≢ 65535) → ((j : ℕ) → m ≤ j → j < index → word_at (place + 2 * j) b ≡ 65535)
-          → HasSizes (names_in b) (with_content (contents_in b) (capability Text index) (text_content t)) (record { format = h.format; names = h.names; flags = h.flags; numbers = h.numbers; texts = m; strings = h.strings - (end - start) })
+      pub sizes_last : (place m : ℕ) → place ≡ offsets_from h → index + 1 ≡ h.texts → m ≤ index → ((j : ℕ) → suc j ≡ m → word_at (place + 2 * j) b ≢ 65535)
+          → ((j : ℕ) → m ≤ j → j < index → word_at (place + 2 * j) b ≡ 65535)
+          → HasSizes (names_in b) (with_content (contents_in b) (capability Text index) (text_content t))
+          (record { format = h.format; names = h.names; flags = h.flags; numbers = h.numbers; texts = m; strings = h.strings - (end - start) })
       sizes_last place m at last le there past =
           let T = has.texts in
           let fit = has.texts_fit in

@@ -1,5 +1,6 @@
 -- Lists that are made place by place, and the places that pass a test.
-use Rattle.std.proofs.Common.{◌≡◌, ℕ, zero, suc, ◌+◌, ◌<◌, ◌≤◌, Bool, true, false, cond, [], ◌∷◌, ◌++◌, length, get_or, replicate, Some, None, slice_get, refl, sym, ap, ◌∙◌, subst, append_assoc, arith, inl, inr, add-one}
+use Rattle.std.proofs.Common.{◌≡◌, ℕ, zero, suc, ◌+◌, ◌<◌, ◌≤◌, Bool, true, false, cond, [], ◌∷◌, ◌++◌, length, get_or, replicate, Some, None, slice_get}
+use Rattle.std.proofs.Common.{refl, sym, ap, ◌∙◌, subst, append_assoc, arith, inl, inr, add-one}
 use Rattle.std.proofs.lemmas.Bool.{cases_lt}
 use Rattle.std.proofs.lemmas.List.{length-append, get_or_append_left, get_or_at, append-nil, replicate_more}
 use Rattle.std.proofs.lemmas.Option.{slice_get-get_or, slice_get_past}
@@ -89,7 +90,8 @@ last_passing-same f g (suc n) each =
 pub last_passing-le : (test : ℕ → Bool) (n : ℕ) → last_passing test n ≤ n
 unfolding last_passing
 last_passing-le test zero = omega arith
-last_passing-le test (suc n) = elim (test n) as (λ b. cond b (suc n) (last_passing test n) ≤ suc n) [ true ↦ omega arith | false ↦ omega (arith, last_passing-le test n) ]
+last_passing-le test (suc n) =
+    elim (test n) as (λ b. cond b (suc n) (last_passing test n) ≤ suc n) [ true ↦ omega arith | false ↦ omega (arith, last_passing-le test n) ]
 
 pub last_passing-past : (test : ℕ → Bool) (n i : ℕ) → last_passing test n ≤ i → i < n → test i ≡ false
 unfolding last_passing
@@ -111,11 +113,13 @@ last_passing-over test n i lt passes = elim (cases_lt i (last_passing test n)) [
 ]
 
 -- what the end is: the place before it passes, and none from it on
-pub last_passing-is : (test : ℕ → Bool) (n p : ℕ) → p ≤ n → ((i : ℕ) → suc i ≡ p → test i ≡ true) → ((i : ℕ) → p ≤ i → i < n → test i ≡ false) → last_passing test n ≡ p
+pub last_passing-is : (test : ℕ → Bool) (n p : ℕ) → p ≤ n → ((i : ℕ) → suc i ≡ p → test i ≡ true) → ((i : ℕ) → p ≤ i → i < n → test i ≡ false)
+    → last_passing test n ≡ p
 unfolding last_passing
 last_passing-is test zero p le here past = omega arith
 last_passing-is test (suc n) p le here past = elim (cases_lt n p) [
   | inl top ↦ let one : suc n ≡ p = omega arith in ap (λ b. cond b (suc n) (last_passing test n)) (here n one) ∙ one
   | inr under ↦
-      ap (λ b. cond b (suc n) (last_passing test n)) (past n (omega arith) (omega arith)) ∙ last_passing-is test n p (omega arith) here (λ i low lt. past i low (omega arith))
+      ap (λ b. cond b (suc n) (last_passing test n)) (past n (omega arith) (omega arith))
+      ∙ last_passing-is test n p (omega arith) here (λ i low lt. past i low (omega arith))
 ]

@@ -1,5 +1,6 @@
 -- The numbers of a header, as the writer's walk counts them.
-use Rattle.std.proofs.Common.{◌≡◌, ℕ, suc, ◌+◌, ◌-◌, ◌^◌, ◌<◌, ◌≤◌, min, true, false, cond, List, [], ◌∷◌, ◌++◌, length, get_or, Option, Some, None, refl, sym, ap, ◌∙◌, subst, arith, inl, inr, length-append}
+use Rattle.std.proofs.Common.{◌≡◌, ℕ, suc, ◌+◌, ◌-◌, ◌^◌, ◌<◌, ◌≤◌, min, true, false, cond, List, [], ◌∷◌, ◌++◌, length, get_or, Option, Some, None, refl}
+use Rattle.std.proofs.Common.{sym, ap, ◌∙◌, subst, arith, inl, inr, length-append}
 use Rattle.std.proofs.lemmas.Bool.{cases_lt}
 use Rattle.std.proofs.lemmas.List.{get_or_default, length-map}
 use Rattle.ti_caps.specs.Tables.{Capability, IsCapability, capability}
@@ -53,14 +54,18 @@ module _ (xs : List (Capability × Value)) (sorted : IsSorted (entries_of xs)) w
     extended_wanted wide =
         let e : Mention = (x.0, content_of x.1) in
         let long : k < length (entries_of xs) = rw length-map within in
-        let is : is_of Number (get_or (entries_of xs) k e).1 ≡ true = ap (λ (y : Mention). is_of Number y.1) (entry_here e) ∙ wide_is_number (content_of x.1) wide in
+        let is : is_of Number (get_or (entries_of xs) k e).1 ≡ true =
+        ap (λ (y : Mention). is_of Number y.1) (entry_here e) ∙ wide_is_number (content_of x.1) wide in
         let kind : x.0.kind ≡ Number = sym (ap (λ (y : Mention). y.0.kind) (entry_here e)) ∙ kind_at (entries_of xs) sorted k e Number long is in
         let said : contents (entries_of xs) x.0 ≡ Some (content_of x.1) =
-        ap (λ (y : Mention). contents (entries_of xs) y.0) (sym (entry_here e)) ∙ contents_read (entries_of xs) sorted k e long ∙ ap (λ (y : Mention). Some y.1) (entry_here e) in
+        ap (λ (y : Mention). contents (entries_of xs) y.0) (sym (entry_here e)) ∙ contents_read (entries_of xs) sorted k e long
+        ∙ ap (λ (y : Mention). Some y.1) (entry_here e) in
         let valid : IsCapability x.0 = subst (λ (y : Mention). IsCapability y.0) (entry_here e) (sorted.agree k e long).0 in
         let fits : x.0.index < 39 = subst (λ (n : Kind). IsCapability (capability n x.0.index)) kind valid in
-        let here : of_kind (contents (entries_of xs)) Number x.0.index ≡ Some (content_of x.1) = ap (λ (n : Kind). contents (entries_of xs) (capability n x.0.index)) (sym kind) ∙ said in
-        ap (λ b. cond b Extended Legacy) (some_below-true (λ i. is_wide (of_kind (contents (entries_of xs)) Number i)) 39 x.0.index fits (ap is_wide here ∙ wide))
+        let here : of_kind (contents (entries_of xs)) Number x.0.index ≡ Some (content_of x.1) =
+        ap (λ (n : Kind). contents (entries_of xs) (capability n x.0.index)) (sym kind) ∙ said in
+        ap (λ b. cond b Extended Legacy) (some_below-true (λ i. is_wide (of_kind (contents (entries_of xs)) Number i)) 39 x.0.index fits
+        (ap is_wide here ∙ wide))
 
   narrow_said : AreNarrow (entries_of xs) (length xs) → (i : ℕ) (o : Option Content) → contents (entries_of xs) (capability Number i) ≡ o → is_wide o ≡ false
   narrow_said are i None said = refl
@@ -74,7 +79,8 @@ module _ (xs : List (Capability × Value)) (sorted : IsSorted (entries_of xs)) w
   pub legacy_wanted : (k : ℕ) → length xs ≤ k → AreNarrow (entries_of xs) k → format_of (contents (entries_of xs)) ≡ Legacy
   legacy_wanted k all are =
       let all_narrow : AreNarrow (entries_of xs) (length xs) = record { each = λ j e lt in_range. are.each j e (omega arith) in_range } in
-      ap (λ b. cond b Extended Legacy) (some_below-false (λ i. is_wide (of_kind (contents (entries_of xs)) Number i)) 39 (λ i lt. narrow_said all_narrow i (contents (entries_of xs) (capability Number i)) refl))
+      ap (λ b. cond b Extended Legacy) (some_below-false (λ i. is_wide (of_kind (contents (entries_of xs)) Number i)) 39
+      (λ i lt. narrow_said all_narrow i (contents (entries_of xs) (capability Number i)) refl))
 
 -- ---- the counts, and the size of the string table
 
@@ -95,12 +101,14 @@ counts_begun es =
     let none : length (texts_below (contents es) 0) ≡ 0 = ap (λ (t : List ℕ). length t) (texts-none (contents es)) in
     record { flags_walked = walked-start es Flag; numbers_walked = walked-start es Number; texts_walked = walked-start es Text; strings_are = omega arith }
 
-module _ (xs : List (Capability × Value)) (sorted : IsSorted (entries_of xs)) (k flags numbers texts strings : ℕ) (x : Capability × Value) (within : k < length xs) (item : x ≡ get_or xs k x)
+module _ (xs : List (Capability × Value)) (sorted : IsSorted (entries_of xs)) (k flags numbers texts strings : ℕ) (x : Capability × Value)
+    (within : k < length xs) (item : x ≡ get_or xs k x)
     (has : HasCounts (entries_of xs) k flags numbers texts strings) where
   past : (kind : Kind) (places : ℕ) → Walked (entries_of xs) kind k places → is_of kind (content_of x.1) ≡ false → Walked (entries_of xs) kind (k + 1) places
   past kind places walked other = passed xs sorted k places x within item kind places walked other refl
 
-  over : (kind : Kind) (places next index : ℕ) → Walked (entries_of xs) kind k places → is_of kind (content_of x.1) ≡ true → next ≡ index + 1 → index ≡ x.0.index → Walked (entries_of xs) kind (k + 1) next
+  over : (kind : Kind) (places next index : ℕ) → Walked (entries_of xs) kind k places → is_of kind (content_of x.1) ≡ true → next ≡ index + 1
+      → index ≡ x.0.index → Walked (entries_of xs) kind (k + 1) next
   over kind places next index walked is e i = stepped xs sorted k places x within item kind next index walked is e i
 
   module _ (next index : ℕ) (e : next ≡ index + 1) (i : index ≡ x.0.index) where
@@ -120,12 +128,15 @@ module _ (xs : List (Capability × Value)) (sorted : IsSorted (entries_of xs)) (
       strings_are = has.strings_are;
     }
 
-    pub text_counted : (t : List ℕ) (size more : ℕ) → content_of x.1 ≡ content_text t → size ≡ min (strings + length t) (2 ^ 64 - 1) → more ≡ min (size + 1) (2 ^ 64 - 1) → HasCounts (entries_of xs) (k + 1) flags numbers next more
+    pub text_counted : (t : List ℕ) (size more : ℕ) → content_of x.1 ≡ content_text t → size ≡ min (strings + length t) (2 ^ 64 - 1)
+        → more ≡ min (size + 1) (2 ^ 64 - 1) → HasCounts (entries_of xs) (k + 1) flags numbers next more
     text_counted t size more value a b =
         let e2 : next ≡ x.0.index + 1 = omega arith in
-        let text = next_text (entries_of xs) sorted k texts (rw length-map within) (x.0, content_of x.1) (item_read xs k x within item) t has.texts_walked value in
+        let text =
+        next_text (entries_of xs) sorted k texts (rw length-map within) (x.0, content_of x.1) (item_read xs k x within item) t has.texts_walked value in
         let long : length (texts_below (contents (entries_of xs)) next) ≡ length (texts_below (contents (entries_of xs)) texts) + length (t ++ 0 ∷ []) =
-        ap (λ j. length (texts_below (contents (entries_of xs)) j)) e2 ∙ ap (λ (u : List ℕ). length u) text ∙ length-append (texts_below (contents (entries_of xs)) texts) (t ++ 0 ∷ []) in
+        ap (λ j. length (texts_below (contents (entries_of xs)) j)) e2 ∙ ap (λ (u : List ℕ). length u) text
+        ∙ length-append (texts_below (contents (entries_of xs)) texts) (t ++ 0 ∷ []) in
         let nul : length (t ++ 0 ∷ []) ≡ length t + 1 = length-append t (0 ∷ []) in
         let before = has.strings_are in
         record {
@@ -143,7 +154,8 @@ module _ (xs : List (Capability × Value)) (sorted : IsSorted (entries_of xs)) (
     strings_are = has.strings_are;
   }
 
-pub counted_all : (xs : List (Capability × Value)) → IsSorted (entries_of xs) → (field : List ℕ) (k : ℕ) (h : Header) → length xs ≤ k → (w : Format) → h.format ≡ w → h.names ≡ suc (length field)
+pub counted_all : (xs : List (Capability × Value)) → IsSorted (entries_of xs) → (field : List ℕ) (k : ℕ) (h : Header) → length xs ≤ k → (w : Format)
+    → h.format ≡ w → h.names ≡ suc (length field)
     → HasCounts (entries_of xs) k h.flags h.numbers h.texts h.strings → HasSizesIn w field (contents (entries_of xs)) h
 counted_all xs sorted field k h all w format names has =
     let es = entries_of xs in

@@ -1,9 +1,11 @@
 -- Mentions of capabilities one after another: where the first of each is, and the entries of the
 -- first ones.
-use Rattle.std.proofs.Common.{◌≡◌, ◌≢◌, ℕ, suc, ◌+◌, ◌<◌, ◌≤◌, cond, List, [], ◌∷◌, ◌++◌, length, get_or, set, replicate, Option, Some, None, refl, sym, ap, ◌∙◌, subst, arith, inl, inr, length-set, take, All}
+use Rattle.std.proofs.Common.{◌≡◌, ◌≢◌, ℕ, suc, ◌+◌, ◌<◌, ◌≤◌, cond, List, [], ◌∷◌, ◌++◌, length, get_or, set, replicate, Option, Some, None, refl, sym, ap}
+use Rattle.std.proofs.Common.{◌∙◌, subst, arith, inl, inr, length-set, take, All}
 use Rattle.std.specs.Option.{option_or}
 use Rattle.std.proofs.lemmas.Bool.{cases_eq, cases_lt}
-use Rattle.std.proofs.lemmas.List.{length-append, length-map, length-take-le, map-append, take_more, length-replicate, get_or_append_left, get_or_at, get_or-replicate, get_or-set_same, get_or-set_other, get_or_past}
+use Rattle.std.proofs.lemmas.List.{length-append, length-map, length-take-le, map-append, take_more, length-replicate, get_or_append_left, get_or_at}
+use Rattle.std.proofs.lemmas.List.{get_or-replicate, get_or-set_same, get_or-set_other, get_or_past}
 use Rattle.std.proofs.lemmas.List.Elements.{All-push}
 use Rattle.ti_caps.specs.Tables.{Capability, IsCapability, count_of, same_capability, rank_in}
 use Rattle.ti_caps.specs.declared.capability.Kind.{Kind}
@@ -43,11 +45,14 @@ no_items [] e = refl
 no_items (x ∷ xs) e = absurd (omega arith)
 
 -- no mention
-pub nothing_behind : (table : List Mention) (xs : List (Capability × Value)) (c : Capability) → xs ≡ [] → contents table c ≡ option_or (contents table c) (contents (entries_of xs) c)
-nothing_behind table xs c none = sym (ap (λ o. option_or (contents table c) o) (ap (λ ys. contents (entries_of ys) c) none ∙ contents-none c) ∙ or_nothing (contents table c))
+pub nothing_behind : (table : List Mention) (xs : List (Capability × Value)) (c : Capability) → xs ≡ []
+    → contents table c ≡ option_or (contents table c) (contents (entries_of xs) c)
+nothing_behind table xs c none =
+    sym (ap (λ o. option_or (contents table c) o) (ap (λ ys. contents (entries_of ys) c) none ∙ contents-none c) ∙ or_nothing (contents table c))
 
 -- mentions after an empty table
-pub behind_nothing : (table : List Mention) (xs : List (Capability × Value)) (c : Capability) (said : Option Content) → xs ≡ [] → entries_of xs ≡ table → said ≡ option_or (contents table c) said
+pub behind_nothing : (table : List Mention) (xs : List (Capability × Value)) (c : Capability) (said : Option Content) → xs ≡ [] → entries_of xs ≡ table
+    → said ≡ option_or (contents table c) said
 behind_nothing table xs c said none is = sym (ap (λ o. option_or o said) (ap (λ es. contents es c) (sym is ∙ ap entries_of none) ∙ contents-none c))
 
 -- what was put, and one more value
@@ -56,7 +61,8 @@ or_assoc None b o = refl
 or_assoc (Some v) b o = refl
 
 pub added_more : (table : List Mention) (xs : List (Capability × Value)) (x : Capability × Value) (c : Capability)
-    → contents (table ++ entries_of (xs ++ x ∷ [])) c ≡ option_or (contents (table ++ entries_of xs) c) (cond (same_capability x.0 c) (Some (content_of x.1)) None)
+    → contents (table ++ entries_of (xs ++ x ∷ [])) c ≡ option_or (contents (table ++ entries_of xs) c)
+    (cond (same_capability x.0 c) (Some (content_of x.1)) None)
 added_more table xs x c =
     let e : Mention = (x.0, content_of x.1) in
     let end : entries_of (xs ++ x ∷ []) ≡ entries_of xs ++ e ∷ [] = map-append (λ (y : Capability × Value). (y.0, content_of y.1)) xs (x ∷ []) in
@@ -92,8 +98,10 @@ pub rank_within : (c : Capability) → IsCapability c → rank_of c < 497
 rank_within c valid = within_kind c.kind c.index valid
 
 -- the entries of one more mention
-pub entries_front : (xs : List (Capability × Value)) (i : ℕ) (x : Capability × Value) → i < length xs → get_or xs i x ≡ x → entries_of (take (i + 1) xs) ≡ entries_of (take i xs) ++ (x.0, content_of x.1) ∷ []
-entries_front xs i x within here = ap entries_of (take_more xs i x within ∙ ap (λ y. take i xs ++ y ∷ []) here) ∙ map-append (λ (e : Capability × Value). (e.0, content_of e.1)) (take i xs) (x ∷ [])
+pub entries_front : (xs : List (Capability × Value)) (i : ℕ) (x : Capability × Value) → i < length xs → get_or xs i x ≡ x
+    → entries_of (take (i + 1) xs) ≡ entries_of (take i xs) ++ (x.0, content_of x.1) ∷ []
+entries_front xs i x within here = ap entries_of (take_more xs i x within ∙ ap (λ y. take i xs ++ y ∷ []) here)
+    ∙ map-append (λ (e : Capability × Value). (e.0, content_of e.1)) (take i xs) (x ∷ [])
 
 pub front_more : (xs : List (Capability × Value)) (i : ℕ) (x : Capability × Value) → i < length xs → get_or xs i x ≡ x → (c : Capability)
     → contents (entries_of (take (i + 1) xs)) c ≡ option_or (contents (entries_of (take i xs)) c) (cond (same_capability x.0 c) (Some (content_of x.1)) None)
@@ -130,7 +138,8 @@ module _ (es : List Mention) (x : Mention) (positions : List ℕ) (known : AreMe
   }
 
   -- the first mention of a capability
-  pub positions_more : IsCapability x.0 → rank_of x.0 < 497 → get_or positions (rank_of x.0) 0 ≡ 0 → AreMentionPositions (es ++ x ∷ []) (set positions (rank_of x.0) (suc (length es)))
+  pub positions_more : IsCapability x.0 → rank_of x.0 < 497 → get_or positions (rank_of x.0) 0 ≡ 0
+      → AreMentionPositions (es ++ x ∷ []) (set positions (rank_of x.0) (suc (length es)))
   positions_more valid within free =
       let here : rank_of x.0 < length positions = omega (arith, known.all) in
       let new = get_or-set_same positions (rank_of x.0) (suc (length es)) 0 here in
@@ -202,7 +211,8 @@ module _ (es out : List Mention) (rank : ℕ) (so_far : Gathers es out rank) (po
         said = λ c valid_c below. elim (cases_lt (rank_of c) rank) [
           | inl low ↦
               let other : x.0 ≢ c = λ same. absurd (let r = ap rank_of same in omega arith) in
-              contents-append out (x ∷ []) c ∙ ap (λ o. option_or (contents out c) o) (says_nothing x c other) ∙ or_nothing (contents out c) ∙ so_far.said c valid_c low
+              contents-append out (x ∷ []) c ∙ ap (λ o. option_or (contents out c) o) (says_nothing x c other) ∙ or_nothing (contents out c)
+              ∙ so_far.said c valid_c low
           | inr high ↦
               let same : x.0 ≡ c = one_from_rank x.0 c valid valid_c (omega arith) in
               subst (λ d. contents (out ++ x ∷ []) d ≡ contents es d) same (first_more out x (absent_behind out x.0 so_far.sorted ahead) ∙ sym is)

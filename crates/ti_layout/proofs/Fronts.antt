@@ -1,5 +1,6 @@
 -- Two lists of entries made one: what is merged of their fronts.
-use Rattle.std.proofs.Common.{◌≡◌, ℕ, ◌+◌, ◌<◌, Bool, true, false, cond, List, [], ◌∷◌, ◌++◌, length, get_or, take, drop, Option, Some, None, refl, sym, ap, ◌∙◌, subst, arith, inl, inr}
+use Rattle.std.proofs.Common.{◌≡◌, ℕ, ◌+◌, ◌<◌, Bool, true, false, cond, List, [], ◌∷◌, ◌++◌, length, get_or, take, drop, Option, Some, None, refl, sym, ap}
+use Rattle.std.proofs.Common.{◌∙◌, subst, arith, inl, inr}
 use Rattle.std.specs.List.{insert}
 use Rattle.std.specs.Option.{option_or}
 use Rattle.std.proofs.lemmas.Bool.{cases_lt, cases_Bool}
@@ -42,7 +43,8 @@ pub contents-one : (x : Mention) (c : Capability) → contents (x ∷ []) c ≡ 
 unfolding contents
 contents-one x c = refl
 
-contents-front : (xs : List Mention) (i : ℕ) (x : Mention) (c : Capability) → i < length xs → get_or xs i x ≡ x → contents (take (i + 1) xs) c ≡ option_or (contents (take i xs) c) (contents (x ∷ []) c)
+contents-front : (xs : List Mention) (i : ℕ) (x : Mention) (c : Capability) → i < length xs → get_or xs i x ≡ x
+    → contents (take (i + 1) xs) c ≡ option_or (contents (take i xs) c) (contents (x ∷ []) c)
 contents-front xs i x c within here =
     ap (λ t. contents t c) (take_more xs i x within ∙ ap (λ y. take i xs ++ y ∷ []) here) ∙ contents-append (take i xs) (x ∷ []) c
 
@@ -72,24 +74,28 @@ gap_behind : (es : List Mention) (c : Capability) → AllBefore es (rank_of c) �
 gap_behind es c before = record { in_range = omega arith; before = λ j lt. before j lt; after = λ j le lt. absurd (omega arith) }
 
 pub sorted-push : (es : List Mention) (x : Mention) → IsSorted es → AllBefore es (rank_of x.0) → IsCapability x.0 → Agrees x.0 x.1 → IsSorted (es ++ x ∷ [])
-sorted-push es x sorted before valid agrees = subst IsSorted (insert-end es x) (sorted-insert es x.0 x.1 (length es) sorted (gap_behind es x.0 before) valid agrees)
+sorted-push es x sorted before valid agrees =
+    subst IsSorted (insert-end es x) (sorted-insert es x.0 x.1 (length es) sorted (gap_behind es x.0 before) valid agrees)
 
 pub absent_behind : (es : List Mention) (c : Capability) → IsSorted es → AllBefore es (rank_of c) → contents es c ≡ None
 absent_behind es c sorted before = contents_nowhere es c (nowhere es sorted c (length es) (gap_behind es c before))
 
-pub rank-push : (es : List Mention) (x : Mention) (k rank : ℕ) → k < length (es ++ x ∷ []) → AllBefore es rank → rank_of x.0 < rank → rank_at (es ++ x ∷ []) k < rank
+pub rank-push : (es : List Mention) (x : Mention) (k rank : ℕ) → k < length (es ++ x ∷ []) → AllBefore es rank → rank_of x.0 < rank
+    → rank_at (es ++ x ∷ []) k < rank
 rank-push es x k rank within before last =
     let long = length-append es (x ∷ []) in
     let read = rank_read (es ++ x ∷ []) k x within in
     elim (cases_lt k (length es)) [
       | inl under ↦
-          let front : rank_of (get_or (es ++ x ∷ []) k x).0 ≡ rank_of (get_or es k x).0 = ap (λ (e : Mention). rank_of e.0) (get_or_append_left es (x ∷ []) x k under) in
+          let front : rank_of (get_or (es ++ x ∷ []) k x).0 ≡ rank_of (get_or es k x).0 =
+          ap (λ (e : Mention). rank_of e.0) (get_or_append_left es (x ∷ []) x k under) in
           let old = rank_read es k x under in
           let b = before k under in
           omega arith
       | inr at ↦
           let same : k ≡ length es = omega arith in
-          let end : rank_of (get_or (es ++ x ∷ []) k x).0 ≡ rank_of x.0 = ap (λ (e : Mention). rank_of e.0) (ap (λ j. get_or (es ++ x ∷ []) j x) same ∙ get_or_at es x [] x (length es) refl) in
+          let end : rank_of (get_or (es ++ x ∷ []) k x).0 ≡ rank_of x.0 =
+          ap (λ (e : Mention). rank_of e.0) (ap (λ j. get_or (es ++ x ∷ []) j x) same ∙ get_or_at es x [] x (length es) refl) in
           omega arith
     ]
 
@@ -109,9 +115,11 @@ merges_none fs ss = record {
   before_second = λ lt k within. absurd (omega arith);
 }
 
-pub merges_all : (fs ss os : List Mention) (i j : ℕ) → Merges fs ss os i j → IsPastBoth fs i ss j → (c : Capability) → contents os c ≡ option_or (contents fs c) (contents ss c)
+pub merges_all : (fs ss os : List Mention) (i j : ℕ) → Merges fs ss os i j → IsPastBoth fs i ss j → (c : Capability)
+    → contents os c ≡ option_or (contents fs c) (contents ss c)
 merges_all fs ss os i j m past c =
-    m.said c ∙ ap (λ t. option_or (contents t c) (contents (take j ss) c)) (take_all i fs past.0) ∙ ap (λ t. option_or (contents fs c) (contents t c)) (take_all j ss past.1)
+    m.said c ∙ ap (λ t. option_or (contents t c) (contents (take j ss) c)) (take_all i fs past.0)
+    ∙ ap (λ t. option_or (contents fs c) (contents t c)) (take_all j ss past.1)
 
 -- what comes of the fronts with one more entry
 of_first : (a b x o : Option Content) → o ≡ option_or a b → ((v : Content) → x ≡ Some v → o ≡ None) → option_or o x ≡ option_or (option_or a x) b
@@ -120,8 +128,10 @@ of_first None None (Some v) o e alone = ap (λ t. option_or t (Some v)) (alone v
 of_first None (Some w) (Some v) o e alone = absurd (none-some w (sym (alone v refl) ∙ e))
 of_first (Some w) b (Some v) o e alone = absurd (none-some w (sym (alone v refl) ∙ e))
 
-of_both : (a b x y o : Option Content) → o ≡ option_or a b → ((v : Content) → x ≡ Some v → o ≡ None) → (x ≡ None → y ≡ None) → option_or o x ≡ option_or (option_or a x) (option_or b y)
-of_both a b None y o e alone none = or-none o ∙ e ∙ ap (λ t. option_or a t) (sym (ap (option_or b) (none refl) ∙ or-none b)) ∙ ap (λ t. option_or t (option_or b y)) (sym (or-none a))
+of_both : (a b x y o : Option Content) → o ≡ option_or a b → ((v : Content) → x ≡ Some v → o ≡ None) → (x ≡ None → y ≡ None)
+    → option_or o x ≡ option_or (option_or a x) (option_or b y)
+of_both a b None y o e alone none =
+    or-none o ∙ e ∙ ap (λ t. option_or a t) (sym (ap (option_or b) (none refl) ∙ or-none b)) ∙ ap (λ t. option_or t (option_or b y)) (sym (or-none a))
 of_both None None (Some v) y o e alone none = ap (λ t. option_or t (Some v)) (alone v refl)
 of_both None (Some w) (Some v) y o e alone none = absurd (none-some w (sym (alone v refl) ∙ e))
 of_both (Some w) b (Some v) y o e alone none = absurd (none-some w (sym (alone v refl) ∙ e))
@@ -169,7 +179,8 @@ module _ (fs ss os : List Mention) (i j : ℕ) (kept_f : IsSorted fs) (kept_s : 
         record {
           sorted = sorted-push os x m.sorted before good.0 good.1;
           said = λ c. contents-append os (x ∷ []) c
-              ∙ of_both (contents (take i fs) c) (contents (take j ss) c) (contents (x ∷ []) c) (contents (y ∷ []) c) (contents os c) (m.said c) (alone before c) (both-none x y c one)
+              ∙ of_both (contents (take i fs) c) (contents (take j ss) c) (contents (x ∷ []) c) (contents (y ∷ []) c) (contents os c) (m.said c)
+              (alone before c) (both-none x y c one)
               ∙ ap (λ t. option_or t (option_or (contents (take j ss) c) (contents (y ∷ []) c))) (sym (contents-front fs i x c within here))
               ∙ ap (λ t. option_or (contents (take (i + 1) fs) c) t) (sym (contents-front ss j y c within_s here_s));
           before_first = λ lt k l.
@@ -187,7 +198,8 @@ module _ (fs ss os : List Mention) (i j : ℕ) (kept_f : IsSorted fs) (kept_s : 
       let before_x : AllBefore os (rank_of x.0) = subst (AllBefore os) rank_s (m.before_second within) in
       record {
         sorted = sorted-push os x m.sorted before_x fits.0 fits.1;
-        said = λ c. contents-append os (x ∷ []) c ∙ ap (λ o. option_or o (contents (x ∷ []) c)) (m.said c) ∙ or-assoc (contents (take i fs) c) (contents (take j ss) c) (contents (x ∷ []) c)
+        said = λ c. contents-append os (x ∷ []) c ∙ ap (λ o. option_or o (contents (x ∷ []) c)) (m.said c)
+            ∙ or-assoc (contents (take i fs) c) (contents (take j ss) c) (contents (x ∷ []) c)
             ∙ ap (λ t. option_or (contents (take i fs) c) t) (sym (contents-front ss j x c within here));
         before_first = λ lt k l. let t = turn lt in rank-push os x k (rank_at fs i) l (m.before_first lt) (omega arith);
         before_second = λ lt k l.

@@ -1,5 +1,6 @@
 -- What is written is read as what was written.
-use Rattle.std.proofs.Common.{◌≡◌, ℕ, suc, ◌+◌, ◌-◌, ◌%◌, ◌<◌, ◌≤◌, Bool, true, false, cond, ltb, eqb, List, [], ◌∷◌, ◌++◌, length, take, drop, get_or, Option, Some, None, refl, sym, ap, ◌∙◌, subst, arith, inl, inr, append-nil}
+use Rattle.std.proofs.Common.{◌≡◌, ℕ, suc, ◌+◌, ◌-◌, ◌%◌, ◌<◌, ◌≤◌, Bool, true, false, cond, ltb, eqb, List, [], ◌∷◌, ◌++◌, length, take, drop, get_or}
+use Rattle.std.proofs.Common.{Option, Some, None, refl, sym, ap, ◌∙◌, subst, arith, inl, inr, append-nil}
 use Rattle.std.specs.List.{before_first, position_or_len}
 use Rattle.std.specs.Option.{option_and_then}
 use Rattle.std.proofs.lemmas.Bool.{cases_lt, lt-ltb, ne_eqb}
@@ -12,8 +13,10 @@ use Rattle.ti_layout.specs.declared.layout.Format.{Format}
 use Rattle.ti_layout.specs.declared.layout.Format.TheVariants.{Legacy, Extended}
 use Rattle.ti_layout.specs.Values.{Content, content_true, content_number, content_text, content_cancelled, Contents, AgreesIfSome, HasNoNul}
 use Rattle.ti_layout.specs.Layout.{Sections, absent_mark, entry_bytes, first_negative}
-use Rattle.ti_layout.specs.Reading.{Reads, AreSound, IsFlagByte, IsStoredNumber, IsOffset, HasEnd, stored_flag, stored_number, stored_text, text_from, says, contents_of}
-use Rattle.ti_layout.specs.Image.{image, image_in, is_there, is_wide, format_of, of_kind, written_count, flag_value, number_value, offset_value, texts_below, sections_of, some_below, below}
+use Rattle.ti_layout.specs.Reading.{Reads, AreSound, IsFlagByte, IsStoredNumber, IsOffset, HasEnd, stored_flag, stored_number, stored_text, text_from, says}
+use Rattle.ti_layout.specs.Reading.{contents_of}
+use Rattle.ti_layout.specs.Image.{image, image_in, is_there, is_wide, format_of, of_kind, written_count, flag_value, number_value, offset_value}
+use Rattle.ti_layout.specs.Image.{texts_below, sections_of, some_below, below}
 use Rattle.ti_layout.specs.Laws.{without_cancel, HoldsNumbers, ImagesAreRead, ImagesInFormatsAreRead}
 use Rattle.ti_layout.proofs.Below.{length-below, get_or-below, slice_get-below, slice_get-past_below, last_passing-le, last_passing-past, some_below-true}
 use Rattle.ti_layout.proofs.Sizes.{image-is, limit-le, strings_small_in}
@@ -58,7 +61,8 @@ text-in strings offset t rest no_nul e =
 
 -- ---- the format holds each number
 
-wide_or_not : (c : Contents) (k n : ℕ) → k < 39 → c (capability Number k) ≡ Some (content_number n) → n ≤ 2147483647 → (b : Bool) → some_below (λ i. is_wide (of_kind c Number i)) 39 ≡ b → n < first_negative (cond b Extended Legacy)
+wide_or_not : (c : Contents) (k n : ℕ) → k < 39 → c (capability Number k) ≡ Some (content_number n) → n ≤ 2147483647 → (b : Bool)
+    → some_below (λ i. is_wide (of_kind c Number i)) 39 ≡ b → n < first_negative (cond b Extended Legacy)
 wide_or_not c k n lt e fits true format_is = omega arith
 wide_or_not c k n lt e fits false format_is = elim (cases_lt 32767 n) [
   | inl wide ↦
@@ -86,7 +90,8 @@ absent_number : (w : Format) → IsStoredNumber w (absent_mark w)
 absent_number Legacy = inr (omega arith, omega arith)
 absent_number Extended = inr (omega arith, omega arith)
 
-sound_number : (w : Format) (c : Contents) → HoldsNumbers w c → (k : ℕ) → k < 39 → (o : Option Content) → c (capability Number k) ≡ o → AgreesIfSome (capability Number k) o → IsStoredNumber w (number_value (absent_mark w) o)
+sound_number : (w : Format) (c : Contents) → HoldsNumbers w c → (k : ℕ) → k < 39 → (o : Option Content) → c (capability Number k) ≡ o
+    → AgreesIfSome (capability Number k) o → IsStoredNumber w (number_value (absent_mark w) o)
 sound_number w c holds k lt None e a = absent_number w
 sound_number w c holds k lt (Some content_true) e a = absent_number w
 sound_number w c holds k lt (Some (content_number n)) e a = inl (holds k n lt e)
@@ -132,7 +137,8 @@ all_below f n P each k d lt =
     let within : k < n = omega (arith, length-below f n) in
     subst P (sym (get_or-below f n k d within)) (each k within)
 
-pub sections-sound_in : (w : Format) (names rest : List ℕ) (c : Contents) → HoldsNumbers w c → Sound names c → AreSound w (record (sections_of w names c) { rest = rest })
+pub sections-sound_in : (w : Format) (names rest : List ℕ) (c : Contents) → HoldsNumbers w c → Sound names c
+    → AreSound w (record (sections_of w names c) { rest = rest })
 sections-sound_in w names rest c holds h =
     let n = counts c in
     let F = written_count c Flag in
@@ -190,7 +196,8 @@ absent-says : (w : Format) → stored_number w (absent_mark w) ≡ None
 absent-says Legacy = refl
 absent-says Extended = refl
 
-number-again : (w : Format) (c : Contents) → HoldsNumbers w c → (k : ℕ) → k < 39 → (o : Option Content) → c (capability Number k) ≡ o → AgreesIfSome (capability Number k) o → stored_number w (number_value (absent_mark w) o) ≡ without_cancel o
+number-again : (w : Format) (c : Contents) → HoldsNumbers w c → (k : ℕ) → k < 39 → (o : Option Content) → c (capability Number k) ≡ o
+    → AgreesIfSome (capability Number k) o → stored_number w (number_value (absent_mark w) o) ≡ without_cancel o
 number-again w c holds k lt None e a = absent-says w
 number-again w c holds k lt (Some content_true) e a = absurd (let p : Number ≡ Flag = a in cc)
 number-again w c holds k lt (Some (content_number n)) e a =
@@ -212,7 +219,8 @@ text-again c n i lt small (Some (content_text t)) e a =
     rw (plain, found) refl
 text-again c n i lt small (Some content_cancelled) e a = refl
 
-section_says : (w : Format) (names : List ℕ) (c : Contents) → HoldsNumbers w c → Sound names c → (kind : Kind) (i : ℕ) → i < count_of kind → let s = sections_of w names c in
+section_says : (w : Format) (names : List ℕ) (c : Contents) → HoldsNumbers w c → Sound names c → (kind : Kind) (i : ℕ) → i < count_of kind → let s =
+    sections_of w names c in
     says w s.flags s.numbers s.offsets s.strings kind i ≡ without_cancel (c (capability kind i))
 section_says w names c holds h Flag i lt =
     let f : ℕ → ℕ = λ k. flag_value (of_kind c Flag k) in
@@ -225,21 +233,24 @@ section_says w names c holds h Number i lt =
     let f : ℕ → ℕ = λ k. number_value (absent_mark w) (of_kind c Number k) in
     let n = written_count c Number in
     elim (cases_lt i n) [
-      | inl under ↦ ap (option_and_then (stored_number w)) (slice_get-below f n i under) ∙ number-again w c holds i lt (c (capability Number i)) refl (h.agree (capability Number i) lt)
+      | inl under ↦ ap (option_and_then (stored_number w)) (slice_get-below f n i under)
+          ∙ number-again w c holds i lt (c (capability Number i)) refl (h.agree (capability Number i) lt)
       | inr le ↦ ap (option_and_then (stored_number w)) (slice_get-past_below f n i le) ∙ sym (past-written c Number i le lt)
     ]
 section_says w names c holds h Text i lt =
     let n = written_count c Text in
     let f : ℕ → ℕ = λ k. offset_value (length (texts_below c k)) (of_kind c Text k) in
     elim (cases_lt i n) [
-      | inl under ↦ ap (option_and_then (stored_text (texts_below c n))) (slice_get-below f n i under) ∙ text-again c n i under h.small (c (capability Text i)) refl (h.agree (capability Text i) lt)
+      | inl under ↦ ap (option_and_then (stored_text (texts_below c n))) (slice_get-below f n i under)
+          ∙ text-again c n i under h.small (c (capability Text i)) refl (h.agree (capability Text i) lt)
       | inr le ↦ ap (option_and_then (stored_text (texts_below c n))) (slice_get-past_below f n i le) ∙ sym (past-written c Text i le lt)
     ]
 
 with_rest : (x rest : List ℕ) → (x ++ []) ++ rest ≡ x ++ rest
 with_rest x rest = ap (λ y. y ++ rest) (append-nil x)
 
-pub image_in-with : (w : Format) (names rest : List ℕ) (c : Contents) → image_in w names c ++ rest ≡ entry_bytes w (record (sections_of w names c) { rest = rest })
+pub image_in-with : (w : Format) (names rest : List ℕ) (c : Contents) → image_in w names c ++ rest
+    ≡ entry_bytes w (record (sections_of w names c) { rest = rest })
 unfolding image_in
 image_in-with w names rest c = with_rest _ rest
 

@@ -1,5 +1,6 @@
 -- Bytes are an entry in at most one way, are refused in at most one way, and never both.
-use Rattle.std.proofs.Common.{◌≡◌, ℕ, ◌+◌, ◌-◌, ◌*◌, ◌/◌, ◌<◌, ◌≤◌, All, List, [], ◌∷◌, ◌++◌, length, take, get_or, cond, eqb, refl, sym, ap, ◌∙◌, subst, arith, inl, inr}
+use Rattle.std.proofs.Common.{◌≡◌, ℕ, ◌+◌, ◌-◌, ◌*◌, ◌/◌, ◌<◌, ◌≤◌, All, List, [], ◌∷◌, ◌++◌, length, take, get_or, cond, eqb, refl, sym, ap, ◌∙◌, subst}
+use Rattle.std.proofs.Common.{arith, inl, inr}
 use Rattle.std.proofs.lemmas.List.{take_at, length-append, get_or_append_left}
 use Rattle.std.proofs.lemmas.Bool.{cases_lt}
 use Rattle.ti_layout.specs.declared.fault.ReadError.{ReadError}
@@ -8,8 +9,10 @@ use Rattle.ti_layout.specs.Values.{Contents, HasNoNul}
 use Rattle.ti_layout.specs.declared.layout.Format.{Format}
 use Rattle.ti_layout.specs.declared.layout.Format.TheVariants.{Legacy, Extended}
 use Rattle.ti_layout.specs.Layout.{Sections, absent_mark, cancelled_mark, first_negative, number_section, width}
-use Rattle.ti_layout.specs.Reading.{AreSound, IsStoredNumber, IsOffset, Reads, contents_of, number_at, numbers_in, count_in, format_in, FailsToRead, HasReadFault}
-use Rattle.ti_layout.specs.Reading.{HasBadCount, HasBadNames, HasBadFlag, HasBadNumber, HasBadOffset, HasEnd, rank, names_section, flags_section, numbers_section}
+use Rattle.ti_layout.specs.Reading.{AreSound, IsStoredNumber, IsOffset, Reads, contents_of, number_at, numbers_in, count_in, format_in, FailsToRead}
+use Rattle.ti_layout.specs.Reading.{HasReadFault}
+use Rattle.ti_layout.specs.Reading.{HasBadCount, HasBadNames, HasBadFlag, HasBadNumber, HasBadOffset, HasEnd, rank, names_section, flags_section}
+use Rattle.ti_layout.specs.Reading.{numbers_section}
 use Rattle.ti_layout.specs.Reading.{offsets_section, strings_section}
 use Rattle.ti_layout.proofs.Spelled.{numbers-again, number_read, length-spelled, counted}
 use Rattle.ti_layout.proofs.Parts.{Found, found}
@@ -23,7 +26,8 @@ names_before b names s e =
 found_of : (b m : List ℕ) (c : Contents) (r : Reads b m c) → Found b r.format r.sections
 found_of b m c r = subst (λ (x : List ℕ). Found x r.format r.sections) (sym r.whole) (found r.format r.sections r.sound)
 
-contents_same : (v w : Format) (f f' n n' o o' s s' : List ℕ) → v ≡ w → f ≡ f' → numbers_in w n ≡ n' → o ≡ o' → s ≡ s' → contents_of v f (numbers_in v n) o s ≡ contents_of w f' n' o' s'
+contents_same : (v w : Format) (f f' n n' o o' s s' : List ℕ) → v ≡ w → f ≡ f' → numbers_in w n ≡ n' → o ≡ o' → s ≡ s'
+    → contents_of v f (numbers_in v n) o s ≡ contents_of w f' n' o' s'
 contents_same v w f f' n n' o o' s s' a b c d e = rw (a, b, c, d, e) refl
 
 plain_fits : (w : Format) (n : ℕ) → n < first_negative w → n ≤ absent_mark w
@@ -50,10 +54,13 @@ read_contents b m c r =
     let s = r.sections in
     let e0 = f.format_is in
     let e1 = f.flags in
-    let e2 : numbers_in r.format (numbers_section b) ≡ s.numbers = ap (numbers_in r.format) f.numbers ∙ numbers-again r.format s.numbers (λ k d lt. number_fits r.format _ (r.sound.numbers k d lt)) in
-    let e3 : numbers_in Legacy (offsets_section b) ≡ s.offsets = ap (numbers_in Legacy) f.offsets ∙ numbers-again Legacy s.offsets (λ k d lt. offset_fits s.strings _ (r.sound.offsets k d lt)) in
+    let e2 : numbers_in r.format (numbers_section b) ≡ s.numbers =
+    ap (numbers_in r.format) f.numbers ∙ numbers-again r.format s.numbers (λ k d lt. number_fits r.format _ (r.sound.numbers k d lt)) in
+    let e3 : numbers_in Legacy (offsets_section b) ≡ s.offsets =
+    ap (numbers_in Legacy) f.offsets ∙ numbers-again Legacy s.offsets (λ k d lt. offset_fits s.strings _ (r.sound.offsets k d lt)) in
     let e4 = f.strings in
-    r.held ∙ sym (contents_same (format_in b) r.format (flags_section b) s.flags (numbers_section b) s.numbers (numbers_in Legacy (offsets_section b)) s.offsets (strings_section b) s.strings e0 e1 e2 e3 e4)
+    r.held ∙ sym (contents_same (format_in b) r.format (flags_section b) s.flags (numbers_section b) s.numbers
+    (numbers_in Legacy (offsets_section b)) s.offsets (strings_section b) s.strings e0 e1 e2 e3 e4)
 
 pub one_entry : (b m n : List ℕ) (c d : Contents) → Reads b m c → Reads b n d → (m ≡ n) × (c ≡ d)
 one_entry b m n c d r s = (read_names b m c r ∙ sym (read_names b n d s), read_contents b m c r ∙ sym (read_contents b n d s))
@@ -61,7 +68,8 @@ one_entry b m n c d r s = (read_names b m c r ∙ sym (read_names b n d s), read
 -- the refusal at a place in the order
 unrank : ℕ → ReadError
 unrank n =
-    cond (eqb n 1) Short (cond (eqb n 2) Magic (cond (eqb n 3) Counts (cond (eqb n 4) Truncated (cond (eqb n 5) BadNames (cond (eqb n 6) BadFlag (cond (eqb n 7) BadNumber BadOffset))))))
+    cond (eqb n 1) Short (cond (eqb n 2) Magic
+    (cond (eqb n 3) Counts (cond (eqb n 4) Truncated (cond (eqb n 5) BadNames (cond (eqb n 6) BadFlag (cond (eqb n 7) BadNumber BadOffset))))))
 
 unrank-rank : (e : ReadError) → unrank (rank e) ≡ e
 unfolding unrank
@@ -134,7 +142,8 @@ good_offset strings n (inl plain) high ends = ends plain.1
 good_offset strings n (inr void) high ends = omega (arith, void.0)
 
 -- the number of a place of a section that is spelled
-spelled_number : (w : Format) (ns : List ℕ) (k : ℕ) (P : ℕ → Type 0) → ((n : ℕ) → P n → n ≤ absent_mark w) → All P ns → k < count_in w (number_section w ns) → P (number_at w (width w * k) (number_section w ns))
+spelled_number : (w : Format) (ns : List ℕ) (k : ℕ) (P : ℕ → Type 0) → ((n : ℕ) → P n → n ≤ absent_mark w) → All P ns → k < count_in w (number_section w ns)
+    → P (number_at w (width w * k) (number_section w ns))
 spelled_number w ns k P fits all lt =
     let c : count_in w (number_section w ns) ≡ length ns = ap (λ k. k / width w) (length-spelled w ns) ∙ counted w (length ns) in
     let within : k < length ns = omega arith in

@@ -1,10 +1,12 @@
 -- The sections of a layout, found again by its header.
-use Rattle.std.proofs.Common.{◌≡◌, ℕ, suc, ◌+◌, ◌-◌, ◌*◌, ◌/◌, ◌%◌, ◌≤◌, List, [], ◌∷◌, ◌++◌, length, slice_range, refl, sym, ap, ◌∙◌, subst, append_assoc, arith}
+use Rattle.std.proofs.Common.{◌≡◌, ℕ, suc, ◌+◌, ◌-◌, ◌*◌, ◌/◌, ◌%◌, ◌≤◌, List, [], ◌∷◌, ◌++◌, length, slice_range, refl, sym, ap, ◌∙◌, subst, append_assoc}
+use Rattle.std.proofs.Common.{arith}
 use Rattle.std.proofs.lemmas.List.{take_at, drop_at, length-append}
 use Rattle.ti_layout.specs.declared.layout.Format.{Format}
 use Rattle.ti_layout.specs.declared.layout.Format.TheVariants.{Legacy, Extended}
 use Rattle.ti_layout.specs.Layout.{Sections, header, entry_bytes, magic, number_section, width}
-use Rattle.ti_layout.specs.Reading.{word_at, AreSound, format_in, names_size, flag_count, number_count, text_count, strings_size, entry_end, names_section, flags_section, numbers_section, offsets_section, strings_section}
+use Rattle.ti_layout.specs.Reading.{word_at, AreSound, format_in, names_size, flag_count, number_count, text_count, strings_size, entry_end, names_section}
+use Rattle.ti_layout.specs.Reading.{flags_section, numbers_section, offsets_section, strings_section}
 use Rattle.ti_layout.proofs.Spelled.{length-spelled}
 
 pub part_at : (b p m r : List ℕ) (x y : ℕ) → b ≡ p ++ (m ++ r) → length p ≡ x → length p + length m ≡ y → slice_range b x y ≡ m
@@ -91,7 +93,8 @@ cut_again b h n f g m o s r mid lh x1 x2 x3 x4 x5 l1 l2 l3 l4 l5 lg =
     let p3 : length (h ++ n ++ f ++ g) ≡ 12 + x1 + x2 + (x1 + x2) % 2 = omega (arith, length-append (h ++ n ++ f) g, length-append (h ++ n) f, p2) in
     let p4 : length (h ++ n ++ f ++ g ++ m) ≡ 12 + x1 + x2 + (x1 + x2) % 2 + x3 = omega (arith, length-append (h ++ n ++ f ++ g) m, p3) in
     let p5 : length (h ++ n ++ f ++ g ++ m ++ o) ≡ 12 + x1 + x2 + (x1 + x2) % 2 + x3 + x4 = omega (arith, length-append (h ++ n ++ f ++ g ++ m) o, p4) in
-    let whole : length b ≡ length (h ++ n ++ f ++ g ++ m ++ o) + length (s ++ r) = ap length mid.strings ∙ length-append (h ++ n ++ f ++ g ++ m ++ o) (s ++ r) in (
+    let whole : length b ≡ length (h ++ n ++ f ++ g ++ m ++ o) + length (s ++ r) =
+    ap length mid.strings ∙ length-append (h ++ n ++ f ++ g ++ m ++ o) (s ++ r) in (
       part_at b h n _ 12 (12 + x1) mid.names lh (omega (arith, lh, l1)),
       part_at b (h ++ n) f _ (12 + x1) (12 + x1 + x2) mid.flags p2 (omega (arith, p2, l2)),
       part_at b (h ++ n ++ f ++ g) m _ _ _ mid.numbers p3 (omega (arith, p3, l3)),
@@ -119,8 +122,10 @@ found w s sound =
     let numbers : length (number_section w s.numbers) ≡ width (format_in b) * number_count b =
     length-spelled w s.numbers ∙ ap (λ (k : ℕ). width w * k) (sym n.numbers) ∙ ap (λ (f : Format). width f * number_count b) (sym format_is) in
     let offsets : length (number_section Legacy s.offsets) ≡ 2 * text_count b = length-spelled Legacy s.offsets ∙ ap (λ (k : ℕ). 2 * k) (sym n.offsets) in
-    let parts = cut_again b h (s.names ++ 0 ∷ []) s.flags s.gap (number_section w s.numbers) (number_section Legacy s.offsets) s.strings s.rest (middles-of s h (number_section w s.numbers) (number_section Legacy s.offsets) b refl) (length-header w _ _ _ _ _)
-    (names_size b) (flag_count b) (width (format_in b) * number_count b) (2 * text_count b) (strings_size b) size (sym n.flags) numbers offsets (sym n.strings) gap in
+    let parts = cut_again b h (s.names ++ 0 ∷ []) s.flags s.gap (number_section w s.numbers) (number_section Legacy s.offsets) s.strings s.rest
+    (middles-of s h (number_section w s.numbers) (number_section Legacy s.offsets) b refl) (length-header w _ _ _ _ _)
+    (names_size b) (flag_count b) (width (format_in b) * number_count b) (2 * text_count b) (strings_size b) size (sym n.flags) numbers offsets
+    (sym n.strings) gap in
     record {
       long = omega (arith, parts.5);
       known = n.known;

@@ -1,6 +1,7 @@
 -- Where a binary search ends among entries that are in order, and what an edit there leaves as it
 -- was.
-use Rattle.std.proofs.Common.{◌≡◌, ℕ, zero, suc, ◌+◌, ◌-◌, ◌<◌, ◌≤◌, List, [], ◌∷◌, map, length, get_or, take, drop, set, Option, Some, None, Result, Ok, Err, IfOk, IfErr, refl, sym, ◌∙◌, ap, subst, inl, inr, arith, if◌then◌else◌, Less, Equal, Greater, length-set}
+use Rattle.std.proofs.Common.{◌≡◌, ℕ, zero, suc, ◌+◌, ◌-◌, ◌<◌, ◌≤◌, List, [], ◌∷◌, map, length, get_or, take, drop, set, Option, Some, None, Result, Ok}
+use Rattle.std.proofs.Common.{Err, IfOk, IfErr, refl, sym, ◌∙◌, ap, subst, inl, inr, arith, if◌then◌else◌, Less, Equal, Greater, length-set}
 use Rattle.std.specs.List.{insert, remove}
 use Rattle.std.specs.List.Sorted.{IsSearchInRange, IsBinarySearchResult, IsNonDecreasingBy}
 use Rattle.std.specs.Ordering.{nat_cmp, ordering_index}
@@ -10,14 +11,16 @@ use Rattle.std.proofs.lemmas.Bool.Decides.{nat_tests}
 use Rattle.std.proofs.lemmas.List.{get_or-map, length-map, map-set}
 use Rattle.std.proofs.Math.ListN.{get_or-map as read_map}
 use Rattle.std.proofs.Math.Seq.{map-set_same}
-use Rattle.std.proofs.lemmas.List.Edits.{length-insert, get_or-insert_below, get_or-insert_at, get_or-insert_above, length-remove, get_or-remove_below, get_or-remove_above}
+use Rattle.std.proofs.lemmas.List.Edits.{length-insert, get_or-insert_below, get_or-insert_at, get_or-insert_above, length-remove, get_or-remove_below}
+use Rattle.std.proofs.lemmas.List.Edits.{get_or-remove_above}
 use Rattle.std.proofs.lemmas.List.Elements.{All-set, All-append, All-cons, All-take, All-drop}
 use Rattle.ti_caps.specs.Tables.{Capability, IsCapability}
 use Rattle.ti_layout.specs.declared.values.Value.{Value}
 use Rattle.ti_layout.specs.declared.values.Value.TheVariants.{True}
 use Rattle.ti_layout.specs.inside.Values.{IsAt, IsGapFor, SetsOnly}
 use Rattle.ti_layout.specs.Values.{Content, content_true, Mention, Agrees, IsSorted, contents, content_of, entries_of, rank_at, rank_of}
-use Rattle.ti_layout.proofs.SortedEntries.{Elsewhere, Nowhere, Says, one_from_rank, contents_here, contents_nowhere, says-set, says-insert, says-remove, same_from_one, test_from_other}
+use Rattle.ti_layout.proofs.SortedEntries.{Elsewhere, Nowhere, Says, one_from_rank, contents_here, contents_nowhere, says-set, says-insert, says-remove}
+use Rattle.ti_layout.proofs.SortedEntries.{same_from_one, test_from_other}
 
 -- the rank at an index is that of the capability there
 pub rank_read : (es : List Mention) (i : ℕ) (e : Mention) → i < length es → rank_at es i ≡ rank_of (get_or es i e).0
@@ -68,9 +71,13 @@ module _ (xs : List (Capability × Value)) (sorted : IsSorted (entries_of xs)) (
         after = λ j high l. let l' : j < length xs = rw length-map at l in rw (plain j d l') (ranked _ _ Greater (sym (parts.1 j d high l')));
       }
 
-  pub searched : (r : Result ℕ ℕ) (wanted : ℕ) → wanted ≡ rank_of c → IsSearchInRange r (length xs) → IsBinarySearchResult (λ e. nat_cmp (rank_of e.0) wanted) xs r → record { found : IfOk r (IsAt (entries_of xs) c); absent : IfErr r (IsGapFor (entries_of xs) c) }
-  searched (Ok i) wanted is within equal = record { found = found_at i within (λ d. subst (λ n. nat_cmp (rank_of (get_or xs i d).0) n ≡ Equal) is (equal d)); absent = tt }
-  searched (Err i) wanted is within parted = record { found = tt; absent = gap_at i within (subst (λ n. IsBinarySearchResult (λ e. nat_cmp (rank_of e.0) n) xs (Err i)) is parted) }
+  pub searched : (r : Result ℕ ℕ) (wanted : ℕ) → wanted ≡ rank_of c → IsSearchInRange r (length xs)
+      → IsBinarySearchResult (λ e. nat_cmp (rank_of e.0) wanted) xs r
+      → record { found : IfOk r (IsAt (entries_of xs) c); absent : IfErr r (IsGapFor (entries_of xs) c) }
+  searched (Ok i) wanted is within equal =
+      record { found = found_at i within (λ d. subst (λ n. nat_cmp (rank_of (get_or xs i d).0) n ≡ Equal) is (equal d)); absent = tt }
+  searched (Err i) wanted is within parted =
+      record { found = tt; absent = gap_at i within (subst (λ n. IsBinarySearchResult (λ e. nat_cmp (rank_of e.0) n) xs (Err i)) is parted) }
 
 -- ---- what is at the index
 
@@ -119,13 +126,15 @@ map-remove f (y ∷ ys) (suc i) = ap (λ t. f y ∷ t) (map-remove f ys i)
 abbrev Rise : List ℕ → Type 0
 Rise l = (i j : ℕ) → i < j → j < length l → get_or l i 0 < get_or l j 0
 
-rise-insert : (l : List ℕ) (at n : ℕ) → Rise l → at ≤ length l → ((j : ℕ) → j < at → get_or l j 0 < n) → ((j : ℕ) → at ≤ j → j < length l → n < get_or l j 0) → Rise (insert l at n)
+rise-insert : (l : List ℕ) (at n : ℕ) → Rise l → at ≤ length l → ((j : ℕ) → j < at → get_or l j 0 < n)
+    → ((j : ℕ) → at ≤ j → j < length l → n < get_or l j 0) → Rise (insert l at n)
 rise-insert l at n rises within before after i j lt in_range =
     let new = insert l at n in
     let length_new = length-insert l at n within in
     let below : (k : ℕ) → k < at → get_or new k 0 ≡ get_or l k 0 = λ k low. get_or-insert_below l at n 0 k low within in
     let here : (k : ℕ) → k ≡ at → get_or new k 0 ≡ n = λ k e. rw e (get_or-insert_at l at n 0 within) in
-    let above : (k : ℕ) → at < k → get_or new k 0 ≡ get_or l (k - 1) 0 = λ k high. subst (λ q. get_or new q 0 ≡ get_or l (k - 1) 0) {x = k - 1 + 1} (omega arith) (get_or-insert_above l at n 0 (k - 1) (omega arith) within) in
+    let above : (k : ℕ) → at < k → get_or new k 0 ≡ get_or l (k - 1) 0 =
+    λ k high. subst (λ q. get_or new q 0 ≡ get_or l (k - 1) 0) {x = k - 1 + 1} (omega arith) (get_or-insert_above l at n 0 (k - 1) (omega arith) within) in
     grind (arith, below i, here i, above i, below j, here j, above j, rises i j, rises i (j - 1), rises (i - 1) (j - 1), before i, after (j - 1))
 
 rise-remove : (l : List ℕ) (at : ℕ) → Rise l → at < length l → Rise (remove l at)
@@ -139,7 +148,8 @@ rise-remove l at rises within i j lt in_range =
 abbrev IsGood : Mention → Type 0
 IsGood e = IsCapability e.0 × Agrees e.0 e.1
 
-pub sorted-set : (es : List Mention) (c : Capability) (v : Content) (i : ℕ) → IsSorted es → IsAt es c i → IsCapability c → Agrees c v → IsSorted (set es i (c, v))
+pub sorted-set : (es : List Mention) (c : Capability) (v : Content) (i : ℕ) → IsSorted es → IsAt es c i → IsCapability c → Agrees c v
+    → IsSorted (set es i (c, v))
 sorted-set es c v i sorted at valid agrees =
     let f : Mention → ℕ = λ e. rank_of e.0 in
     let e : Mention = (c, v) in
@@ -149,16 +159,19 @@ sorted-set es c v i sorted at valid agrees =
       agree = All-set IsGood es i e (valid, agrees) sorted.agree;
     }
 
-pub sorted-insert : (es : List Mention) (c : Capability) (v : Content) (i : ℕ) → IsSorted es → IsGapFor es c i → IsCapability c → Agrees c v → IsSorted (insert es i (c, v))
+pub sorted-insert : (es : List Mention) (c : Capability) (v : Content) (i : ℕ) → IsSorted es → IsGapFor es c i → IsCapability c → Agrees c v
+    → IsSorted (insert es i (c, v))
 sorted-insert es c v i sorted gap valid agrees =
     let f : Mention → ℕ = λ e. rank_of e.0 in
     let e : Mention = (c, v) in
     let same : map f (insert es i e) ≡ insert (map f es) i (f e) = map-insert f es i e in
     let long : length (map f es) ≡ length es = length-map es f in
-    let risen = rise-insert (map f es) i (f e) (λ j k lt within. sorted.rises j k lt (omega arith)) (rw long gap.in_range) gap.before (λ j high within. gap.after j high (omega arith)) in
+    let risen = rise-insert (map f es) i (f e) (λ j k lt within. sorted.rises j k lt (omega arith)) (rw long gap.in_range) gap.before
+    (λ j high within. gap.after j high (omega arith)) in
     record {
       rises = λ j k lt within. rw same (risen j k lt (rw (← same) (rw length-map within)));
-      agree = All-append IsGood (take i es) (e ∷ drop i es) (All-take IsGood i es sorted.agree) (All-cons IsGood e (drop i es) (valid, agrees) (All-drop IsGood i es sorted.agree));
+      agree = All-append IsGood (take i es) (e ∷ drop i es) (All-take IsGood i es sorted.agree)
+          (All-cons IsGood e (drop i es) (valid, agrees) (All-drop IsGood i es sorted.agree));
     }
 
 pub sorted-remove : (es : List Mention) (i : ℕ) → IsSorted es → i < length es → IsSorted (remove es i)

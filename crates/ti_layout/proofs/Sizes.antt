@@ -5,20 +5,23 @@ use Rattle.ti_caps.specs.declared.capability.Kind.TheVariants.{Flag, Number, Tex
 use Rattle.ti_layout.specs.declared.layout.Format.{Format}
 use Rattle.ti_layout.specs.declared.layout.Format.TheVariants.{Legacy, Extended}
 use Rattle.ti_layout.specs.Layout.{Sections, header, entry_bytes, limit, entry_size, number_section, width}
-use Rattle.ti_layout.specs.Image.{image, image_in, even_gap, flags_below, format_of, image_limit, numbers_below, offsets_below, sections_of, texts_below, written_count}
+use Rattle.ti_layout.specs.Image.{image, image_in, even_gap, flags_below, format_of, image_limit, numbers_below, offsets_below, sections_of, texts_below}
+use Rattle.ti_layout.specs.Image.{written_count}
 use Rattle.ti_layout.specs.Values.{Contents}
 use Rattle.ti_layout.proofs.Below.{length-below}
 use Rattle.ti_layout.proofs.Parts.{length-header}
 use Rattle.ti_layout.proofs.Spelled.{length-spelled}
 
-length-nine : (h n z f g m o s r : List ℕ) → length (h ++ n ++ z ++ f ++ g ++ m ++ o ++ s ++ r) ≡ length h + length n + length z + length f + length g + length m + length o + length s + length r
+length-nine : (h n z f g m o s r : List ℕ) → length (h ++ n ++ z ++ f ++ g ++ m ++ o ++ s ++ r)
+    ≡ length h + length n + length z + length f + length g + length m + length o + length s + length r
 length-nine h n z f g m o s r = simp length-append
 
 sums : (h n z f g m o s r x y : ℕ) → h ≡ 12 → m ≡ x → o ≡ y → h + n + 1 + f + g + m + o + s + r ≡ 13 + n + f + g + x + y + s + r
 sums h n z f g m o s r x y a b c = omega arith
 
 pub length-entry_bytes : (w : Format) (s : Sections)
-    → length (entry_bytes w s) ≡ 13 + length s.names + length s.flags + length s.gap + width w * length s.numbers + 2 * length s.offsets + length s.strings + length s.rest
+    → length (entry_bytes w s) ≡ 13 + length s.names + length s.flags + length s.gap + width w * length s.numbers + 2 * length s.offsets + length
+    s.strings + length s.rest
 length-entry_bytes w s =
     let H = header w (suc (length s.names)) (length s.flags) (length s.numbers) (length s.offsets) (length s.strings) in
     let l = length-nine H s.names (0 ∷ []) s.flags s.gap (number_section w s.numbers) (number_section Legacy s.offsets) s.strings s.rest in
@@ -31,7 +34,8 @@ whole : (n f g x o s : ℕ) → 13 + n + f + g + x + 2 * o + s + 0 ≡ 12 + suc 
 whole n f g x o s = omega arith
 
 pub length-image_in : (w : Format) (names : List ℕ) (c : Contents)
-    → length (image_in w names c) ≡ entry_size w (suc (length names)) (written_count c Flag) (written_count c Number) (written_count c Text) (length (texts_below c (written_count c Text)))
+    → length (image_in w names c) ≡ entry_size w (suc (length names)) (written_count c Flag) (written_count c Number) (written_count c Text)
+    (length (texts_below c (written_count c Text)))
 unfolding image_in
 length-image_in w names c =
     let F = written_count c Flag in
@@ -54,11 +58,13 @@ unfolding image
 image-is names c = refl
 
 pub length-image : (names : List ℕ) (c : Contents)
-    → length (image names c) ≡ entry_size (format_of c) (suc (length names)) (written_count c Flag) (written_count c Number) (written_count c Text) (length (texts_below c (written_count c Text)))
+    → length (image names c) ≡ entry_size (format_of c) (suc (length names)) (written_count c Flag) (written_count c Number) (written_count c Text)
+    (length (texts_below c (written_count c Text)))
 length-image names c = ap length (image-is names c) ∙ length-image_in (format_of c) names c
 
 -- the string table of an entry within the greater limit
-pub strings_small_in : (w : Format) (names : List ℕ) (c : Contents) → length (image_in w names c) ≤ 32768 → length (texts_below c (written_count c Text)) < 32768
+pub strings_small_in : (w : Format) (names : List ℕ) (c : Contents) → length (image_in w names c) ≤ 32768
+    → length (texts_below c (written_count c Text)) < 32768
 strings_small_in w names c within = bounded _ _ _ _ _ _ _ 32768 (length-image_in w names c) within (omega arith)
 
 -- the string table of an entry within its limit

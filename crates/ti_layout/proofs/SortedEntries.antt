@@ -1,5 +1,6 @@
 -- What the entries of a table say of a capability, and what an edit of them changes.
-use Rattle.std.proofs.Common.{◌≡◌, ◌≢◌, ℕ, zero, suc, ◌+◌, ◌<◌, Bool, true, false, cond, if◌then◌else◌, All, subst, List, [], ◌∷◌, length, get_or, set, Option, Some, None, refl, sym, ◌∙◌, ap, arith, Result, Ok, Err}
+use Rattle.std.proofs.Common.{◌≡◌, ◌≢◌, ℕ, zero, suc, ◌+◌, ◌<◌, Bool, true, false, cond, if◌then◌else◌, All, subst, List, [], ◌∷◌, length, get_or, set}
+use Rattle.std.proofs.Common.{Option, Some, None, refl, sym, ◌∙◌, ap, arith, Result, Ok, Err}
 use Rattle.std.specs.Result.{IsErr}
 use Rattle.std.specs.List.{insert, remove}
 use Rattle.ti_caps.specs.Tables.{Capability, IsCapability, capability, count_of, same_capability, rank_in}
@@ -17,7 +18,8 @@ pub other_from_test : (c d : Capability) → same_capability c d ≡ false → c
 other_from_test c d e same = let t = same_from_one c d same in cc
 
 pub test_from_other : (c d : Capability) → c ≢ d → same_capability c d ≡ false
-test_from_other c d other = elim (same_capability c d) as (λ b. same_capability c d ≡ b → b ≡ false) [ true ↦ λ e. absurd (other (same_capability-true c d e)) | false ↦ λ e. refl ] refl
+test_from_other c d other = elim (same_capability c d) as (λ b. same_capability c d ≡ b → b
+    ≡ false) [ true ↦ λ e. absurd (other (same_capability-true c d e)) | false ↦ λ e. refl ] refl
 
 -- capabilities with the same place among all are equal
 one_in_rank : (k l : Kind) (i j : ℕ) → i < count_of k → j < count_of l → rank_in k + i ≡ rank_in l + j → capability k i ≡ capability l j
@@ -58,18 +60,21 @@ unfolding contents
 contents_nowhere [] c other = refl
 contents_nowhere (x ∷ es) c other = rw (test_from_other x.0 c (other 0 x (omega arith))) (contents_nowhere es c (nowhere_later x es c other))
 
-pub contents_here : (es : List Mention) (c : Capability) (i : ℕ) (d : Mention) → i < length es → (get_or es i d).0 ≡ c → Elsewhere es c i → contents es c ≡ Some (get_or es i d).1
+pub contents_here : (es : List Mention) (c : Capability) (i : ℕ) (d : Mention) → i < length es → (get_or es i d).0 ≡ c → Elsewhere es c i
+    → contents es c ≡ Some (get_or es i d).1
 unfolding contents
 contents_here [] c i d within here other = absurd (omega arith)
 contents_here (x ∷ es) c zero d within here other = rw (same_from_one x.0 c here)
-contents_here (x ∷ es) c (suc i) d within here other = rw (test_from_other x.0 c (other 0 x (λ s. omega arith) (omega arith))) (contents_here es c i d (omega arith) here (later x es c i other))
+contents_here (x ∷ es) c (suc i) d within here other =
+    rw (test_from_other x.0 c (other 0 x (λ s. omega arith) (omega arith))) (contents_here es c i d (omega arith) here (later x es c i other))
 
 -- the new entries say this of the capability, and of every other one what the old ones say
 abbrev pub Says : List Mention → List Mention → Capability → Option Content → Type 0
 Says old new c o = (d : Capability) → contents new d ≡ (if same_capability c d then o else contents old d)
 
 -- of two tests that do not both pass, either may come first
-exchanged : {X : Type 0} (a b : Bool) (p q r : X) → (a ≡ true → b ≡ true → ⊥) → (if b then q else (if a then p else r)) ≡ (if a then p else (if b then q else r))
+exchanged : {X : Type 0} (a b : Bool) (p q r : X) → (a ≡ true → b ≡ true → ⊥) → (if b then q else (if a then p else r))
+    ≡ (if a then p else (if b then q else r))
 exchanged true true p q r apart = absurd (apart refl refl)
 exchanged true false p q r apart = refl
 exchanged false true p q r apart = refl
@@ -82,13 +87,15 @@ twice : {X : Type 0} (a : Bool) (p q r : X) → (if a then p else (if a then q e
 twice true p q r = refl
 twice false p q r = refl
 
-pub says-set : (es : List Mention) (c : Capability) (v : Content) (i : ℕ) (e : Mention) → i < length es → (get_or es i e).0 ≡ c → Elsewhere es c i → Says es (set es i (c, v)) c (Some v)
+pub says-set : (es : List Mention) (c : Capability) (v : Content) (i : ℕ) (e : Mention) → i < length es → (get_or es i e).0 ≡ c → Elsewhere es c i
+    → Says es (set es i (c, v)) c (Some v)
 unfolding contents
 says-set [] c v i e within here other d = absurd (omega arith)
 says-set (x ∷ es) c v zero e within here other d = rw here (sym (twice (same_capability c d) (Some v) (Some x.1) (contents es d)))
 says-set (x ∷ es) c v (suc i) e within here other d =
     rw (says-set es c v i e (omega arith) here (later x es c i other) d)
-    (exchanged (same_capability c d) (same_capability x.0 d) (Some v) (Some x.1) (contents es d) (apart_from x.0 c d (other 0 x (λ s. omega arith) (omega arith))))
+    (exchanged (same_capability c d) (same_capability x.0 d) (Some v) (Some x.1) (contents es d)
+    (apart_from x.0 c d (other 0 x (λ s. omega arith) (omega arith))))
 
 pub says-insert : (es : List Mention) (c : Capability) (v : Content) (i : ℕ) → Nowhere es c → Says es (insert es i (c, v)) c (Some v)
 unfolding contents
@@ -102,7 +109,8 @@ first_gone : (es : List Mention) (c d : Capability) (b : Bool) → same_capabili
 first_gone es c d true e other = ap (contents es) (sym (same_capability-true c d e)) ∙ contents_nowhere es c other
 first_gone es c d false e other = refl
 
-pub says-remove : (es : List Mention) (c : Capability) (i : ℕ) (e : Mention) → i < length es → (get_or es i e).0 ≡ c → Elsewhere es c i → Says es (remove es i) c None
+pub says-remove : (es : List Mention) (c : Capability) (i : ℕ) (e : Mention) → i < length es → (get_or es i e).0 ≡ c → Elsewhere es c i
+    → Says es (remove es i) c None
 unfolding contents
 says-remove [] c i e within here other d = absurd (omega arith)
 says-remove (x ∷ es) c zero e within here other d =

@@ -1,5 +1,6 @@
 -- Numbers as bytes, and read back.
-use Rattle.std.proofs.Common.{◌≡◌, ℕ, zero, suc, ◌+◌, ◌*◌, ◌/◌, ◌%◌, ◌<◌, ◌≤◌, List, [], ◌∷◌, ◌++◌, length, get_or, take, drop, replicate, refl, sym, ap, ◌∙◌, append_assoc, arith, All}
+use Rattle.std.proofs.Common.{◌≡◌, ℕ, zero, suc, ◌+◌, ◌*◌, ◌/◌, ◌%◌, ◌<◌, ◌≤◌, List, [], ◌∷◌, ◌++◌, length, get_or, take, drop, replicate, refl, sym, ap}
+use Rattle.std.proofs.Common.{◌∙◌, append_assoc, arith, All}
 use Rattle.std.proofs.lemmas.List.{length-append, length-drop, get_or-drop, take_all, same_lists, get_or_default}
 use Rattle.ti_layout.specs.declared.layout.Format.{Format}
 use Rattle.ti_layout.specs.declared.layout.Format.TheVariants.{Legacy, Extended}
@@ -40,7 +41,8 @@ spelled-none w = refl
 pub spelled-append : (w : Format) (xs ys : List ℕ) → number_section w (xs ++ ys) ≡ number_section w xs ++ number_section w ys
 unfolding number_section
 spelled-append w [] ys = refl
-spelled-append w (x ∷ xs) ys = ap (λ t. number_bytes w x ++ t) (spelled-append w xs ys) ∙ sym (append_assoc (number_bytes w x) (number_section w xs) (number_section w ys))
+spelled-append w (x ∷ xs) ys =
+    ap (λ t. number_bytes w x ++ t) (spelled-append w xs ys) ∙ sym (append_assoc (number_bytes w x) (number_section w xs) (number_section w ys))
 
 pub spelled-one : (w : Format) (n : ℕ) → number_section w (n ∷ []) ≡ number_bytes w n
 unfolding number_section
@@ -61,8 +63,10 @@ length-spelled w (n ∷ ns) =
 pub spelled-absent : (w : Format) (k : ℕ) → number_section w (replicate k (absent_mark w)) ≡ replicate (width w * k) 255
 unfolding number_section
 spelled-absent w zero = ap (λ n. replicate {A = ℕ} n 255) (sym (place_none w))
-spelled-absent Legacy (suc k) = let e : 2 * suc k ≡ suc (suc (2 * k)) = omega arith in ap (λ t. 255 ∷ 255 ∷ t) (spelled-absent Legacy k) ∙ ap (λ n. replicate {A = ℕ} n 255) (sym e)
-spelled-absent Extended (suc k) = let e : 4 * suc k ≡ suc (suc (suc (suc (4 * k)))) = omega arith in ap (λ t. 255 ∷ 255 ∷ 255 ∷ 255 ∷ t) (spelled-absent Extended k) ∙ ap (λ n. replicate {A = ℕ} n 255) (sym e)
+spelled-absent Legacy (suc k) =
+    let e : 2 * suc k ≡ suc (suc (2 * k)) = omega arith in ap (λ t. 255 ∷ 255 ∷ t) (spelled-absent Legacy k) ∙ ap (λ n. replicate {A = ℕ} n 255) (sym e)
+spelled-absent Extended (suc k) = let e : 4 * suc k ≡ suc (suc (suc (suc (4 * k)))) = omega arith in
+    ap (λ t. 255 ∷ 255 ∷ 255 ∷ 255 ∷ t) (spelled-absent Extended k) ∙ ap (λ n. replicate {A = ℕ} n 255) (sym e)
 
 -- ---- read, and spelled again
 
@@ -115,7 +119,8 @@ take-more zero m b = ap (λ k. take k b) (omega arith)
 take-more (suc n) m [] = let e : suc n + m ≡ suc (n + m) = omega arith in rw e (sym (take_all m [] (omega arith)))
 take-more (suc n) m (x ∷ b) = let e : suc n + m ≡ suc (n + m) = omega arith in rw e (ap (λ t. x ∷ t) (take-more n m b))
 
-pub spelled-numbers : (w : Format) (b : List ℕ) (n : ℕ) → IsBytes b → width w * n ≤ length b → number_section w (below (λ i. number_at w (width w * i) b) n) ≡ take (width w * n) b
+pub spelled-numbers : (w : Format) (b : List ℕ) (n : ℕ) → IsBytes b → width w * n ≤ length b
+    → number_section w (below (λ i. number_at w (width w * i) b) n) ≡ take (width w * n) b
 spelled-numbers w b zero fits within =
     ap (number_section w) (below-none (λ i. number_at w (width w * i) b)) ∙ spelled-none w ∙ ap (λ k. take k b) (sym (place_none w))
 spelled-numbers w b (suc n) fits within =
@@ -131,7 +136,8 @@ spelled-numbers w b (suc n) fits within =
 pub spelled-again : (w : Format) (b : List ℕ) (n : ℕ) → IsBytes b → length b ≡ width w * n → number_section w (numbers_in w b) ≡ b
 spelled-again w b n fits long =
     let c : count_in w b ≡ n = ap (λ k. k / width w) long ∙ counted w n in
-    ap (λ k. number_section w (below (λ i. number_at w (width w * i) b) k)) c ∙ spelled-numbers w b n fits (omega arith) ∙ take_all (width w * n) b (omega arith)
+    ap (λ k. number_section w (below (λ i. number_at w (width w * i) b) k)) c ∙ spelled-numbers w b n fits (omega arith)
+    ∙ take_all (width w * n) b (omega arith)
 
 pub length-numbers_in : (w : Format) (b : List ℕ) (n : ℕ) → length b ≡ width w * n → length (numbers_in w b) ≡ n
 length-numbers_in w b n long = length-below _ (count_in w b) ∙ ap (λ k. k / width w) long ∙ counted w n
@@ -151,10 +157,12 @@ number_at-behind Extended n at r =
     let e3 : at + 4 + 3 ≡ suc (suc (suc (suc (at + 3)))) = omega arith in
     rw (e1, e2, e3, e0) refl
 
-pub number_read : (w : Format) (ns : List ℕ) (i : ℕ) → All (λ n. n ≤ absent_mark w) ns → i < length ns → number_at w (width w * i) (number_section w ns) ≡ get_or ns i 0
+pub number_read : (w : Format) (ns : List ℕ) (i : ℕ) → All (λ n. n ≤ absent_mark w) ns → i < length ns
+    → number_at w (width w * i) (number_section w ns) ≡ get_or ns i 0
 unfolding number_section
 number_read w [] i fit within = absurd (omega arith)
-number_read w (n ∷ ns) zero fit within = ap (λ k. number_at w k (number_bytes w n ++ number_section w ns)) (place_none w) ∙ number_at-here w n (number_section w ns) (fit 0 0 (omega arith))
+number_read w (n ∷ ns) zero fit within =
+    ap (λ k. number_at w k (number_bytes w n ++ number_section w ns)) (place_none w) ∙ number_at-here w n (number_section w ns) (fit 0 0 (omega arith))
 number_read w (n ∷ ns) (suc i) fit within =
     ap (λ k. number_at w k (number_bytes w n ++ number_section w ns)) (place_more w i) ∙ number_at-behind w n (width w * i) (number_section w ns)
     ∙ number_read w ns i (λ k d lt. fit (suc k) d (omega arith)) (omega arith)

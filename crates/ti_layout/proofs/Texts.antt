@@ -1,5 +1,6 @@
 -- The texts of an entry, one after the other.
-use Rattle.std.proofs.Common.{◌≡◌, ℕ, zero, suc, ◌+◌, ◌<◌, ◌≤◌, List, [], ◌∷◌, ◌++◌, length, drop, Option, Some, refl, sym, ap, ◌∙◌, subst, append_assoc, arith, inl, inr, add-one}
+use Rattle.std.proofs.Common.{◌≡◌, ℕ, zero, suc, ◌+◌, ◌<◌, ◌≤◌, List, [], ◌∷◌, ◌++◌, length, drop, Option, Some, refl, sym, ap, ◌∙◌, subst, append_assoc}
+use Rattle.std.proofs.Common.{arith, inl, inr, add-one}
 use Rattle.std.proofs.lemmas.Bool.{cases_lt}
 use Rattle.std.proofs.lemmas.List.{length-append, drop_at, drop-append-le, append-nil}
 use Rattle.ti_caps.specs.Tables.{capability}
@@ -44,14 +45,17 @@ module _ (c : Contents) where
             let inner = drop-texts n i below in
             let within = length-texts-le n i (omega arith) in (
               inner.0 ++ text_piece (of_kind c Text n),
-              drop-append-le (length (texts_below c i)) (texts_below c n) (text_piece (of_kind c Text n)) within ∙ ap (λ (x : List ℕ). x ++ text_piece (of_kind c Text n)) inner.1
+              drop-append-le (length (texts_below c i)) (texts_below c n) (text_piece (of_kind c Text n)) within
+                  ∙ ap (λ (x : List ℕ). x ++ text_piece (of_kind c Text n)) inner.1
                   ∙ append_assoc (text_piece (of_kind c Text i)) inner.0 (text_piece (of_kind c Text n)),
             )
         | inr le ↦
             let same : i ≡ n = omega arith in (
               [],
-              subst (λ (j : ℕ). drop (length (texts_below c j)) (texts_below c n ++ text_piece (of_kind c Text n)) ≡ text_piece (of_kind c Text j) ++ []) (sym same)
-                  (drop_at (texts_below c n) (text_piece (of_kind c Text n)) (length (texts_below c n)) refl ∙ sym (append-nil (text_piece (of_kind c Text n)))),
+              subst (λ (j : ℕ). drop (length (texts_below c j)) (texts_below c n ++ text_piece (of_kind c Text n)) ≡ text_piece (of_kind c Text j) ++ [])
+                  (sym same)
+                  (drop_at (texts_below c n) (text_piece (of_kind c Text n)) (length (texts_below c n)) refl
+                  ∙ sym (append-nil (text_piece (of_kind c Text n)))),
             )
       ]
 
@@ -63,7 +67,8 @@ module _ (c : Contents) where
       (d.0, d.1 ∙ ap (λ (o : Option Content). text_piece o ++ d.0) e ∙ append_assoc t (0 ∷ []) d.0)
 
 -- only the texts of the places count
-pub texts-same : (c d : Contents) (n : ℕ) → ((i : ℕ) → i < n → text_piece (of_kind c Text i) ≡ text_piece (of_kind d Text i)) → texts_below c n ≡ texts_below d n
+pub texts-same : (c d : Contents) (n : ℕ) → ((i : ℕ) → i < n → text_piece (of_kind c Text i) ≡ text_piece (of_kind d Text i))
+    → texts_below c n ≡ texts_below d n
 unfolding texts_below
 texts-same c d zero each = refl
 texts-same c d (suc n) each =

@@ -1,6 +1,7 @@
 -- A walk over the entries of a table, which are in the order of the compiled entry: how many places
 -- of a kind it has passed.
-use Rattle.std.proofs.Common.{◌≡◌, ℕ, zero, suc, ◌+◌, ◌-◌, ◌*◌, ◌<◌, ◌≤◌, Bool, true, false, cond, List, [], ◌∷◌, ◌++◌, length, get_or, replicate, Option, Some, None, refl, sym, ap, ◌∙◌, subst, append_assoc, arith, inl, inr}
+use Rattle.std.proofs.Common.{◌≡◌, ℕ, zero, suc, ◌+◌, ◌-◌, ◌*◌, ◌<◌, ◌≤◌, Bool, true, false, cond, List, [], ◌∷◌, ◌++◌, length, get_or, replicate, Option}
+use Rattle.std.proofs.Common.{Some, None, refl, sym, ap, ◌∙◌, subst, append_assoc, arith, inl, inr}
 use Rattle.std.proofs.lemmas.Bool.{cases_lt, cases_Bool}
 use Rattle.std.proofs.lemmas.List.{get_or_default, get_or-map, length-append}
 use Rattle.std.proofs.lemmas.Option.{same_Some, none-some}
@@ -12,9 +13,11 @@ use Rattle.ti_layout.specs.declared.layout.Format.{Format}
 use Rattle.ti_layout.specs.declared.layout.Format.TheVariants.{Legacy}
 use Rattle.ti_layout.specs.declared.values.Value.{Value}
 use Rattle.ti_layout.specs.inside.Values.{IsAt}
-use Rattle.ti_layout.specs.Values.{Content, content_true, content_number, content_text, content_cancelled, Mention, Agrees, IsSorted, contents, content_of, entries_of}
+use Rattle.ti_layout.specs.Values.{Content, content_true, content_number, content_text, content_cancelled, Mention, Agrees, IsSorted, contents, content_of}
+use Rattle.ti_layout.specs.Values.{entries_of}
 use Rattle.ti_layout.specs.Layout.{absent_mark, number_bytes, number_section, width}
-use Rattle.ti_layout.specs.Image.{is_there, of_kind, written_count, flag_value, number_value, offset_value, text_piece, flags_below, numbers_below, offsets_below, texts_below, below}
+use Rattle.ti_layout.specs.Image.{is_there, of_kind, written_count, flag_value, number_value, offset_value, text_piece, flags_below, numbers_below}
+use Rattle.ti_layout.specs.Image.{offsets_below, texts_below, below}
 use Rattle.ti_layout.proofs.SortedEntries.{contents_here}
 use Rattle.ti_layout.proofs.Searched.{elsewhere, rank_read}
 use Rattle.ti_layout.proofs.Below.{below-more, below-filled, last_passing-is, last_passing-over}
@@ -125,7 +128,8 @@ module _ (es : List Mention) (sorted : IsSorted es) where
       omega arith
 
   -- a place that the walk has passed without a value, or that is before the values to come
-  module _ (kind : Kind) (k places i : ℕ) (walked : Walked es kind k places) (low : places ≤ i) (before : (j : ℕ) (e : Mention) → k ≤ j → j < length es → is_of kind (get_or es j e).1 ≡ true → i < (get_or es j e).0.index) where
+  module _ (kind : Kind) (k places i : ℕ) (walked : Walked es kind k places) (low : places ≤ i)
+      (before : (j : ℕ) (e : Mention) → k ≤ j → j < length es → is_of kind (get_or es j e).1 ≡ true → i < (get_or es j e).0.index) where
     never_there : (o : Option Content) → contents es (capability kind i) ≡ o → is_there o ≡ true → ⊥
     never_there None said there = cc
     never_there (Some v) said there =
@@ -133,7 +137,8 @@ module _ (es : List Mention) (sorted : IsSorted es) where
         let e : Mention = (capability kind i, v) in
         let cap : (get_or es s.at e).0 ≡ capability kind i = s.is_cap e in
         let agrees : Agrees (get_or es s.at e).0 v = subst (Agrees (get_or es s.at e).0) (s.is_content e) (sorted.agree s.at e s.within).1 in
-        let is : is_of kind (get_or es s.at e).1 ≡ true = ap (is_of kind) (s.is_content e) ∙ of_there (get_or es s.at e).0 v kind agrees (ap (λ (c : Capability). c.kind) cap) there in
+        let is : is_of kind (get_or es s.at e).1 ≡ true =
+        ap (is_of kind) (s.is_content e) ∙ of_there (get_or es s.at e).0 v kind agrees (ap (λ (c : Capability). c.kind) cap) there in
         let place : (get_or es s.at e).0.index ≡ i = ap (λ (c : Capability). c.index) cap in
         elim (cases_lt s.at k) [
           | inl past ↦ let under = walked.covered s.at e past s.within is in omega arith
@@ -200,7 +205,8 @@ module _ (es : List Mention) (sorted : IsSorted es) where
 
       pub said_here : of_kind (contents es) kind e.0.index ≡ Some e.1
       said_here =
-          ap (λ (x : Kind). contents es (capability x e.0.index)) (sym kind_here) ∙ ap (contents es) (ap (λ (x : Mention). x.0) (sym here)) ∙ contents_read k e in_range
+          ap (λ (x : Kind). contents es (capability x e.0.index)) (sym kind_here) ∙ ap (contents es) (ap (λ (x : Mention). x.0) (sym here))
+          ∙ contents_read k e in_range
           ∙ ap (λ (x : Mention). Some x.1) here
 
       pub walked-there : Walked es kind (k + 1) (e.0.index + 1)
@@ -217,7 +223,8 @@ module _ (es : List Mention) (sorted : IsSorted es) where
                   omega arith
             ];
             ahead = λ j d le within is_j. let r = index_rises k j e d kind (omega arith) within is_at is_j in omega arith;
-            last = λ n one. let same : n ≡ e.0.index = omega arith in ap (λ (x : ℕ). is_there (of_kind (contents es) kind x)) same ∙ ap is_there said_here ∙ there_of e.1 kind is;
+            last = λ n one. let same : n ≡ e.0.index = omega arith in ap (λ (x : ℕ). is_there (of_kind (contents es) kind x)) same ∙ ap is_there said_here
+                ∙ there_of e.1 kind is;
             within = omega arith;
           }
 
@@ -265,11 +272,13 @@ next_spelled : (w : Format) (f : ℕ → ℕ) (places index n : ℕ) → below f
     → number_section w (below f (index + 1)) ≡ (number_section w (below f places) ++ replicate (width w * (index - places)) 255) ++ number_bytes w n
 next_spelled w f places index n e =
     ap (number_section w) e ∙ spelled-append w (below f places ++ replicate (index - places) (absent_mark w)) (n ∷ [])
-    ∙ ap (λ xs. xs ++ number_section w (n ∷ [])) (spelled-append w (below f places) (replicate (index - places) (absent_mark w)) ∙ ap (λ xs. number_section w (below f places) ++ xs) (spelled-absent w (index - places)))
+    ∙ ap (λ xs. xs ++ number_section w (n ∷ [])) (spelled-append w (below f places) (replicate (index - places) (absent_mark w))
+    ∙ ap (λ xs. number_section w (below f places) ++ xs) (spelled-absent w (index - places)))
     ∙ ap (λ xs. (number_section w (below f places) ++ replicate (width w * (index - places)) 255) ++ xs) (spelled-one w n)
 
 module _ (es : List Mention) (sorted : IsSorted es) (k places : ℕ) (in_range : k < length es) (e : Mention) (here : get_or es k e ≡ e) where
-  pub next_flag : Walked es Flag k places → e.1 ≡ content_true → flags_below (contents es) (e.0.index + 1) ≡ (flags_below (contents es) places ++ replicate (e.0.index - places) 0) ++ 1 ∷ []
+  pub next_flag : Walked es Flag k places → e.1 ≡ content_true → flags_below (contents es) (e.0.index + 1)
+      ≡ (flags_below (contents es) places ++ replicate (e.0.index - places) 0) ++ 1 ∷ []
   next_flag walked v =
       let is : is_of Flag e.1 ≡ true = ap (is_of Flag) v in
       next_value (λ i. flag_value (of_kind (contents es) Flag i)) 0 places e.0.index 1 (places_behind es sorted Flag k places walked in_range e here is)
@@ -277,7 +286,8 @@ module _ (es : List Mention) (sorted : IsSorted es) (k places : ℕ) (in_range :
       (ap flag_value (said_here es sorted Flag k places walked in_range e here is ∙ ap (λ x. Some x) v))
 
   pub next_number : (w : Format) (n : ℕ) → Walked es Number k places → e.1 ≡ content_number n
-      → number_section w (numbers_below w (contents es) (e.0.index + 1)) ≡ (number_section w (numbers_below w (contents es) places) ++ replicate (width w * (e.0.index - places)) 255) ++ number_bytes w n
+      → number_section w (numbers_below w (contents es) (e.0.index + 1))
+      ≡ (number_section w (numbers_below w (contents es) places) ++ replicate (width w * (e.0.index - places)) 255) ++ number_bytes w n
   next_number w n walked v =
       let is : is_of Number e.1 ≡ true = ap (is_of Number) v in
       let f : ℕ → ℕ = λ i. number_value (absent_mark w) (of_kind (contents es) Number i) in
@@ -299,13 +309,16 @@ module _ (es : List Mention) (sorted : IsSorted es) (k places : ℕ) (in_range :
         let behind = places_behind es sorted Text k places walked in_range e here is_text in
         let sum : places + (e.0.index - places) ≡ e.0.index = omega arith in
         ap (texts_below (contents es)) (sym sum)
-        ∙ texts-skipped (contents es) places (e.0.index - places) (λ j low high. void_text _ (void_between es sorted Text k places walked in_range e here is_text j low (omega arith)))
+        ∙ texts-skipped (contents es) places (e.0.index - places)
+        (λ j low high. void_text _ (void_between es sorted Text k places walked in_range e here is_text j low (omega arith)))
 
     pub next_text : texts_below (contents es) (e.0.index + 1) ≡ texts_below (contents es) places ++ (t ++ 0 ∷ [])
-    next_text = texts-more (contents es) e.0.index ∙ ap (λ x. texts_below (contents es) e.0.index ++ text_piece x) said_text ∙ ap (λ x. x ++ (t ++ 0 ∷ [])) texts_before
+    next_text = texts-more (contents es) e.0.index ∙ ap (λ x. texts_below (contents es) e.0.index ++ text_piece x) said_text
+        ∙ ap (λ x. x ++ (t ++ 0 ∷ [])) texts_before
 
     pub next_offset : number_section Legacy (offsets_below (contents es) (e.0.index + 1))
-        ≡ (number_section Legacy (offsets_below (contents es) places) ++ replicate (2 * (e.0.index - places)) 255) ++ number_bytes Legacy (length (texts_below (contents es) places))
+        ≡ (number_section Legacy (offsets_below (contents es) places) ++ replicate (2 * (e.0.index - places)) 255)
+        ++ number_bytes Legacy (length (texts_below (contents es) places))
     next_offset =
         let f : ℕ → ℕ = λ i. offset_value (length (texts_below (contents es) i)) (of_kind (contents es) Text i) in
         next_spelled Legacy f places e.0.index (length (texts_below (contents es) places))
@@ -316,20 +329,24 @@ module _ (es : List Mention) (sorted : IsSorted es) (k places : ℕ) (in_range :
     -- the string table holds what the walk has passed, and this text
     pub text_fits : length (texts_below (contents es) places) + (length t + 1) ≤ length (texts_below (contents es) (written_count (contents es) Text))
     text_fits =
-        let more : length (texts_below (contents es) (e.0.index + 1)) ≡ length (texts_below (contents es) places) + length (t ++ 0 ∷ []) = ap length next_text ∙ length-append (texts_below (contents es) places) (t ++ 0 ∷ []) in
+        let more : length (texts_below (contents es) (e.0.index + 1)) ≡ length (texts_below (contents es) places) + length (t ++ 0 ∷ []) =
+        ap length next_text ∙ length-append (texts_below (contents es) places) (t ++ 0 ∷ []) in
         let nul : length (t ++ 0 ∷ []) ≡ length t + 1 = length-append t (0 ∷ []) in
         let next = walked-there es sorted Text k places walked in_range e here is_text in
-        let le = length-texts-le (contents es) (written_count (contents es) Text) (e.0.index + 1) (walked-written es sorted Text (k + 1) (e.0.index + 1) next) in
+        let le =
+        length-texts-le (contents es) (written_count (contents es) Text) (e.0.index + 1) (walked-written es sorted Text (k + 1) (e.0.index + 1) next) in
         omega arith
 
 -- ---- an item of the slice that is walked over
 
-pub item_read : (xs : List (Capability × Value)) (k : ℕ) (x : Capability × Value) → k < length xs → x ≡ get_or xs k x → get_or (entries_of xs) k (x.0, content_of x.1) ≡ (x.0, content_of x.1)
+pub item_read : (xs : List (Capability × Value)) (k : ℕ) (x : Capability × Value) → k < length xs → x ≡ get_or xs k x
+    → get_or (entries_of xs) k (x.0, content_of x.1) ≡ (x.0, content_of x.1)
 item_read xs k x lt e =
     let f : Capability × Value → Mention = λ y. (y.0, content_of y.1) in
     get_or-map f xs k x (f x) lt ∙ ap f (sym e)
 
 -- two more parts after what was there
-pub grown : (start done v0 v1 v2 fill piece next : List ℕ) → v0 ≡ start ++ done → v1 ≡ v0 ++ fill → v2 ≡ v1 ++ piece → next ≡ (done ++ fill) ++ piece → v2 ≡ start ++ next
+pub grown : (start done v0 v1 v2 fill piece next : List ℕ) → v0 ≡ start ++ done → v1 ≡ v0 ++ fill → v2 ≡ v1 ++ piece → next ≡ (done ++ fill) ++ piece
+    → v2 ≡ start ++ next
 grown start done v0 v1 v2 fill piece next a b c e =
     c ∙ ap (λ x. x ++ piece) (b ∙ ap (λ x. x ++ fill) a ∙ append_assoc start done fill) ∙ append_assoc start (done ++ fill) piece ∙ ap (λ x. start ++ x) (sym e)

@@ -1,11 +1,14 @@
 -- Bytes that were cut are their sections, one after the other.
-use Rattle.std.proofs.Common.{◌≡◌, ℕ, suc, min, ◌+◌, ◌-◌, ◌*◌, ◌%◌, ◌<◌, ◌≤◌, List, [], ◌∷◌, ◌++◌, length, take, drop, get_or, slice_range, All, refl, sym, ap, ◌∙◌, subst, append_assoc, arith, inl, inr}
-use Rattle.std.proofs.lemmas.List.{take_all, take_more, take-append-drop, length-drop, length-take, get_or-drop, get_or-take, get_or_default, get_or_past, drop-drop}
+use Rattle.std.proofs.Common.{◌≡◌, ℕ, suc, min, ◌+◌, ◌-◌, ◌*◌, ◌%◌, ◌<◌, ◌≤◌, List, [], ◌∷◌, ◌++◌, length, take, drop, get_or, slice_range, All, refl, sym}
+use Rattle.std.proofs.Common.{ap, ◌∙◌, subst, append_assoc, arith, inl, inr}
+use Rattle.std.proofs.lemmas.List.{take_all, take_more, take-append-drop, length-drop, length-take, get_or-drop, get_or-take, get_or_default, get_or_past}
+use Rattle.std.proofs.lemmas.List.{drop-drop}
 use Rattle.std.proofs.lemmas.Bool.{cases_lt}
 use Rattle.ti_layout.specs.declared.layout.Format.{Format}
 use Rattle.ti_layout.specs.declared.layout.Format.TheVariants.{Legacy}
 use Rattle.ti_layout.specs.Layout.{Sections, header, entry_bytes, magic, number_bytes, number_section, width}
-use Rattle.ti_layout.specs.Reading.{word_at, number_at, count_in, numbers_in, AreSound, IsStoredNumber, IsOffset, Reads, contents_of, format_in, names_size, flag_count}
+use Rattle.ti_layout.specs.Reading.{word_at, number_at, count_in, numbers_in, AreSound, IsStoredNumber, IsOffset, Reads, contents_of, format_in, names_size}
+use Rattle.ti_layout.specs.Reading.{flag_count}
 use Rattle.ti_layout.specs.Reading.{number_count, text_count, strings_size, flags_begin, numbers_begin, offsets_begin, strings_begin, entry_end, names_section}
 use Rattle.ti_layout.specs.Reading.{flags_section, numbers_section, offsets_section, strings_section}
 use Rattle.ti_layout.specs.Sections.{AreNames, AreFlags, AreStoredNumbers, AreOffsets, EachNumber}
@@ -28,7 +31,8 @@ pub length-part : (b : List ℕ) (x y : ℕ) → x ≤ y → y ≤ length b → 
 length-part b x y le within = omega (arith, length-take (y - x) (drop x b), length-drop x b)
 
 -- a front of b, and the number after it
-further_word : (b front : List ℕ) (at : ℕ) → IsBytes b → at + 2 ≤ length b → front ++ drop at b ≡ b → (front ++ number_bytes Legacy (word_at at b)) ++ drop (at + 2) b ≡ b
+further_word : (b front : List ℕ) (at : ℕ) → IsBytes b → at + 2 ≤ length b → front ++ drop at b ≡ b
+    → (front ++ number_bytes Legacy (word_at at b)) ++ drop (at + 2) b ≡ b
 further_word b front at fits within so_far =
     let n : at + 2 - at ≡ 2 = omega arith in
     let part : slice_range b at (at + 2) ≡ number_bytes Legacy (word_at at b) = ap (λ (k : ℕ). take k (drop at b)) n ∙ part-number Legacy b at fits within in
@@ -58,7 +62,8 @@ header_again b w fits long known =
 bytes_of_part : (b : List ℕ) (x y : ℕ) → IsBytes b → IsBytes (slice_range b x y)
 bytes_of_part b x y fits i = elim (cases_lt i (y - x)) [
   | inl within ↦ rw (get_or-take (y - x) (drop x b) i 0 within, get_or-drop x b i 0) (fits (x + i))
-  | inr past ↦ let none : get_or (slice_range b x y) i 0 ≡ 0 = get_or_past (slice_range b x y) i 0 (omega (arith, length-take (y - x) (drop x b))) in rw none (omega arith)
+  | inr past ↦ let none : get_or (slice_range b x y) i 0 ≡ 0 =
+      get_or_past (slice_range b x y) i 0 (omega (arith, length-take (y - x) (drop x b))) in rw none (omega arith)
 ]
 
 -- names with their NUL are the names and the NUL
@@ -102,7 +107,8 @@ lengths b whole = record {
 
 -- the header that the sections' lengths spell
 header_of-lengths : (b : List ℕ) → HasLengths b → AreNames (names_section b)
-    → header (format_in b) (suc (length (sections_in b).names)) (length (flags_section b)) (length (sections_in b).numbers) (length (sections_in b).offsets) (length (strings_section b))
+    → header (format_in b) (suc (length (sections_in b).names)) (length (flags_section b)) (length (sections_in b).numbers) (length (sections_in b).offsets)
+    (length (strings_section b))
     ≡ header (format_in b) (names_size b) (flag_count b) (number_count b) (text_count b) (strings_size b)
 unfolding sections_in
 header_of-lengths b l named =
@@ -114,12 +120,14 @@ header_of-lengths b l named =
     let strings = l.strings in
     rw (n, flags, numbers, offsets, strings) refl
 
-pub cut_whole : (b : List ℕ) → IsBytes b → 12 ≤ length b → word_at 0 b ≡ magic (format_in b) → entry_end b ≤ length b → AreNames (names_section b) → b ≡ entry_bytes (format_in b) (sections_in b)
+pub cut_whole : (b : List ℕ) → IsBytes b → 12 ≤ length b → word_at 0 b ≡ magic (format_in b) → entry_end b ≤ length b → AreNames (names_section b)
+    → b ≡ entry_bytes (format_in b) (sections_in b)
 unfolding sections_in
 cut_whole b fits long known whole named =
     let w = format_in b in
     let l = lengths b whole in
-    let H : List ℕ = header w (suc (length (sections_in b).names)) (length (flags_section b)) (length (sections_in b).numbers) (length (sections_in b).offsets) (length (strings_section b)) in
+    let H : List ℕ = header w (suc (length (sections_in b).names)) (length (flags_section b)) (length (sections_in b).numbers)
+    (length (sections_in b).offsets) (length (strings_section b)) in
     let N : List ℕ = take (length (names_section b) - 1) (names_section b) in
     let gap : List ℕ = slice_range b (flags_begin b + flag_count b) (numbers_begin b) in
     let h : H ++ drop 12 b ≡ b = ap (λ (x : List ℕ). x ++ drop 12 b) (header_of-lengths b l named) ∙ header_again b w fits long known in
@@ -130,10 +138,14 @@ cut_whole b fits long known whole named =
     let g = further b (((H ++ N) ++ 0 ∷ []) ++ flags_section b) (flags_begin b + flag_count b) (numbers_begin b) (omega arith) f in
     let m = further b ((((H ++ N) ++ 0 ∷ []) ++ flags_section b) ++ gap) (numbers_begin b) (offsets_begin b) (omega arith) g in
     let o = further b (((((H ++ N) ++ 0 ∷ []) ++ flags_section b) ++ gap) ++ numbers_section b) (offsets_begin b) (strings_begin b) (omega arith) m in
-    let whole = further b ((((((H ++ N) ++ 0 ∷ []) ++ flags_section b) ++ gap) ++ numbers_section b) ++ offsets_section b) (strings_begin b) (entry_end b) (omega arith) o in
-    let numbers : number_section w (numbers_in w (numbers_section b)) ≡ numbers_section b = spelled-again w (numbers_section b) (number_count b) (bytes_of_part b (numbers_begin b) (offsets_begin b) fits) l.numbers in
-    let offsets : number_section Legacy (numbers_in Legacy (offsets_section b)) ≡ offsets_section b = spelled-again Legacy (offsets_section b) (text_count b) (bytes_of_part b (offsets_begin b) (strings_begin b) fits) l.offsets in
-    sym (ap (λ (x : List ℕ). (((((H ++ N) ++ 0 ∷ []) ++ flags_section b) ++ gap) ++ x) ++ number_section Legacy (numbers_in Legacy (offsets_section b)) ++ strings_section b ++ drop (entry_end b) b) numbers
+    let whole = further b ((((((H ++ N) ++ 0 ∷ []) ++ flags_section b) ++ gap) ++ numbers_section b) ++ offsets_section b) (strings_begin b) (entry_end b)
+    (omega arith) o in
+    let numbers : number_section w (numbers_in w (numbers_section b)) ≡ numbers_section b =
+    spelled-again w (numbers_section b) (number_count b) (bytes_of_part b (numbers_begin b) (offsets_begin b) fits) l.numbers in
+    let offsets : number_section Legacy (numbers_in Legacy (offsets_section b)) ≡ offsets_section b =
+    spelled-again Legacy (offsets_section b) (text_count b) (bytes_of_part b (offsets_begin b) (strings_begin b) fits) l.offsets in
+    sym (ap (λ (x : List ℕ). (((((H ++ N) ++ 0 ∷ []) ++ flags_section b) ++ gap) ++ x) ++ number_section Legacy (numbers_in Legacy (offsets_section b))
+    ++ strings_section b ++ drop (entry_end b) b) numbers
     ∙ ap (λ (x : List ℕ). ((((((H ++ N) ++ 0 ∷ []) ++ flags_section b) ++ gap) ++ numbers_section b) ++ x) ++ strings_section b ++ drop (entry_end b) b) offsets
     ∙ whole)
 
@@ -173,7 +185,9 @@ sections-sound b r =
       names_size = omega (arith, n, l.names, r.names.some, r.names_fit);
       no_nul = λ k d lt e.
           let under : k < length (names_section b) - 1 = omega (arith, n, l.names) in
-          r.names.no_nul k (omega (arith, under)) (sym (get_or_default (take (length (names_section b) - 1) (names_section b)) k d 0 lt ∙ get_or-take (length (names_section b) - 1) (names_section b) k 0 under) ∙ e);
+          r.names.no_nul k (omega (arith, under))
+          (sym (get_or_default (take (length (names_section b) - 1) (names_section b)) k d 0 lt
+          ∙ get_or-take (length (names_section b) - 1) (names_section b) k 0 under) ∙ e);
       flag_count = omega (arith, l.flags, r.flags_fit);
       number_count = omega (arith, numbers, r.numbers_fit);
       text_count = omega (arith, offsets, r.texts_fit);
@@ -186,7 +200,8 @@ sections-sound b r =
 
 pub is_read : (b : List ℕ) (w : Format) (names flags numbers offsets strings : List ℕ) → IsBytes b → 12 ≤ length b → word_at 0 b ≡ magic (format_in b)
     → names_size b < 32768 → flag_count b ≤ 44 → number_count b ≤ 39 → text_count b ≤ 414 → strings_size b < 32768 → entry_end b ≤ length b
-    → w ≡ format_in b → names ≡ names_section b → flags ≡ flags_section b → numbers ≡ numbers_section b → offsets ≡ offsets_section b → strings ≡ strings_section b
+    → w ≡ format_in b → names ≡ names_section b → flags ≡ flags_section b → numbers ≡ numbers_section b → offsets ≡ offsets_section b
+    → strings ≡ strings_section b
     → AreNames names → AreFlags flags → AreStoredNumbers w numbers → AreOffsets offsets strings → IsRead b
 is_read b w names flags numbers offsets strings fits long known a1 a2 a3 a4 a5 whole e n f m o s named flagged numbered placed =
     record {
@@ -206,7 +221,8 @@ is_read b w names flags numbers offsets strings fits long known a1 a2 a3 a4 a5 w
     }
 
 pub reads : (b : List ℕ) (w : Format) (names flags numbers offsets strings : List ℕ) → IsRead b
-    → w ≡ format_in b → names ≡ names_section b → flags ≡ flags_section b → numbers ≡ numbers_section b → offsets ≡ offsets_section b → strings ≡ strings_section b
+    → w ≡ format_in b → names ≡ names_section b → flags ≡ flags_section b → numbers ≡ numbers_section b → offsets ≡ offsets_section b
+    → strings ≡ strings_section b
     → Reads b (take (length names - 1) names) (contents_of w flags (numbers_in w numbers) (numbers_in Legacy offsets) strings)
 unfolding sections_in
 reads b w names flags numbers offsets strings r e n f m o s =

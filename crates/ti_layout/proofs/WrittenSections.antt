@@ -1,6 +1,7 @@
 -- What the writer has written of a section when its walk has passed some of the entries, and what
 -- one more entry adds.
-use Rattle.std.proofs.Common.{◌≡◌, ℕ, ◌+◌, ◌-◌, ◌*◌, ◌<◌, ◌≤◌, true, false, List, [], ◌∷◌, ◌++◌, length, get_or, replicate, refl, sym, ap, ◌∙◌, subst, arith, append-nil, append_assoc, length-append}
+use Rattle.std.proofs.Common.{◌≡◌, ℕ, ◌+◌, ◌-◌, ◌*◌, ◌<◌, ◌≤◌, true, false, List, [], ◌∷◌, ◌++◌, length, get_or, replicate, refl, sym, ap, ◌∙◌, subst}
+use Rattle.std.proofs.Common.{arith, append-nil, append_assoc, length-append}
 use Rattle.std.proofs.lemmas.List.{length-map}
 use Rattle.ti_caps.specs.Tables.{Capability}
 use Rattle.ti_caps.specs.declared.capability.Kind.{Kind}
@@ -18,7 +19,8 @@ use Rattle.ti_layout.specs.Image.{written_count, flags_below, numbers_below, off
 use Rattle.ti_layout.proofs.Below.{below-none}
 use Rattle.ti_layout.proofs.Spelled.{spelled-none}
 use Rattle.ti_layout.proofs.Texts.{texts-none}
-use Rattle.ti_layout.proofs.Walked.{Walked, is_of, walked-start, walked-there, walked-past, walked-end, places_behind, next_flag, next_number, next_offset, next_text, text_fits, item_read, grown}
+use Rattle.ti_layout.proofs.Walked.{Walked, is_of, walked-start, walked-there, walked-past, walked-end, places_behind, next_flag, next_number, next_offset}
+use Rattle.ti_layout.proofs.Walked.{next_text, text_fits, item_read, grown}
 
 -- ---- what is written so far
 
@@ -67,11 +69,15 @@ module _ (es : List Mention) (sorted : IsSorted es) (start image : List ℕ) (k 
   pub flags_done : (places : ℕ) → HasFlags es start image k places → image ≡ start ++ flags_below (contents es) (written_count (contents es) Flag)
   flags_done places has = has.so_far ∙ ap (λ n. start ++ flags_below (contents es) n) (sym (walked-end es sorted Flag k places all has.walked))
 
-  pub numbers_done : (w : Format) (places : ℕ) → HasNumbers w es start image k places → image ≡ start ++ number_section w (numbers_below w (contents es) (written_count (contents es) Number))
-  numbers_done w places has = has.so_far ∙ ap (λ n. start ++ number_section w (numbers_below w (contents es) n)) (sym (walked-end es sorted Number k places all has.walked))
+  pub numbers_done : (w : Format) (places : ℕ) → HasNumbers w es start image k places → image ≡ start
+      ++ number_section w (numbers_below w (contents es) (written_count (contents es) Number))
+  numbers_done w places has =
+      has.so_far ∙ ap (λ n. start ++ number_section w (numbers_below w (contents es) n)) (sym (walked-end es sorted Number k places all has.walked))
 
-  pub offsets_done : (places offset : ℕ) → HasOffsets es start image k places offset → image ≡ start ++ number_section Legacy (offsets_below (contents es) (written_count (contents es) Text))
-  offsets_done places offset has = has.so_far ∙ ap (λ n. start ++ number_section Legacy (offsets_below (contents es) n)) (sym (walked-end es sorted Text k places all has.walked))
+  pub offsets_done : (places offset : ℕ) → HasOffsets es start image k places offset → image ≡ start
+      ++ number_section Legacy (offsets_below (contents es) (written_count (contents es) Text))
+  offsets_done places offset has =
+      has.so_far ∙ ap (λ n. start ++ number_section Legacy (offsets_below (contents es) n)) (sym (walked-end es sorted Text k places all has.walked))
 
   pub texts_done : HasTexts es start image k → image ≡ start ++ texts_below (contents es) (written_count (contents es) Text)
   texts_done has = has.so_far ∙ ap (λ n. start ++ texts_below (contents es) n) (sym (walked-end es sorted Text k has.places all has.walked))
@@ -109,7 +115,8 @@ text_grown start done t v0 v1 v2 a b c =
 
 -- ---- one more entry
 
-module _ (xs : List (Capability × Value)) (sorted : IsSorted (entries_of xs)) (k places : ℕ) (x : Capability × Value) (within : k < length xs) (item : x ≡ get_or xs k x) where
+module _ (xs : List (Capability × Value)) (sorted : IsSorted (entries_of xs)) (k places : ℕ) (x : Capability × Value) (within : k < length xs)
+    (item : x ≡ get_or xs k x) where
   here : Mention
   here = (x.0, content_of x.1)
 
@@ -119,18 +126,23 @@ module _ (xs : List (Capability × Value)) (sorted : IsSorted (entries_of xs)) (
   in_range : k < length (entries_of xs)
   in_range = rw length-map within
 
-  pub passed : (kind : Kind) (next : ℕ) → Walked (entries_of xs) kind k places → is_of kind (content_of x.1) ≡ false → next ≡ places → Walked (entries_of xs) kind (k + 1) next
-  passed kind next walked other e = subst (Walked (entries_of xs) kind (k + 1)) (sym e) (walked-past (entries_of xs) sorted kind k places walked in_range (x.0, content_of x.1) read other)
+  pub passed : (kind : Kind) (next : ℕ) → Walked (entries_of xs) kind k places → is_of kind (content_of x.1) ≡ false → next ≡ places
+      → Walked (entries_of xs) kind (k + 1) next
+  passed kind next walked other e =
+      subst (Walked (entries_of xs) kind (k + 1)) (sym e) (walked-past (entries_of xs) sorted kind k places walked in_range (x.0, content_of x.1) read other)
 
   pub behind : (kind : Kind) (index : ℕ) → Walked (entries_of xs) kind k places → is_of kind (content_of x.1) ≡ true → index ≡ x.0.index → places ≤ index
   behind kind index walked is e = let b = places_behind (entries_of xs) sorted kind k places walked in_range (x.0, content_of x.1) read is in omega arith
 
-  pub stepped : (kind : Kind) (next index : ℕ) → Walked (entries_of xs) kind k places → is_of kind (content_of x.1) ≡ true → next ≡ index + 1 → index ≡ x.0.index → Walked (entries_of xs) kind (k + 1) next
+  pub stepped : (kind : Kind) (next index : ℕ) → Walked (entries_of xs) kind k places → is_of kind (content_of x.1) ≡ true → next ≡ index + 1
+      → index ≡ x.0.index → Walked (entries_of xs) kind (k + 1) next
   stepped kind next index walked is e i =
-      subst (Walked (entries_of xs) kind (k + 1)) {x = x.0.index + 1} (omega arith) (walked-there (entries_of xs) sorted kind k places walked in_range (x.0, content_of x.1) read is)
+      subst (Walked (entries_of xs) kind (k + 1)) {x = x.0.index + 1} (omega arith)
+      (walked-there (entries_of xs) sorted kind k places walked in_range (x.0, content_of x.1) read is)
 
   module _ (start v0 v1 v2 : List ℕ) (first next index : ℕ) (i1 : first ≡ x.0.index) (i2 : index ≡ x.0.index) (n : next ≡ index + 1) where
-    pub flag_put : x.1 ≡ True → HasFlags (entries_of xs) start v0 k places → v1 ≡ v0 ++ replicate (first - places) 0 → v2 ≡ v1 ++ 1 ∷ [] → HasFlags (entries_of xs) start v2 (k + 1) next
+    pub flag_put : x.1 ≡ True → HasFlags (entries_of xs) start v0 k places → v1 ≡ v0 ++ replicate (first - places) 0 → v2 ≡ v1 ++ 1 ∷ []
+        → HasFlags (entries_of xs) start v2 (k + 1) next
     flag_put value has fill push =
         let c = ap content_of value in
         let e : next ≡ x.0.index + 1 = omega arith in
@@ -140,39 +152,49 @@ module _ (xs : List (Capability × Value)) (sorted : IsSorted (entries_of xs)) (
               (ap (flags_below (contents (entries_of xs))) e ∙ next_flag (entries_of xs) sorted k places in_range (x.0, content_of x.1) read has.walked c);
         }
 
-    pub number_put : (w : Format) (size m : ℕ) → x.1 ≡ v.Number m → HasNumbers w (entries_of xs) start v0 k places → size ≡ width w → v1 ≡ v0 ++ replicate (size * (first - places)) 255 → v2 ≡ v1 ++ number_bytes w m
+    pub number_put : (w : Format) (size m : ℕ) → x.1 ≡ v.Number m → HasNumbers w (entries_of xs) start v0 k places → size ≡ width w
+        → v1 ≡ v0 ++ replicate (size * (first - places)) 255 → v2 ≡ v1 ++ number_bytes w m
         → HasNumbers w (entries_of xs) start v2 (k + 1) next
     number_put w size m value has wide fill push =
         let c = ap content_of value in
         let e : next ≡ x.0.index + 1 = omega arith in
         record {
           walked = stepped Number next index has.walked (ap (is_of Number) c) n i2;
-          so_far = grown start _ v0 v1 v2 _ _ _ has.so_far (fill ∙ ap (λ j. v0 ++ replicate (size * (j - places)) 255) i1 ∙ ap (λ j. v0 ++ replicate (j * (x.0.index - places)) 255) wide) push
-              (ap (λ j. number_section w (numbers_below w (contents (entries_of xs)) j)) e ∙ next_number (entries_of xs) sorted k places in_range (x.0, content_of x.1) read w m has.walked c);
+          so_far = grown start _ v0 v1 v2 _ _ _ has.so_far (fill ∙ ap (λ j. v0 ++ replicate (size * (j - places)) 255) i1
+              ∙ ap (λ j. v0 ++ replicate (j * (x.0.index - places)) 255) wide) push
+              (ap (λ j. number_section w (numbers_below w (contents (entries_of xs)) j)) e
+              ∙ next_number (entries_of xs) sorted k places in_range (x.0, content_of x.1) read w m has.walked c);
         }
 
-    pub offset_put : (t : List ℕ) (offset more : ℕ) → content_of x.1 ≡ content_text t → HasOffsets (entries_of xs) start v0 k places offset → v1 ≡ v0 ++ replicate (2 * (first - places)) 255 → v2 ≡ v1 ++ number_bytes Legacy offset
+    pub offset_put : (t : List ℕ) (offset more : ℕ) → content_of x.1 ≡ content_text t → HasOffsets (entries_of xs) start v0 k places offset
+        → v1 ≡ v0 ++ replicate (2 * (first - places)) 255 → v2 ≡ v1 ++ number_bytes Legacy offset
         → more ≡ offset + (length t + 1) → HasOffsets (entries_of xs) start v2 (k + 1) next more
     offset_put t offset more c has fill push sum =
         let e : next ≡ x.0.index + 1 = omega arith in
         let text = next_text (entries_of xs) sorted k places in_range (x.0, content_of x.1) read t has.walked c in
         let size = text_length (texts_below (contents (entries_of xs)) places) t in
         let before = has.length_before in
-        let long : length (texts_below (contents (entries_of xs)) next) ≡ length (texts_below (contents (entries_of xs)) places ++ (t ++ 0 ∷ [])) = ap (λ j. length (texts_below (contents (entries_of xs)) j)) e ∙ ap (λ (u : List ℕ). length u) text in
+        let long : length (texts_below (contents (entries_of xs)) next) ≡ length (texts_below (contents (entries_of xs)) places ++ (t ++ 0 ∷ [])) =
+        ap (λ j. length (texts_below (contents (entries_of xs)) j)) e ∙ ap (λ (u : List ℕ). length u) text in
         record {
           walked = stepped Text next index has.walked (ap (is_of Text) c) n i2;
           length_before = omega arith;
-          so_far = grown start _ v0 v1 v2 _ _ _ has.so_far (fill ∙ ap (λ j. v0 ++ replicate (2 * (j - places)) 255) i1) (push ∙ ap (λ j. v1 ++ number_bytes Legacy j) before)
-              (ap (λ j. number_section Legacy (offsets_below (contents (entries_of xs)) j)) e ∙ next_offset (entries_of xs) sorted k places in_range (x.0, content_of x.1) read t has.walked c);
+          so_far = grown start _ v0 v1 v2 _ _ _ has.so_far (fill ∙ ap (λ j. v0 ++ replicate (2 * (j - places)) 255) i1)
+              (push ∙ ap (λ j. v1 ++ number_bytes Legacy j) before)
+              (ap (λ j. number_section Legacy (offsets_below (contents (entries_of xs)) j)) e
+              ∙ next_offset (entries_of xs) sorted k places in_range (x.0, content_of x.1) read t has.walked c);
         }
 
-  pub text_within : (t : List ℕ) (offset : ℕ) → content_of x.1 ≡ content_text t → Walked (entries_of xs) Text k places → offset ≡ length (texts_below (contents (entries_of xs)) places)
+  pub text_within : (t : List ℕ) (offset : ℕ) → content_of x.1 ≡ content_text t → Walked (entries_of xs) Text k places
+      → offset ≡ length (texts_below (contents (entries_of xs)) places)
       → offset + (length t + 1) ≤ length (texts_below (contents (entries_of xs)) (written_count (contents (entries_of xs)) Text))
   text_within t offset c walked e = let fits = text_fits (entries_of xs) sorted k places in_range (x.0, content_of x.1) read t walked c in omega arith
 
-  pub text_put : (start v0 v1 v2 t : List ℕ) → content_of x.1 ≡ content_text t → Walked (entries_of xs) Text k places → v0 ≡ start ++ texts_below (contents (entries_of xs)) places → v1 ≡ v0 ++ t → v2 ≡ v1 ++ 0 ∷ [] → HasTexts (entries_of xs) start v2 (k + 1)
+  pub text_put : (start v0 v1 v2 t : List ℕ) → content_of x.1 ≡ content_text t → Walked (entries_of xs) Text k places
+      → v0 ≡ start ++ texts_below (contents (entries_of xs)) places → v1 ≡ v0 ++ t → v2 ≡ v1 ++ 0 ∷ [] → HasTexts (entries_of xs) start v2 (k + 1)
   text_put start v0 v1 v2 t c walked so_far push nul = record {
     places = x.0.index + 1;
     walked = stepped Text (x.0.index + 1) x.0.index walked (ap (is_of Text) c) refl refl;
-    so_far = text_grown start _ t v0 v1 v2 so_far push nul ∙ ap (λ u. start ++ u) (sym (next_text (entries_of xs) sorted k places in_range (x.0, content_of x.1) read t walked c));
+    so_far = text_grown start _ t v0 v1 v2 so_far push nul
+        ∙ ap (λ u. start ++ u) (sym (next_text (entries_of xs) sorted k places in_range (x.0, content_of x.1) read t walked c));
   }

@@ -24,7 +24,8 @@ HoldsNumbers format contents = (k n : ℕ) → k < count_of Number → contents 
 abbrev pub ImagesInFormatsAreRead : Type 0
 ImagesInFormatsAreRead =
     (format : Format) (names rest : List ℕ) (contents : Contents) → 0 < length names → length names ≤ names_max → HasNoNul names
-    → ((c : Capability) → IsCapability c → AgreesIfSome c (contents c)) → HoldsNumbers format contents → length (image_in format names contents) ≤ extended_entry_max
+    → ((c : Capability) → IsCapability c → AgreesIfSome c (contents c)) → HoldsNumbers format contents
+    → length (image_in format names contents) ≤ extended_entry_max
     → (read : Contents) × Reads (image_in format names contents ++ rest) names read × ((c : Capability) → IsCapability c → read c ≡ without_cancel (contents c))
 
 -- An image within the limit, of names of 1 to 127 bytes without NUL and of contents that agree with

@@ -13,7 +13,8 @@ use Rattle.ti_layout.specs.declared.header.Header.{Header}
 use Rattle.ti_layout.specs.declared.layout.Format.{Format}
 use Rattle.ti_layout.specs.declared.layout.Format.TheVariants.{Legacy, Extended}
 use Rattle.ti_layout.specs.Image.{below}
-use Rattle.ti_layout.specs.Layout.{Sections, absent_mark, cancelled_mark, entry_bytes, header_size, magic, first_negative, width, flags_offset, numbers_offset, offsets_offset, strings_offset}
+use Rattle.ti_layout.specs.Layout.{Sections, absent_mark, cancelled_mark, entry_bytes, header_size, magic, first_negative, width, flags_offset}
+use Rattle.ti_layout.specs.Layout.{numbers_offset, offsets_offset, strings_offset}
 use Rattle.ti_layout.specs.Values.{Content, content_true, content_number, content_text, Contents, HasNoNul}
 
 -- ---- the numbers that bytes spell

@@ -9,7 +9,8 @@ use Rattle.ti_layout.specs.declared.layout.Format.TheVariants.{Legacy}
 use Rattle.ti_layout.specs.declared.header.Header.{Header}
 use Rattle.ti_layout.specs.declared.sections.Sections.{Sections}
 use Rattle.ti_layout.specs.Layout.{first_negative, header_size, magic, width}
-use Rattle.ti_layout.specs.Reading.{IsHeaderAt, word_at, number_at, count_in, format_in, names_size, flag_count, number_count, text_count, strings_size, entry_end}
+use Rattle.ti_layout.specs.Reading.{IsHeaderAt, word_at, number_at, count_in, format_in, names_size, flag_count, number_count, text_count, strings_size}
+use Rattle.ti_layout.specs.Reading.{entry_end}
 use Rattle.ti_layout.specs.Reading.{names_section, flags_section, numbers_section, offsets_section, strings_section, IsFlagByte, IsStoredNumber, IsOffset}
 
 -- the bytes begin with this header, and each size and count is within its limit

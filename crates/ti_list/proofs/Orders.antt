@@ -26,7 +26,8 @@ index_at k place within =
     let n : ℕ = count_of k in
     let there : place < length (range_with_len 0 n) = rw length-range_with_len within in
     let is : get_or (range_with_len 0 n) place 0 ≡ place = get_or-range_with_len 0 n place 0 within ∙ zero-add place in
-    slice_get-map (capability k) (range_with_len 0 n) place ∙ ap (λ o. option_map (capability k) o) (slice_get-get_or (range_with_len 0 n) place 0 there) ∙ ap (λ i. Some (capability k i)) is
+    slice_get-map (capability k) (range_with_len 0 n) place ∙ ap (λ o. option_map (capability k) o) (slice_get-get_or (range_with_len 0 n) place 0 there)
+    ∙ ap (λ i. Some (capability k i)) is
 
 -- in the order by name there is something at each place
 pub some_at : (k : Kind) (place : ℕ) (o : Option Capability) → o ≡ slice_get (in_name_order k) place → place < count_of k → IsSome o

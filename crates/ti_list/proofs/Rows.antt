@@ -23,4 +23,5 @@ rows-step mode one other caps place c x y before after all at of_one of_other wr
 pub rows-end : (mode : Mode) (one other : Contents) (caps : List Capability) (place : ℕ) (before heading all : List ℕ) → length caps ≤ place
     → before ++ rows mode one other (drop place caps) ≡ (all ++ heading) ++ rows mode one other caps → before ≡ all ++ (heading ++ rows mode one other caps)
 rows-end mode one other caps place before heading all past invariant =
-    sym (append-nil before) ∙ ap (λ (cs : List Capability). before ++ rows mode one other cs) (sym (drop_all place caps past)) ∙ invariant ∙ append_assoc all heading _
+    sym (append-nil before) ∙ ap (λ (cs : List Capability). before ++ rows mode one other cs) (sym (drop_all place caps past)) ∙ invariant
+    ∙ append_assoc all heading _

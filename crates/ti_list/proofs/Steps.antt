@@ -24,7 +24,8 @@ item_for-some c (content_number n) items = refl
 item_for-some c (content_text t) items = refl
 item_for-some c content_cancelled items = refl
 
-pub items-none : (table : Contents) (caps : List Capability) (place : ℕ) (c : Capability) → slice_get caps place ≡ Some c → table c ≡ None → items_for table (drop place caps) ≡ items_for table (drop (place + 1) caps)
+pub items-none : (table : Contents) (caps : List Capability) (place : ℕ) (c : Capability) → slice_get caps place ≡ Some c → table c ≡ None
+    → items_for table (drop place caps) ≡ items_for table (drop (place + 1) caps)
 items-none table caps place c at none = rw (drop_at caps place c at, none) refl
 
 pub items-some : (table : Contents) (caps : List Capability) (place : ℕ) (c : Capability) (x : Content) → slice_get caps place ≡ Some c → table c ≡ Some x
@@ -32,16 +33,19 @@ pub items-some : (table : Contents) (caps : List Capability) (place : ℕ) (c : 
 items-some table caps place c x at some = rw (drop_at caps place c at, some) (item_for-some c x _)
 
 -- after the item of a capability was written, what is still to come is as it was
-pub flow-some : (layout : Layout) (line : Option ℕ) (column : ℕ) (before after all : List ℕ) (table : Contents) (caps : List Capability) (place : ℕ) (c : Capability) (x : Content) (rest : List ℕ)
+pub flow-some : (layout : Layout) (line : Option ℕ) (column : ℕ) (before after all : List ℕ) (table : Contents) (caps : List Capability) (place : ℕ)
+    (c : Capability) (x : Content) (rest : List ℕ)
     → slice_get caps place ≡ Some c → table c ≡ Some x
     → ((items : List Said) (end : List ℕ) → after ++ further_before layout column items end ≡ before ++ flow layout line (said_for c x ∷ items) end)
     → before ++ flow layout line (items_for table (drop place caps)) rest ≡ all
     → after ++ flow layout (Some column) (items_for table (drop (place + 1) caps)) rest ≡ all
 flow-some layout line column before after all table caps place c x rest at some writes invariant =
-    writes (items_for table (drop (place + 1) caps)) rest ∙ ap (λ (items : List Said). before ++ flow layout line items rest) (sym (items-some table caps place c x at some)) ∙ invariant
+    writes (items_for table (drop (place + 1) caps)) rest ∙ ap (λ (items : List Said). before ++ flow layout line items rest)
+    (sym (items-some table caps place c x at some)) ∙ invariant
 
 -- if a capability has no item, what is still to come is as it was
-pub flow-none : (layout : Layout) (line : Option ℕ) (before all : List ℕ) (table : Contents) (caps : List Capability) (place : ℕ) (c : Capability) (rest : List ℕ)
+pub flow-none : (layout : Layout) (line : Option ℕ) (before all : List ℕ) (table : Contents) (caps : List Capability) (place : ℕ) (c : Capability)
+    (rest : List ℕ)
     → slice_get caps place ≡ Some c → table c ≡ None
     → before ++ flow layout line (items_for table (drop place caps)) rest ≡ all
     → before ++ flow layout line (items_for table (drop (place + 1) caps)) rest ≡ all

@@ -7,7 +7,8 @@ use Rattle.ti_param.specs.declared.acceptor.Phase.TheVariants.{Testing, Taken}
 use Rattle.ti_param.specs.declared.codes.Token.{Token}
 use Rattle.ti_param.specs.declared.codes.Token.TheVariants.{Literal, Operation, If, Then, Else, EndIf}
 use Rattle.ti_param.specs.declared.lexer.Placed.{Placed}
-use Rattle.ti_param.specs.Formats.{FormatTree, nothing, byte, code, group, choice, placed_token, Closes, by_mark, by_end, IsSequence, no_piece, byte_piece, code_piece, conditional_piece, IsConditional, test_alone, test_then, test_then_else, AreTokensOf}
+use Rattle.ti_param.specs.Formats.{FormatTree, nothing, byte, code, group, choice, placed_token, Closes, by_mark, by_end, IsSequence, no_piece, byte_piece}
+use Rattle.ti_param.specs.Formats.{code_piece, conditional_piece, IsConditional, test_alone, test_then, test_then_else, AreTokensOf}
 use Rattle.ti_param.specs.inside.Formats.{phases_after, refusal}
 use Rattle.ti_param.proofs.Fronts.{chosen}
 
@@ -63,7 +64,8 @@ refusal_accepted (p ∷ tokens) phases opened rest stop h =
 few_open : (n : ℕ) → n < 64 → nat_lt n 64 ≡ true
 few_open n h = grind (arith, nat_tests)
 
-closing_accepted : (inner after : List Placed) (phase : Phase) (phases : List Phase) → Closes inner after → Accepts phases after → Accepts (phase ∷ phases) inner
+closing_accepted : (inner after : List Placed) (phase : Phase) (phases : List Phase) → Closes inner after → Accepts phases after
+    → Accepts (phase ∷ phases) inner
 unfolding advanced_all
 closing_accepted inner after phase phases (by_mark place) rest = rest
 closing_accepted inner after phase phases by_end rest = (phase ∷ phases, refl)
@@ -102,12 +104,14 @@ parses_accepted tokens t parses = sequence_accepted parses [] refl ([], refl)
 -- what is left of a part taken: S, or S `%e` and again what is in a conditional
 abbrev IsTaken : ℕ → List Placed → List Placed → Type 0
 IsTaken depth tokens left = ((taken : FormatTree) × IsSequence depth tokens left taken)
-    ⊎ ((taken rest : FormatTree) × (at : ℕ) × (others : List Placed) × IsSequence depth tokens (placed_token at Else ∷ others) taken × IsConditional depth others left rest)
+    ⊎ ((taken rest : FormatTree) × (at : ℕ) × (others : List Placed) × IsSequence depth tokens (placed_token at Else ∷ others) taken
+    × IsConditional depth others left rest)
 
 -- what is left of each open conditional, the innermost first, and of the format after them
 abbrev IsLeft : List Phase → List Placed → Type 0
 IsLeft [] tokens = (t : FormatTree) × IsSequence 0 tokens [] t
-IsLeft (Testing ∷ phases) tokens = (inner after : List Placed) × (t : FormatTree) × IsConditional (suc (length phases)) tokens inner t × Closes inner after × IsLeft phases after
+IsLeft (Testing ∷ phases) tokens =
+    (inner after : List Placed) × (t : FormatTree) × IsConditional (suc (length phases)) tokens inner t × Closes inner after × IsLeft phases after
 IsLeft (Taken ∷ phases) tokens = (inner after : List Placed) × IsTaken (suc (length phases)) tokens inner × Closes inner after × IsLeft phases after
 
 -- pieces in front of a sequence
@@ -159,7 +163,8 @@ left_before place Then tokens [] (final, accepts) before = absurd (cc)
 left_before place Then tokens (Testing ∷ phases) accepts before = then_before (before (Taken ∷ phases) accepts)
   where
     then_before : IsLeft (Taken ∷ phases) tokens → IsLeft (Testing ∷ phases) (placed_token place Then ∷ tokens)
-    then_before (inner, after, inl (taken, sequence), closes, left) = (inner, after, choice nothing taken nothing, test_then place no_piece sequence, closes, left)
+    then_before (inner, after, inl (taken, sequence), closes, left) =
+        (inner, after, choice nothing taken nothing, test_then place no_piece sequence, closes, left)
     then_before (inner, after, inr (taken, rest, at, others, sequence, conditional), closes, left) =
         (inner, after, choice nothing taken rest, test_then_else place at no_piece sequence conditional, closes, left)
 left_before place Then tokens (Taken ∷ phases) (final, accepts) before = absurd (cc)

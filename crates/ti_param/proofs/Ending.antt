@@ -31,10 +31,12 @@ refused-bad_format format Memory refusal place = absurd refusal
 abbrev pub Runs : List ℕ → MachineState → Result (Unit {0}) ParamError → MachineState → Type 0
 Runs format before result after = (t : FormatTree) → IsTree format t → HasOutcome result after (meaning t before)
 
-pub run-bad_format : {T : Type 0} (format : List ℕ) (before after : MachineState) (e : ParamError) → stuck_place format ≡ None → Runs format before (Err e) after →
+pub run-bad_format : {T : Type 0} (format : List ℕ) (before after : MachineState) (e : ParamError) → stuck_place format ≡ None
+    → Runs format before (Err e) after →
     (place : ℕ) → IsErrOf {T = T} {E = ParamError} (Err e) (BadFormat place) ↔ IsStuck format place
 run-bad_format format before after e none runs place = (
-  λ is. let same : e ≡ BadFormat place = cc is in absurd (subst (λ f. HasOutcome (Err f) after (meaning (tree_of format) before)) same (runs (tree_of format) (whole format none))),
+  λ is. let same : e ≡ BadFormat place =
+      cc is in absurd (subst (λ f. HasOutcome (Err f) after (meaning (tree_of format) before)) same (runs (tree_of format) (whole format none))),
   λ stuck. absurd (cc (sym none ∙ ((is_computed format).stuck place).0 stuck)),
 )
 

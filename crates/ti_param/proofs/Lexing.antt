@@ -197,11 +197,13 @@ accepted-stop phases (p ∷ tokens) stop =
     ]
 
 -- if the acceptor refuses no token, all tokens may come
-pub accepted-whole : (phases : List Phase) (tokens : List Placed) (stop : Option ℕ) → refusal phases tokens stop ≡ None → (accepted phases tokens stop).tokens ≡ tokens
+pub accepted-whole : (phases : List Phase) (tokens : List Placed) (stop : Option ℕ) → refusal phases tokens stop ≡ None
+    → (accepted phases tokens stop).tokens ≡ tokens
 unfolding accepted refusal
 accepted-whole phases [] stop h = refl
 accepted-whole phases (p ∷ tokens) stop h =
-    elim (phases_after phases p.token) as (λ d. elim d as (λ _. Option ℕ) [ None ↦ Some p.place | Some opened ↦ refusal opened tokens stop ] ≡ None → (elim d as (λ _. Scan) [
+    elim (phases_after phases p.token) as (λ d. elim d as (λ _. Option ℕ) [ None ↦ Some p.place | Some opened ↦ refusal opened tokens stop ] ≡ None
+    → (elim d as (λ _. Scan) [
       | None ↦ record { tokens = []; stop = Some p.place }
       | Some opened ↦ record { tokens = p ∷ (accepted opened tokens stop).tokens; stop = (accepted opened tokens stop).stop }
     ]).tokens ≡ p ∷ tokens) [

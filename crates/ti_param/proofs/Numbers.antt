@@ -1,5 +1,6 @@
 -- Numbers in a format, as the reader takes them digit by digit.
-use Rattle.std.proofs.Common.{◌≡◌, ◌≢◌, ℕ, ◌+◌, ◌-◌, ◌*◌, ◌<◌, ◌≤◌, min, Bool, true, false, List, [], ◌∷◌, length, length-append, pos, refl, ap, sym, ◌∙◌, arith}
+use Rattle.std.proofs.Common.{◌≡◌, ◌≢◌, ℕ, ◌+◌, ◌-◌, ◌*◌, ◌<◌, ◌≤◌, min, Bool, true, false, List, [], ◌∷◌, length, length-append, pos, refl, ap, sym, ◌∙◌}
+use Rattle.std.proofs.Common.{arith}
 use Rattle.std.specs.Prelude.{Option, Some, None, ◌==◌, ◌&&◌, nat_lt, nat_le, if◌then◌else◌}
 use Rattle.std.proofs.lemmas.Bool.Decides.{nat_tests, Decides-eqb}
 use Rattle.ti_param.specs.declared.codes.Code.TheVariants.{Constant}
@@ -55,7 +56,8 @@ pub number-refused : (text after rest : List ℕ) (x value : ℕ) → after ≡ 
     (x ≡ 125 → length after ≢ length text → value ≤ 2147483647 → ⊥) → number_after text ≡ None
 unfolding number_after constant_before
 number-refused text after rest x value is begins capped refused =
-    let l : length (span is_decimal_digit text).0 + length after ≡ length text = ap (λ t. length (span is_decimal_digit text).0 + length t) is ∙ digits-length text in
+    let l : length (span is_decimal_digit text).0 + length after ≡ length text =
+    ap (λ t. length (span is_decimal_digit text).0 + length t) is ∙ digits-length text in
     let test : ((x == 125 && nat_lt 0 (length (span is_decimal_digit text).0)) && nat_le (decimal_value (span is_decimal_digit text).0) 2147483647) ≡ false =
     fails _ (λ h. let (brace, some, small) = braced x (length (span is_decimal_digit text).0) (decimal_value (span is_decimal_digit text).0) h in
     refused brace (λ same. omega arith) (omega arith)) in
@@ -66,7 +68,8 @@ pub number-read : (text after rest : List ℕ) (x value : ℕ) → after ≡ (sp
     x ≡ 125 → length after ≢ length text → value ≤ 2147483647 → number_after text ≡ Some (Operation (Constant (pos value)), rest)
 unfolding number_after constant_before
 number-read text after rest x value is begins capped brace some small =
-    let l : length (span is_decimal_digit text).0 + length after ≡ length text = ap (λ t. length (span is_decimal_digit text).0 + length t) is ∙ digits-length text in
+    let l : length (span is_decimal_digit text).0 + length after ≡ length text =
+    ap (λ t. length (span is_decimal_digit text).0 + length t) is ∙ digits-length text in
     let n : ℕ = length (span is_decimal_digit text).0 in
     let d : ℕ = decimal_value (span is_decimal_digit text).0 in
     let same : value ≡ d = omega arith in
@@ -85,7 +88,8 @@ zero-none (x ∷ xs) h = absurd (omega arith)
 
 pub zero-first : (x : ℕ) (xs : List ℕ) → begins_zero (span is_decimal_digit (x ∷ xs)).0 ≡ (x == 48)
 zero-first x xs =
-    elim (is_decimal_digit x) as (λ b. is_decimal_digit x ≡ b → begins_zero (if◌then◌else◌ {A = List ℕ × List ℕ} b (x ∷ (span is_decimal_digit xs).0, (span is_decimal_digit xs).1) ([], x ∷ xs)).0 ≡ (x == 48)) [
+    elim (is_decimal_digit x) as (λ b. is_decimal_digit x ≡ b
+    → begins_zero (if◌then◌else◌ {A = List ℕ × List ℕ} b (x ∷ (span is_decimal_digit xs).0, (span is_decimal_digit xs).1) ([], x ∷ xs)).0 ≡ (x == 48)) [
       | true ↦ λ h. refl
       | false ↦ λ h. sym (fails (x == 48) (λ e. no_zero h ((Decides-eqb x 48).0 e)))
     ] refl
@@ -93,7 +97,8 @@ zero-first x xs =
     no_zero : is_decimal_digit x ≡ false → x ≡ 48 → ⊥
     no_zero h e = grind (arith, nat_tests)
 
-pub directive-parts : (text after left : List ℕ) (flags : Flags) → ◌≡◌ {A = Flags × List ℕ} (flags, after) (flags_after text) → left ≡ (span is_decimal_digit after).1 →
+pub directive-parts : (text after left : List ℕ) (flags : Flags) → ◌≡◌ {A = Flags × List ℕ} (flags, after) (flags_after text)
+    → left ≡ (span is_decimal_digit after).1 →
     directive_after text ≡ directive_with flags (span is_decimal_digit after).0 (precision_after left)
 unfolding directive_after
 directive-parts text after left flags e f = rw (sym e) (rw (sym f) refl)

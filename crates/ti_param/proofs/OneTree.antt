@@ -1,6 +1,7 @@
 -- Each format has exactly one tree, or exactly one place where it is stuck, and the computing
 -- reader gives it.
-use Rattle.std.proofs.Common.{◌≡◌, ℕ, zero, suc, ◌+◌, ◌≤◌, true, false, ◌⊎◌, inl, inr, List, [], ◌∷◌, ◌++◌, length, length-append, append_assoc, refl, ap, sym, ◌∙◌, subst, arith, add-zero}
+use Rattle.std.proofs.Common.{◌≡◌, ℕ, zero, suc, ◌+◌, ◌≤◌, true, false, ◌⊎◌, inl, inr, List, [], ◌∷◌, ◌++◌, length, length-append, append_assoc, refl, ap}
+use Rattle.std.proofs.Common.{sym, ◌∙◌, subst, arith, add-zero}
 use Rattle.std.specs.Prelude.{Option, Some, None, ◌==◌, Ok, Err}
 use Rattle.std.proofs.lemmas.List.{append-nil}
 use Rattle.std.proofs.lemmas.Bool.Decides.{Decides-eqb}
@@ -10,8 +11,10 @@ use Rattle.ti_param.specs.declared.codes.Token.TheVariants.{Literal}
 use Rattle.ti_param.specs.declared.lexer.Placed.{Placed}
 use Rattle.ti_param.specs.Codes.{IsCode}
 use Rattle.ti_param.specs.inside.Codes.{Front, token_after}
-use Rattle.ti_param.specs.Formats.{FormatTree, placed_token, IsCutIntoTokens, no_tokens, then_byte, then_code, AreTokensOf, IsTree, BeginsFormat, IsStuck, HasOneTree}
-use Rattle.ti_param.specs.inside.Formats.{Scan, with_token, scan, scan_of, phases_after, accepted_of, refusal, stuck_place, tree_and_marks, tree_of, IsFormatComputed}
+use Rattle.ti_param.specs.Formats.{FormatTree, placed_token, IsCutIntoTokens, no_tokens, then_byte, then_code, AreTokensOf, IsTree, BeginsFormat, IsStuck}
+use Rattle.ti_param.specs.Formats.{HasOneTree}
+use Rattle.ti_param.specs.inside.Formats.{Scan, with_token, scan, scan_of, phases_after, accepted_of, refusal, stuck_place, tree_and_marks, tree_of}
+use Rattle.ti_param.specs.inside.Formats.{IsFormatComputed}
 use Rattle.ti_param.specs.Meaning.{MachineState, MachineOutcome, and_then, meaning}
 use Rattle.ti_param.proofs.Reading.{code_read, code_so}
 use Rattle.ti_param.proofs.Scanning.{scan-byte, scan-stop, scan-code}
@@ -106,7 +109,8 @@ same_code text front rest f r token t read whole is_code =
     let same : ◌≡◌ {A = Token × List ℕ} (token, rest) (t, r) = cc e in ap (λ p. p.0) same
 
 read_percent : (place : ℕ) (text : List ℕ) (phases : List Phase)
-    (shorter : (place' : ℕ) (rest : List ℕ) (opened : List Phase) → length rest ≤ length text → IsRead place' rest opened (refused_by opened (scan 0 place' rest)))
+    (shorter : (place' : ℕ) (rest : List ℕ) (opened : List Phase) → length rest ≤ length text
+    → IsRead place' rest opened (refused_by opened (scan 0 place' rest)))
     (found : Front Token) → token_after text ≡ found → IsRead place (37 ∷ text) phases (refused_by phases (scan 0 place (37 ∷ text)))
 unfolding refusal advanced_all
 read_percent place text phases shorter None none =
@@ -131,10 +135,12 @@ read_percent place text phases shorter (Some (token, rest)) read =
     (subst (λ s. IsRead place (37 ∷ (front ++ rest)) phases (refused_by phases s)) (sym scanned) step)
   where
     at_token : (o : Option (List Phase)) → phases_after phases token ≡ o → (front : List ℕ) → IsCode front token → text ≡ front ++ rest →
-        ((opened : List Phase) → length rest ≤ length text → IsRead (suc place + length front) rest opened (refused_by opened (scan 0 (suc place + length front) rest))) →
+        ((opened : List Phase) → length rest ≤ length text → IsRead (suc place + length front) rest opened
+        (refused_by opened (scan 0 (suc place + length front) rest))) →
         IsRead place (37 ∷ (front ++ rest)) phases (refused_by phases (with_token place token (scan 0 (suc place + length front) rest)))
     at_token None step front is_code whole rest_read =
-        subst (λ a. IsRead place (37 ∷ (front ++ rest)) phases (elim a as (λ _. Option ℕ) [ None ↦ Some place | Some opened ↦ refused_by opened (scan 0 (suc place + length front) rest) ])) (sym step) (record {
+        subst (λ a. IsRead place (37 ∷ (front ++ rest)) phases
+        (elim a as (λ _. Option ℕ) [ None ↦ Some place | Some opened ↦ refused_by opened (scan 0 (suc place + length front) rest) ])) (sym step) (record {
           before = [];
           after = front ++ rest;
           tokens = [];
@@ -146,7 +152,8 @@ read_percent place text phases shorter (Some (token, rest)) read =
           refused = λ f r t same is_other. ap (phases_after phases) (sym (same_code text front rest f r token t read (whole ∙ same) is_other)) ∙ step;
         })
     at_token (Some opened) step front is_code whole rest_read =
-        subst (λ a. IsRead place (37 ∷ (front ++ rest)) phases (elim a as (λ _. Option ℕ) [ None ↦ Some place | Some opened ↦ refused_by opened (scan 0 (suc place + length front) rest) ])) (sym step)
+        subst (λ a. IsRead place (37 ∷ (front ++ rest)) phases
+        (elim a as (λ _. Option ℕ) [ None ↦ Some place | Some opened ↦ refused_by opened (scan 0 (suc place + length front) rest) ])) (sym step)
         (read_code place front rest token phases opened _ is_code step (rest_read opened (omega (arith, ap length whole, length-append front rest))))
 
 read_from : (n place : ℕ) (text : List ℕ) (phases : List Phase) → length text ≤ n → IsRead place text phases (refused_by phases (scan 0 place text))
@@ -187,15 +194,18 @@ unfolding stuck_place refusal
 stuck_computed format place stuck =
     let (more, t, parses) = stuck.begins in
     let (opened, accepted, rest) = accepts_front stuck.tokens more [] (parses_accepted (stuck.tokens ++ more) t parses) in
-    ap (refused_by []) (ap (scan 0 0) stuck.whole ∙ cut_scanned stuck.cut (37 ∷ stuck.after) ∙ ap (λ p. prefixed stuck.tokens (scan 0 p (37 ∷ stuck.after))) (omega (arith, stuck.length_before)))
+    ap (refused_by []) (ap (scan 0 0) stuck.whole ∙ cut_scanned stuck.cut (37 ∷ stuck.after)
+    ∙ ap (λ p. prefixed stuck.tokens (scan 0 p (37 ∷ stuck.after))) (omega (arith, stuck.length_before)))
     ∙ refusal_accepted stuck.tokens [] opened (scan 0 place (37 ∷ stuck.after)).tokens (scan 0 place (37 ∷ stuck.after)).stop accepted
     ∙ here opened accepted (token_after stuck.after) refl
   where
-    not_allowed : (opened : List Phase) → advanced_all [] stuck.tokens ≡ Some opened → (token : Token) (o : Option (List Phase)) → phases_after opened token ≡ o →
+    not_allowed : (opened : List Phase) → advanced_all [] stuck.tokens ≡ Some opened → (token : Token) (o : Option (List Phase))
+        → phases_after opened token ≡ o →
         (BeginsFormat (stuck.tokens ++ placed_token place token ∷ []) → ⊥) → phases_after opened token ≡ None
     not_allowed opened accepted token None step none = step
     not_allowed opened accepted token (Some last) step none =
-        let (t, parses) = accepted_parses (stuck.tokens ++ placed_token place token ∷ []) (accepts_end stuck.tokens (placed_token place token) [] opened last accepted step) in
+        let (t, parses) = accepted_parses (stuck.tokens ++ placed_token place token ∷ [])
+        (accepts_end stuck.tokens (placed_token place token) [] opened last accepted step) in
         absurd (none ([], t, subst (λ ts. AreTokensOf ts t) (sym (append-nil (stuck.tokens ++ placed_token place token ∷ []))) parses))
 
     here : (opened : List Phase) → advanced_all [] stuck.tokens ≡ Some opened → (found : Front Token) → token_after stuck.after ≡ found →
@@ -225,7 +235,8 @@ computed_stuck format place is =
       none = λ front rest token whole is_code. refuses from token (from.refused front rest token whole is_code);
     }
   where
-    refuses : (from : IsStuckFrom 0 format [] place) (token : Token) → phases_after from.opened token ≡ None → BeginsFormat (from.tokens ++ placed_token place token ∷ []) → ⊥
+    refuses : (from : IsStuckFrom 0 format [] place) (token : Token) → phases_after from.opened token ≡ None
+        → BeginsFormat (from.tokens ++ placed_token place token ∷ []) → ⊥
     refuses from token step (more, t, parses) =
         let all = parses_accepted ((from.tokens ++ placed_token place token ∷ []) ++ more) t parses in
         let (middle, accepted, rest) = accepts_front from.tokens (placed_token place token ∷ more) []

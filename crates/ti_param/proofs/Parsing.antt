@@ -2,7 +2,8 @@
 use Rattle.std.proofs.Common.{◌≡◌, ℕ, List, ◌∷◌, refl, ap, ◌∙◌}
 use Rattle.ti_param.specs.declared.codes.Token.TheVariants.{Literal, Operation, Then}
 use Rattle.ti_param.specs.declared.lexer.Placed.{Placed}
-use Rattle.ti_param.specs.Formats.{FormatTree, nothing, group, choice, placed_token, Closes, by_mark, by_end, IsSequence, no_piece, byte_piece, code_piece, conditional_piece, IsConditional, test_alone, test_then, test_then_else}
+use Rattle.ti_param.specs.Formats.{FormatTree, nothing, group, choice, placed_token, Closes, by_mark, by_end, IsSequence, no_piece, byte_piece, code_piece}
+use Rattle.ti_param.specs.Formats.{conditional_piece, IsConditional, test_alone, test_then, test_then_else}
 use Rattle.ti_param.specs.inside.Formats.{Marks, conditional_of, grouped_tree, with_first_token, tree_and_marks}
 
 -- a sequence stops before a `%t`, an `%e`, a `%;` or the end
@@ -39,7 +40,8 @@ mutual
       ∙ ap (λ parts. (group conditional parts.0, parts.1)) (sequence_parsed next stops)
 
   pub conditional_parsed : {depth : ℕ} {tokens inner : List Placed} {t : FormatTree} → IsConditional depth tokens inner t →
-      (after : List Placed) → Closes inner after → conditional_of (tree_and_marks tokens).0 (tree_and_marks tokens).1 ≡ (t, (tree_and_marks after).0, (tree_and_marks after).1)
+      (after : List Placed) → Closes inner after → conditional_of (tree_and_marks tokens).0 (tree_and_marks tokens).1
+      ≡ (t, (tree_and_marks after).0, (tree_and_marks after).1)
   conditional_parsed (test_alone {left = inner} {test} tested) after closes =
       ap (λ parts. conditional_of parts.0 parts.1) (sequence_parsed tested (closing_stops inner after closes))
       ∙ test_ends inner after test closes

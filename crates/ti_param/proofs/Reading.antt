@@ -1,5 +1,6 @@
 -- The law of codes: each code's text is read as that code, and what is read is a code's text.
-use Rattle.std.proofs.Common.{◌≡◌, ℕ, ◌<◌, ◌≤◌, Bool, true, false, cond, inl, inr, List, [], ◌∷◌, ◌++◌, length, pos, refl, ap, sym, ◌∙◌, subst, arith, append_assoc}
+use Rattle.std.proofs.Common.{◌≡◌, ℕ, ◌<◌, ◌≤◌, Bool, true, false, cond, inl, inr, List, [], ◌∷◌, ◌++◌, length, pos, refl, ap, sym, ◌∙◌, subst, arith}
+use Rattle.std.proofs.Common.{append_assoc}
 use Rattle.std.specs.Prelude.{Option, Some, None, ◌==◌, ◌&&◌, nat_lt, nat_le}
 use Rattle.std.proofs.lemmas.Bool.Decides.{nat_tests, Decides-eqb}
 use Rattle.ti_param.specs.declared.codes.Code.TheVariants.{Print, Constant}
@@ -9,11 +10,14 @@ use Rattle.ti_printing.specs.declared.printf.Conversion.{Conversion}
 use Rattle.ti_printing.specs.declared.printf.Directive.{Directive}
 use Rattle.ti_printing.specs.declared.printf.Flags.{Flags}
 use Rattle.ti_text.specs.Lists.{AllAre}
-use Rattle.ti_param.specs.Codes.{OneCode, row_for, span, simple_tokens, conversions, is_flag, IsFlags, signed_flags, plain_flags, IsPrecision, without_precision}
-use Rattle.ti_param.specs.Codes.{with_precision, begins_zero, IsDirective, directive, IsCode, simple_code, parameter_code, store_code, fetch_code, byte_code, number_code}
+use Rattle.ti_param.specs.Codes.{OneCode, row_for, span, simple_tokens, conversions, is_flag, IsFlags, signed_flags, plain_flags, IsPrecision}
+use Rattle.ti_param.specs.Codes.{without_precision}
+use Rattle.ti_param.specs.Codes.{with_precision, begins_zero, IsDirective, directive, IsCode, simple_code, parameter_code, store_code, fetch_code}
+use Rattle.ti_param.specs.Codes.{byte_code, number_code}
 use Rattle.ti_param.specs.Codes.{print_code}
 use Rattle.ti_text.specs.Digits.{is_decimal_digit, decimal_value}
-use Rattle.ti_param.specs.inside.Codes.{Front, parameter_after, store_after, fetch_after, byte_after, constant_before, number_after, flags_of, flags_after, precision_of, precision_after, directive_with, directive_after, begins_directive, letter_after, token_after}
+use Rattle.ti_param.specs.inside.Codes.{Front, parameter_after, store_after, fetch_after, byte_after, constant_before, number_after, flags_of, flags_after}
+use Rattle.ti_param.specs.inside.Codes.{precision_of, precision_after, directive_with, directive_after, begins_directive, letter_after, token_after}
 use Rattle.ti_param.proofs.Fronts.{chosen, mapped, found-row, span-whole, span-all, span-append, braced}
 
 -- ---- what may come after flags, digits and a precision
@@ -124,7 +128,8 @@ directive_read fs ds ps x rest flags precision conversion is_flags digits small 
     let (y, ys, is, past, other) = precision_head ps precision x rest is_precision (past_conversion x conversion row) (conversion_ends x conversion row).0 in
     let width : span is_decimal_digit (ds ++ (ps ++ (x ∷ rest))) ≡ (ds, ps ++ (x ∷ rest)) =
     rw is (span-append is_decimal_digit ds (y ∷ ys) digits other) in
-    let at : precision_after (ps ++ (x ∷ rest)) ≡ Some (precision, x ∷ rest) = precision_read ps precision x rest is_precision (conversion_ends x conversion row) in
+    let at : precision_after (ps ++ (x ∷ rest)) ≡ Some (precision, x ∷ rest) =
+    precision_read ps precision x rest is_precision (conversion_ends x conversion row) in
     let front : flags_after (fs ++ (ds ++ (ps ++ (x ∷ rest)))) ≡ (flags, ds ++ (ps ++ (x ∷ rest))) =
     rw is (width_head (λ text. flags_after (fs ++ text) ≡ (flags, text)) ds y ys digits past (λ z zs after e. flags_read fs flags z zs is_flags after)) in
     let begun : Begun (fs ++ (ds ++ (ps ++ (x ∷ rest)))) =
@@ -142,13 +147,43 @@ read_begun (y ∷ ys) rest form (read, begun) = rw begun (rw read refl)
 directive_code_read : (text rest : List ℕ) (form : Directive) → IsDirective text form → token_after (text ++ rest) ≡ Some (Operation (Print form), rest)
 directive_code_read text rest form (directive fs ds ps x {flags} {precision} {conversion} is_flags digits small is_precision row) =
     let whole : (fs ++ (ds ++ (ps ++ x ∷ []))) ++ rest ≡ fs ++ (ds ++ (ps ++ (x ∷ rest))) = simp append_assoc in
-    rw whole (read_begun (fs ++ (ds ++ (ps ++ (x ∷ rest)))) rest _ (directive_read fs ds ps x rest flags precision conversion is_flags digits small is_precision row))
+    rw whole (read_begun (fs ++ (ds ++ (ps ++ (x ∷ rest)))) rest _
+    (directive_read fs ds ps x rest flags precision conversion is_flags digits small is_precision row))
 
 simple_code_read : (x : ℕ) (rest : List ℕ) (token : Token) → row_for x simple_tokens ≡ Some token → token_after (x ∷ rest) ≡ Some (token, rest)
 unfolding token_after letter_after
 simple_code_read x rest token row =
-    found-row (λ r. token_after (r.0 ∷ rest) ≡ Some (r.1, rest)) x simple_tokens token
-    (refl, (refl, (refl, (refl, (refl, (refl, (refl, (refl, (refl, (refl, (refl, (refl, (refl, (refl, (refl, (refl, (refl, (refl, (refl, (refl, (refl, (refl, (refl, tt))))))))))))))))))))))) row
+    found-row (λ r. token_after (r.0 ∷ rest) ≡ Some (r.1, rest)) x simple_tokens token (
+      refl,
+      (
+        refl,
+        (
+          refl,
+          (
+            refl,
+            (
+              refl,
+              (
+                refl,
+                (
+                  refl,
+                  (
+                    refl,
+                    (
+                      refl,
+                      (
+                        refl,
+                        (refl, (refl, (refl, (refl, (refl, (refl, (refl, (refl, (refl, (refl, (refl, (refl, (refl, tt))))))))))))),
+                      ),
+                    ),
+                  ),
+                ),
+              ),
+            ),
+          ),
+        ),
+      ),
+    ) row
 
 number_code_read : (ds rest : List ℕ) → AllAre is_decimal_digit ds → 0 < length ds → decimal_value ds ≤ 2147483647 →
     token_after (123 ∷ ((ds ++ 125 ∷ []) ++ rest)) ≡ Some (Operation (Constant (pos (decimal_value ds))), rest)
@@ -217,7 +252,8 @@ constant_so ds (x ∷ rest) found digits h =
 number_so : (xs : List ℕ) (found : Token × List ℕ) → number_after xs ≡ Some found → Found 123 xs found
 unfolding number_after
 number_so xs found h =
-    subst (λ text. Found 123 text found) (sym (span-whole is_decimal_digit xs)) (constant_so (span is_decimal_digit xs).0 (span is_decimal_digit xs).1 found (span-all is_decimal_digit xs) h)
+    subst (λ text. Found 123 text found) (sym (span-whole is_decimal_digit xs))
+    (constant_so (span is_decimal_digit xs).0 (span is_decimal_digit xs).1 found (span-all is_decimal_digit xs) h)
 
 letter_so : (x : ℕ) (xs : List ℕ) (found : Token × List ℕ) → letter_after x xs ≡ Some found → Found x xs found
 unfolding letter_after

@@ -6,7 +6,8 @@ use Rattle.ti_param.specs.declared.codes.Token.TheVariants.{Literal, Operation, 
 use Rattle.ti_param.specs.declared.errors.ParamError.{ParamError}
 use Rattle.ti_param.specs.declared.errors.ParamError.TheVariants.{BadFormat, StackFull, Memory}
 use Rattle.ti_param.specs.declared.lexer.Placed.{Placed}
-use Rattle.ti_param.specs.Formats.{FormatTree, nothing, placed_token, Closes, by_mark, by_end, IsSequence, no_piece, byte_piece, code_piece, conditional_piece, IsConditional, test_alone, test_then, test_then_else}
+use Rattle.ti_param.specs.Formats.{FormatTree, nothing, placed_token, Closes, by_mark, by_end, IsSequence, no_piece, byte_piece, code_piece}
+use Rattle.ti_param.specs.Formats.{conditional_piece, IsConditional, test_alone, test_then, test_then_else}
 use Rattle.ti_param.specs.inside.Formats.{level_after, after_part}
 use Rattle.ti_param.specs.Meaning.{MachineState, MachineOutcome, and_then, with_output, without_top, top_number, is_zero, code_outcome, meaning}
 use Rattle.ti_param.specs.inside.Expansion.{HasOutcome}
@@ -35,7 +36,11 @@ pub executed-after_part : (level : ℕ) (to_else : Bool) (tokens : List Placed) 
 unfolding executed after_part
 executed-after_part level to_else [] s = refl
 executed-after_part level to_else (p ∷ tokens) s =
-    elim (level_after level to_else p.token) as (λ d. elim d as (λ _. MachineOutcome) [ None ↦ executed None tokens s | Some next ↦ executed (Some (next, to_else)) tokens s ]
+    elim (level_after level to_else p.token) as (λ d. elim d as (λ _. MachineOutcome) [
+      | None ↦ executed None tokens s
+      | Some next ↦ executed
+          (Some (next, to_else)) tokens s
+    ]
     ≡ executed None (elim d as (λ _. List Placed) [ None ↦ tokens | Some next ↦ after_part next to_else tokens ]) s) [
       | None ↦ refl
       | Some next ↦ executed-after_part next to_else tokens s
@@ -43,7 +48,8 @@ executed-after_part level to_else (p ∷ tokens) s =
 
 -- ---- what a sequence and a conditional leave of a part that is skipped
 
-closed_inside : (level : ℕ) (to_else : Bool) (inner after : List Placed) → Closes inner after → after_part (suc level) to_else inner ≡ after_part level to_else after
+closed_inside : (level : ℕ) (to_else : Bool) (inner after : List Placed) → Closes inner after
+    → after_part (suc level) to_else inner ≡ after_part level to_else after
 unfolding after_part
 closed_inside level to_else inner after (by_mark place) = refl
 closed_inside level to_else inner after by_end = refl
@@ -72,7 +78,8 @@ mutual
       sequence_skipped test (suc level) to_else ∙ sequence_skipped taken (suc level) to_else ∙ conditional_skipped rest level to_else
 
 -- what is after an `%e` is passed over whole if no other `%e` may end it
-pub rest_skipped : {depth : ℕ} {tokens left : List Placed} {t : FormatTree} → IsConditional depth tokens left t → after_part 0 false tokens ≡ after_part 0 false left
+pub rest_skipped : {depth : ℕ} {tokens left : List Placed} {t : FormatTree} → IsConditional depth tokens left t
+    → after_part 0 false tokens ≡ after_part 0 false left
 unfolding after_part
 rest_skipped (test_alone test) = sequence_skipped test 0 false
 rest_skipped (test_then place test taken) = sequence_skipped test 0 false ∙ sequence_skipped taken 0 false
@@ -125,8 +132,10 @@ mutual
       sequence_runs tested s
       ∙ and_then-same (meaning test s) (executed None (placed_token place Then ∷ more)) _ (λ t.
       chosen_part (is_zero (top_number t)) more taken nothing (without_top t) after
-      (sequence_runs took (without_top t) ∙ and_then-same (meaning taken (without_top t)) (executed None inner) (executed None after) (executed_closed inner after closes))
-      (executed-after_part 0 true more (without_top t) ∙ ap (λ l. executed None l (without_top t)) (sequence_skipped took 0 true ∙ closed_here true inner after closes)))
+      (sequence_runs took (without_top t) ∙ and_then-same (meaning taken (without_top t)) (executed None inner) (executed None after)
+      (executed_closed inner after closes))
+      (executed-after_part 0 true more (without_top t) ∙ ap (λ l. executed None l (without_top t))
+      (sequence_skipped took 0 true ∙ closed_here true inner after closes)))
       ∙ sym (and_then-assoc (meaning test s) _ (executed None after))
   conditional_runs (test_then_else place at {more} {others} {left = inner} {test} {taken} {rest} tested took other) after closes s =
       sequence_runs tested s
@@ -200,7 +209,8 @@ unfolding executed
 run-end tokens s none = rw none refl
 
 -- an error of a step is the error of the whole run, if the step's full stack is the run's
-pub error-kept : (e : ParamError) (a b : MachineState) (o whole : MachineOutcome) → ((place : ℕ) → o ≡ Err place → whole ≡ Err place) → HasOutcome (Err e) a o → HasOutcome (Err e) b whole
+pub error-kept : (e : ParamError) (a b : MachineState) (o whole : MachineOutcome) → ((place : ℕ) → o ≡ Err place → whole ≡ Err place)
+    → HasOutcome (Err e) a o → HasOutcome (Err e) b whole
 error-kept (BadFormat place) a b o whole full ran = ran
 error-kept (StackFull place) a b o whole full ran = full place ran
 error-kept Memory a b o whole full ran = tt

@@ -1,5 +1,6 @@
 -- A format as its tokens.
-use Rattle.std.proofs.Common.{◌≡◌, ◌≢◌, ℕ, zero, suc, ◌+◌, ◌-◌, ◌≤◌, Bool, true, false, cond, ◌⊎◌, inl, inr, List, [], ◌∷◌, ◌++◌, length, length-append, refl, ap, sym, ◌∙◌, arith, add-zero}
+use Rattle.std.proofs.Common.{◌≡◌, ◌≢◌, ℕ, zero, suc, ◌+◌, ◌-◌, ◌≤◌, Bool, true, false, cond, ◌⊎◌, inl, inr, List, [], ◌∷◌, ◌++◌, length, length-append}
+use Rattle.std.proofs.Common.{refl, ap, sym, ◌∙◌, arith, add-zero}
 use Rattle.std.specs.Prelude.{Some, None, ◌==◌, if◌then◌else◌}
 use Rattle.std.proofs.lemmas.Bool.Decides.{Decides-eqb}
 use Rattle.ti_param.specs.declared.codes.Token.{Token}
@@ -89,7 +90,8 @@ unfolding scan
 tokens-few after_part place [] = omega arith
 tokens-few (suc after_part) place (b ∷ text) = omega (arith, tokens-few after_part (suc place) text)
 tokens-few zero place (b ∷ text) =
-    elim (b == 37) as (λ t. length (cond t (with_code place (token_after text) (λ rest. scan (length text - length rest) (suc place) text)) (with_token place (Literal b) (scan zero (suc place) text))).tokens ≤ suc (length text)) [
+    elim (b == 37) as (λ t. length (cond t (with_code place (token_after text) (λ rest. scan (length text - length rest) (suc place) text))
+    (with_token place (Literal b) (scan zero (suc place) text))).tokens ≤ suc (length text)) [
       | true ↦ few place text (token_after text) (λ k. tokens-few k (suc place) text)
       | false ↦ omega (arith, tokens-few zero (suc place) text)
     ]
@@ -113,7 +115,8 @@ stop-before-end place (b ∷ text) h none =
     ] none
   where
     at : Bool → Scan
-    at t = cond t (with_code place (token_after text) (λ rest. scan (length text - length rest) (suc place) text)) (with_token place (Literal b) (scan zero (suc place) text))
+    at t = cond t (with_code place (token_after text) (λ rest. scan (length text - length rest) (suc place) text))
+        (with_token place (Literal b) (scan zero (suc place) text))
 
     begun : (found : Front Token) → (with_code place found (λ rest. scan (length text - length rest) (suc place) text)).tokens ≡ [] →
         Some place ≡ (with_code place found (λ rest. scan (length text - length rest) (suc place) text)).stop

@@ -6,7 +6,8 @@ use Rattle.std.proofs.lemmas.Bool.{cases_Bool, and_parts, and_from, eqb-true, eq
 use Rattle.std.proofs.lemmas.List.{append-nil}
 use Rattle.std.proofs.lemmas.List.Elements.{All-nil, All-cons}
 use Rattle.ti_text.proofs.Texts.{last_byte-append}
-use Rattle.ti_source.specs.Cutting.{last_byte, HasNoHead, HasOneHead, AreBlocks, Cut, OneBlock, EachHasCut, IsOnlyCut, BlocksAreSingle, BlocksAreSingleOnceEnded}
+use Rattle.ti_source.specs.Cutting.{last_byte, HasNoHead, HasOneHead, AreBlocks, Cut, OneBlock, EachHasCut, IsOnlyCut, BlocksAreSingle}
+use Rattle.ti_source.specs.Cutting.{BlocksAreSingleOnceEnded}
 use Rattle.ti_source.specs.Cutting.{front_of, blocks_from_head}
 use Rattle.ti_source.specs.Heads.{begins_head, is_head}
 

@@ -1,5 +1,6 @@
 -- Folding leaves out bytes, and adds none.
-use Rattle.std.proofs.Common.{◌≡◌, ℕ, zero, suc, ◌+◌, ◌-◌, ◌<◌, ◌≤◌, Bool, true, false, ◌==◌, ◌||◌, ◌&&◌, List, [], ◌∷◌, ◌++◌, length, take, drop, get_or, cond, refl, sym, ap, subst, ◌∙◌, append_assoc, inl, inr, arith, Some, None, add-one}
+use Rattle.std.proofs.Common.{◌≡◌, ℕ, zero, suc, ◌+◌, ◌-◌, ◌<◌, ◌≤◌, Bool, true, false, ◌==◌, ◌||◌, ◌&&◌, List, [], ◌∷◌, ◌++◌, length, take, drop, get_or}
+use Rattle.std.proofs.Common.{cond, refl, sym, ap, subst, ◌∙◌, append_assoc, inl, inr, arith, Some, None, add-one}
 use Rattle.std.proofs.lemmas.Bool.{cases_Bool, and_parts, and_right, eqb-true}
 use Rattle.std.proofs.lemmas.List.{take_rest, drop-drop}
 use Rattle.memchr.specs.Find.{IsFirstByte, is_byte}
@@ -37,7 +38,12 @@ length-joined joining (x ∷ xs) =
 
 pub length-folded : (block : List ℕ) → length (folding_of block) ≤ length block
 length-folded block =
-    omega (arith, length-joined false (without_comments false 10 (bytes_on_lines 1 block)), length-without_comments false 10 (bytes_on_lines 1 block), length-placed 1 block)
+    omega (
+      arith,
+      length-joined false (without_comments false 10 (bytes_on_lines 1 block)),
+      length-without_comments false 10 (bytes_on_lines 1 block),
+      length-placed 1 block,
+    )
 
 pub length-after_field : (s : List PlacedByte) → length (after_field s) ≤ length s
 length-after_field [] = omega arith
@@ -56,8 +62,10 @@ abbrev straight : (line before : ℕ) → List ℕ → List PlacedByte
 straight line before s = without_breaks false (without_comments false before (bytes_on_lines line s))
 
 -- one byte that is not a newline
-straight-byte : (line before x : ℕ) (rest : List ℕ) → (before == 10) ≡ false → (x == 10) ≡ false → straight line before (x ∷ rest) ≡ (x, line) ∷ straight line before rest
-straight-byte line before x rest e f = rw (e, f) (ap (λ (s : List PlacedByte). (x, line) ∷ without_breaks false s) (before_any x before (bytes_on_lines line rest) f e))
+straight-byte : (line before x : ℕ) (rest : List ℕ) → (before == 10) ≡ false → (x == 10) ≡ false
+    → straight line before (x ∷ rest) ≡ (x, line) ∷ straight line before rest
+straight-byte line before x rest e f =
+    rw (e, f) (ap (λ (s : List PlacedByte). (x, line) ∷ without_breaks false s) (before_any x before (bytes_on_lines line rest) f e))
 
 straight-run : {by next : Escape} {before last : ℕ} {run : List ℕ} (line at : ℕ) (rest : List ℕ) → (at == 10) ≡ false → PassesRun by before run next last
     → straight line at (run ++ rest) ≡ on_line line run ++ straight line at rest
@@ -69,13 +77,15 @@ straight-run line at rest e (takes_byte {run = run} x goes plain inner) =
 -- the view of a folded text from which a run is taken
 pub run_taken : {by next : Escape} {before last : ℕ} {run : List ℕ} (joining : Bool) (at line : ℕ) (text rest : List ℕ)
     → joining ≡ false → (at == 10) ≡ false → text ≡ run ++ rest → PassesRun by before run next last
-    → without_breaks joining (without_comments false at (bytes_on_lines line text)) ≡ on_line line run ++ without_breaks joining (without_comments false at (bytes_on_lines line rest))
+    → without_breaks joining (without_comments false at (bytes_on_lines line text)) ≡ on_line line run
+    ++ without_breaks joining (without_comments false at (bytes_on_lines line rest))
 run_taken joining at line text rest ej e whole goes = rw (ej, whole) (straight-run line at rest e goes)
 
 -- the view of a folded text from which an item is taken, with its comma
 item_taken : {by next : Escape} {before last : ℕ} {item : List ℕ} (joining : Bool) (at line : ℕ) (text rest : List ℕ)
     → joining ≡ false → (at == 10) ≡ false → text ≡ item ++ 44 ∷ rest → PassesRun by before item next last
-    → without_breaks joining (without_comments false at (bytes_on_lines line text)) ≡ on_line line item ++ (44, line) ∷ without_breaks joining (without_comments false at (bytes_on_lines line rest))
+    → without_breaks joining (without_comments false at (bytes_on_lines line text)) ≡ on_line line item ++ (44, line)
+    ∷ without_breaks joining (without_comments false at (bytes_on_lines line rest))
 item_taken {item = item} joining at line text rest ej e whole goes =
     rw (ej, whole) (straight-run line at (44 ∷ rest) e goes ∙ ap (λ (s : List PlacedByte). on_line line item ++ s) (straight-byte line at 44 rest e refl))
 
@@ -109,18 +119,21 @@ joined_white x t n w = rw (n, w) refl
 kept_byte : (x : PlacedByte) (t : List PlacedByte) → (x.0 == 10) ≡ false → without_breaks false (x ∷ t) ≡ x ∷ without_breaks false t
 kept_byte x t n = rw n refl
 
-break_ends : (x : PlacedByte) (t : List PlacedByte) → (x.0 == 10) ≡ false → is_white_space x.0 ≡ false → without_breaks true (x ∷ t) ≡ without_breaks false (x ∷ t)
+break_ends : (x : PlacedByte) (t : List PlacedByte) → (x.0 == 10) ≡ false → is_white_space x.0 ≡ false
+    → without_breaks true (x ∷ t) ≡ without_breaks false (x ∷ t)
 break_ends x t n v = rw (n, v) refl
 
 pub skips-white : {old : List PlacedByte} (joining : Bool) (before line x : ℕ) (rest : List ℕ) → is_white_space x ≡ true
     → SkipsWhiteSpace old (folded joining before line (x ∷ rest)) → SkipsWhiteSpace old (folded joining x line rest)
 skips-white {old = old} true before line x rest w s =
     let other = white_is x w in
-    let left = placed_first true before line x rest (and_right (before == 10) _ other.1) other.0 ∙ joined_white (x, line) (without_comments false x (bytes_on_lines line rest)) other.0 w in
+    let left = placed_first true before line x rest (and_right (before == 10) _ other.1) other.0
+    ∙ joined_white (x, line) (without_comments false x (bytes_on_lines line rest)) other.0 w in
     subst (λ (t : List PlacedByte). SkipsWhiteSpace old t) left s
 skips-white {old = old} false before line x rest w s =
     let other = white_is x w in
-    let left = placed_first false before line x rest (and_right (before == 10) _ other.1) other.0 ∙ kept_byte (x, line) (without_comments false x (bytes_on_lines line rest)) other.0 in
+    let left = placed_first false before line x rest (and_right (before == 10) _ other.1) other.0
+    ∙ kept_byte (x, line) (without_comments false x (bytes_on_lines line rest)) other.0 in
     skips_byte (x, line) (subst (λ (t : List PlacedByte). SkipsWhiteSpace old t) left s) w
 
 -- a byte that is not white space and begins no comment ends a break
@@ -128,7 +141,8 @@ pub folded-visible : (joining : Bool) (before line x : ℕ) (rest : List ℕ) �
     → folded joining before line (x ∷ rest) ≡ folded false before line (x ∷ rest)
 folded-visible false before line x rest c n v = refl
 folded-visible true before line x rest c n v =
-    placed_first true before line x rest c n ∙ break_ends (x, line) (without_comments false x (bytes_on_lines line rest)) n v ∙ sym (placed_first false before line x rest c n)
+    placed_first true before line x rest c n ∙ break_ends (x, line) (without_comments false x (bytes_on_lines line rest)) n v
+    ∙ sym (placed_first false before line x rest c n)
 
 -- ---- a comment, up to the end of its line
 
@@ -162,7 +176,8 @@ no_true true never = absurd (never refl)
 no_true false never = refl
 
 -- a text whose first newline is at n, and a text without one
-after_line-at : (s : List ℕ) (n : ℕ) → n < length s → ((k : ℕ) → k < n → (get_or s k 0 == 10) ≡ true → ⊥) → (get_or s n 0 == 10) ≡ true → after_line s ≡ drop (suc n) s
+after_line-at : (s : List ℕ) (n : ℕ) → n < length s → ((k : ℕ) → k < n → (get_or s k 0 == 10) ≡ true → ⊥) → (get_or s n 0 == 10) ≡ true
+    → after_line s ≡ drop (suc n) s
 after_line-at [] n h none t = absurd (omega arith)
 after_line-at (x ∷ xs) zero h none t = rw t refl
 after_line-at (x ∷ xs) (suc n) h none t =

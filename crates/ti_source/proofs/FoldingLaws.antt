@@ -1,12 +1,14 @@
 -- A block folds to one text, which `folded` computes.
-use Rattle.std.proofs.Common.{◌≡◌, ℕ, ◌+◌, Bool, true, false, not, ◌==◌, ◌||◌, cond, List, [], ◌∷◌, ◌++◌, map, filter, flat_map, zero-add, append_assoc, refl, sym, ap, ◌∙◌, subst, inl, inr, arith}
+use Rattle.std.proofs.Common.{◌≡◌, ℕ, ◌+◌, Bool, true, false, not, ◌==◌, ◌||◌, cond, List, [], ◌∷◌, ◌++◌, map, filter, flat_map, zero-add, append_assoc}
+use Rattle.std.proofs.Common.{refl, sym, ap, ◌∙◌, subst, inl, inr, arith}
 use Rattle.std.proofs.lemmas.Bool.{cases_Bool, eqb-true}
 use Rattle.std.proofs.lemmas.List.{append-nil}
 use Rattle.ti_text.proofs.LineLaws.{lines_add}
 use Rattle.ti_text.specs.WhiteSpace.{is_white_space}
 use Rattle.ti_text.specs.Lines.{line_count}
 use Rattle.ti_source.specs.inside.Folding.{bytes_on_lines, without_comments, without_breaks, folding_of, FoldingIsComputed}
-use Rattle.ti_source.specs.Folding.{PlacedByte, ArePlaced, HasNoNewline, AreLines, no_lines, last_line, line_and_rest, is_comment, is_blank, IsBlankRun, BeginsNoBlank, Joins, last_piece, piece_and_break, Folds, OneFolding, EachIsFolded}
+use Rattle.ti_source.specs.Folding.{PlacedByte, ArePlaced, HasNoNewline, AreLines, no_lines, last_line, line_and_rest, is_comment, is_blank, IsBlankRun}
+use Rattle.ti_source.specs.Folding.{BeginsNoBlank, Joins, last_piece, piece_and_break, Folds, OneFolding, EachIsFolded}
 
 -- ---- bytes with their lines
 
@@ -91,7 +93,8 @@ first_line : (comment : Bool) (x : PlacedByte) (xs t u v : List PlacedByte) (b :
 first_line comment x xs t u v true e n none skipped kept = rw e (skip_line x.0 xs t u n none skipped)
 first_line comment x xs t u v false e n none skipped kept = rw e (ap (λ r. x ∷ r) (keep_line x.0 xs t v n none kept))
 
-lines_left : (comment : Bool) (text : List PlacedByte) (lines : List (List PlacedByte)) → AreLines text lines → without_comments comment 10 text ≡ without_comment_lines lines
+lines_left : (comment : Bool) (text : List PlacedByte) (lines : List (List PlacedByte)) → AreLines text lines
+    → without_comments comment 10 text ≡ without_comment_lines lines
 lines_left comment _ _ no_lines = refl
 lines_left comment _ _ (last_line [] some none) = absurd (some refl)
 lines_left comment _ _ (last_line (x ∷ xs) some none) =
@@ -106,7 +109,8 @@ lines_left comment _ _ (line_and_rest (x ∷ xs) rest at lines none are) =
     ∙ sym (line_left (x ∷ xs ++ (10, at) ∷ []) lines (x.0 == 35) refl)
 
 -- the lines of a text
-more_line : (x : PlacedByte) (text : List PlacedByte) (lines : List (List PlacedByte)) → (x.0 == 10) ≡ false → AreLines text lines → (ls : List (List PlacedByte)) × AreLines (x ∷ text) ls
+more_line : (x : PlacedByte) (text : List PlacedByte) (lines : List (List PlacedByte)) → (x.0 == 10) ≡ false → AreLines text lines
+    → (ls : List (List PlacedByte)) × AreLines (x ∷ text) ls
 more_line x _ _ n no_lines = ((x ∷ []) ∷ [], last_line (x ∷ []) (λ e. cc) (n, tt))
 more_line x _ _ n (last_line line some none) = ((x ∷ line) ∷ [], last_line (x ∷ line) (λ e. cc) (n, none))
 more_line x _ _ n (line_and_rest line rest at lines none are) = ((x ∷ line ++ (10, at) ∷ []) ∷ lines, line_and_rest (x ∷ line) rest at lines (n, none) are)
@@ -116,7 +120,11 @@ some_lines [] = ([], no_lines)
 some_lines (x ∷ xs) =
     let (ls, are) = some_lines xs in
     elim (cases_Bool (x.0 == 10)) [
-      | inl t ↦ (((10, x.1) ∷ []) ∷ ls, subst (λ b. AreLines ((b, x.1) ∷ xs) (((10, x.1) ∷ []) ∷ ls)) (sym (eqb-true x.0 10 t)) (line_and_rest [] xs x.1 ls tt are))
+      | inl t ↦ (
+        ((10, x.1) ∷ []) ∷ ls,
+        subst (λ b. AreLines ((b, x.1) ∷ xs) (((10, x.1) ∷ []) ∷ ls)) (sym (eqb-true x.0 10 t))
+            (line_and_rest [] xs x.1 ls tt are),
+      )
       | inr f ↦ more_line x xs ls f are
     ]
 
@@ -177,7 +185,16 @@ joining_before : (x : PlacedByte) (xs : List PlacedByte) → Joining xs → Join
 joining_before x xs later =
     let kept = joins_by_itself x xs later in
     elim (cases_Bool (is_blank x.0)) [
-      | inl t ↦ record { kept = kept; run = x ∷ later.run; rest = later.rest; whole = ap (λ r. x ∷ r) later.whole; blank = (t, later.blank); ends = later.ends; after = rw t later.after }
+      | inl t ↦ record {
+        kept = kept;
+        run = x ∷ later.run;
+        rest = later.rest;
+        whole = ap (λ r. x ∷ r) later.whole;
+        blank = (t, later.blank);
+        ends =
+            later.ends;
+        after = rw t later.after;
+      }
       | inr f ↦ record {
         kept = kept;
         run = [];

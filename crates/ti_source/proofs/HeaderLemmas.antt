@@ -1,5 +1,6 @@
 -- The parts of a names field, and what the tests of a header say.
-use Rattle.std.proofs.Common.{◌≡◌, ◌≢◌, ℕ, zero, suc, ◌+◌, ◌-◌, ◌<◌, ◌≤◌, Bool, true, false, not, ◌==◌, nat_le, List, [], ◌∷◌, ◌++◌, length, take, drop, get_or, Option, Some, None, is_some, All, Any, Contains, refl, sym, ap, subst, ◌∙◌, inl, inr, arith}
+use Rattle.std.proofs.Common.{◌≡◌, ◌≢◌, ℕ, zero, suc, ◌+◌, ◌-◌, ◌<◌, ◌≤◌, Bool, true, false, not, ◌==◌, nat_le, List, [], ◌∷◌, ◌++◌, length, take, drop}
+use Rattle.std.proofs.Common.{get_or, Option, Some, None, is_some, All, Any, Contains, refl, sym, ap, subst, ◌∙◌, inl, inr, arith}
 use Rattle.std.specs.Bool.{Decides}
 use Rattle.std.specs.List.{list_all, list_any, join_with_byte, onto_first, AllByRecursion}
 use Rattle.std.proofs.lemmas.Bool.{cases_Bool, eqb-true, ne_eqb, leb-true, le-leb, and_cases, not-false, false_from_ne_true, false≢true}
@@ -7,10 +8,12 @@ use Rattle.std.proofs.lemmas.Bool.Decides.{Decides-eqb, Decides-like, Decides-no
 use Rattle.std.proofs.lemmas.List.{length_push, get_or_default, drop_more, take-append-drop, length-drop, get_or-drop}
 use Rattle.std.proofs.Math.Seq.{take-append_seam}
 use Rattle.std.proofs.lemmas.List.Elements.{All-from_recursion, recursion_from_All, Decides-contains}
-use Rattle.std.proofs.lemmas.List.Splits.{slice_split-cons_yes, slice_split-cons_no, slice_split_none, slice_split_at, length-slice_split, join_with_byte-slice_split}
+use Rattle.std.proofs.lemmas.List.Splits.{slice_split-cons_yes, slice_split-cons_no, slice_split_none, slice_split_at, length-slice_split}
+use Rattle.std.proofs.lemmas.List.Splits.{join_with_byte-slice_split}
 use Rattle.std.proofs.lemmas.Slice.Eq.{bytes_eq-Decides}
 use Rattle.memchr.specs.Find.{IsFirstByte, IsLastByte, is_byte}
-use Rattle.ti_source.specs.Header.{IsNameByte, IsLookupName, is_name_byte, is_lookup_name, PartsOf, lookup_parts, HeaderNames, IsBadHeader, ReadsNames, EachHeaderIsRead, HeadersHaveOneReading}
+use Rattle.ti_source.specs.Header.{IsNameByte, IsLookupName, is_name_byte, is_lookup_name, PartsOf, lookup_parts, HeaderNames, IsBadHeader, ReadsNames}
+use Rattle.ti_source.specs.Header.{EachHeaderIsRead, HeadersHaveOneReading}
 use Rattle.ti_source.specs.inside.Header.{header_parts, is_header, header_names, HeadersAreComputed}
 
 -- ---- the tests
@@ -84,7 +87,8 @@ apart-parts [] = (apart-nil, tt)
 apart-parts (x ∷ xs) =
     elim (cases_Bool (x == 124)) [
       | inl t ↦ rw (slice_split-cons_yes (λ b. b == 124) x xs t) (apart-nil, apart-parts xs)
-      | inr f ↦ rw (slice_split-cons_no (λ b. b == 124) x xs f) (apart-onto_first x (header_parts xs) (λ e. false≢true (sym f ∙ (Decides-eqb x 124).1 e)) (apart-parts xs))
+      | inr f ↦ rw (slice_split-cons_no (λ b. b == 124) x xs f)
+          (apart-onto_first x (header_parts xs) (λ e. false≢true (sym f ∙ (Decides-eqb x 124).1 e)) (apart-parts xs))
     ]
 
 parts_of-some : (s : List ℕ) → 0 < length (header_parts s)
@@ -143,9 +147,11 @@ each_header field =
             fault = elim (and_cases _ (list_all is_lookup_name (lookup_parts parts)) f) [
               | inl g ↦ elim (and_cases (not (list_any (λ b. b == 0) field)) _ g) [
                 | inl nul ↦ inr (inl ((nul_decides field).0 (not-false _ nul)))
-                | inr empty ↦ inl (Any-from_false (λ part. not (length part == 0)) (λ part. part ≡ []) (λ part e. (empty_decides part).0 (not-false _ e)) parts empty)
+                | inr empty ↦ inl (Any-from_false (λ part. not (length part == 0)) (λ part. part ≡ [])
+                    (λ part e. (empty_decides part).0 (not-false _ e)) parts empty)
               ]
-              | inr name ↦ inr (inr (Any-from_false is_lookup_name (λ n. IsLookupName n → ⊥) (λ n e. fails _ (lookup_name_decides n) e) (lookup_parts parts) name))
+              | inr name ↦ inr (inr (Any-from_false is_lookup_name (λ n. IsLookupName n → ⊥) (λ n e. fails _ (lookup_name_decides n) e)
+                  (lookup_parts parts) name))
             ];
           })
     ]
@@ -166,7 +172,8 @@ read_bad field b =
       | inl e ↦ none_of_all (λ part. part ≢ []) (λ part. part ≡ []) (λ part n e. n e) b.parts (subst (All (λ part. part ≢ [])) same h.0.1) e
       | inr o ↦ elim o [
         | inl nul ↦ h.0.0 nul
-        | inr n ↦ none_of_all IsLookupName (λ n. IsLookupName n → ⊥) (λ n l r. r l) (lookup_parts b.parts) (subst (All IsLookupName) (ap lookup_parts same) h.1) n
+        | inr n ↦ none_of_all IsLookupName (λ n. IsLookupName n → ⊥) (λ n l r. r l) (lookup_parts b.parts)
+            (subst (All IsLookupName) (ap lookup_parts same) h.1) n
       ]
     ]) in
     rw bad refl

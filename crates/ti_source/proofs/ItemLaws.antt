@@ -1,5 +1,6 @@
 -- The names field, the items, and what each item states are determined, and are as computed.
-use Rattle.std.proofs.Common.{◌≡◌, ◌≢◌, ℕ, Bool, true, false, not, ◌==◌, ◌&&◌, List, [], ◌∷◌, ◌++◌, Option, Some, None, refl, sym, ap, subst, ◌∙◌, inl, inr, append_assoc}
+use Rattle.std.proofs.Common.{◌≡◌, ◌≢◌, ℕ, Bool, true, false, not, ◌==◌, ◌&&◌, List, [], ◌∷◌, ◌++◌, Option, Some, None, refl, sym, ap, subst, ◌∙◌, inl, inr}
+use Rattle.std.proofs.Common.{append_assoc}
 use Rattle.std.proofs.lemmas.List.{append-nil}
 use Rattle.std.proofs.lemmas.Bool.{cases_Bool, eqb-true, eq-eqb, ne_eqb, and_parts, false≢true}
 use Rattle.std.proofs.lemmas.Bool.Decides.{eqb_tells}
@@ -8,8 +9,10 @@ use Rattle.ti_text.specs.WhiteSpace.{is_white_space}
 use Rattle.ti_source.specs.WhiteSpace.{without_trailing_space}
 use Rattle.ti_source.specs.Cutting.{last_byte}
 use Rattle.ti_source.specs.Folding.{PlacedByte}
-use Rattle.ti_source.specs.Items.{HasNoComma, Begins, all_field, field_and_rest, takes, stands_alone, AreItems, last_item, item_ends, pair_of_bytes, single_byte}
-use Rattle.ti_source.specs.Items.{is_mark, HasNoMark, IsWhite, IsEnabled, States, empty_item, disabled_item, number_item, text_item, cancel_item, flag_item, Statement}
+use Rattle.ti_source.specs.Items.{HasNoComma, Begins, all_field, field_and_rest, takes, stands_alone, AreItems, last_item, item_ends, pair_of_bytes}
+use Rattle.ti_source.specs.Items.{single_byte}
+use Rattle.ti_source.specs.Items.{is_mark, HasNoMark, IsWhite, IsEnabled, States, empty_item, disabled_item, number_item, text_item, cancel_item, flag_item}
+use Rattle.ti_source.specs.Items.{Statement}
 use Rattle.ti_source.specs.Items.{claims_flag, claims_number, claims_text, claims_cancel}
 use Rattle.ti_source.specs.inside.Items.{field_of, after_field, escape_after, cuts, with_first, items_of}
 use Rattle.ti_source.specs.Stating.{before_mark, from_mark, without_last, plain_statement, statement_with_value, statement_by_mark, statement_of}
@@ -44,7 +47,8 @@ all_before : (field : List PlacedByte) → HasNoComma field → (field ≡ field
 all_before [] none = (refl, refl)
 all_before (x ∷ xs) none = let later = all_before xs none.1 in rw none.0 (ap (λ s. x ∷ s) later.0, later.1)
 
-before_comma : (field rest : List PlacedByte) (line : ℕ) → HasNoComma field → (field ≡ field_of (field ++ (44, line) ∷ rest)) × (rest ≡ after_field (field ++ (44, line) ∷ rest))
+before_comma : (field rest : List PlacedByte) (line : ℕ) → HasNoComma field → (field ≡ field_of (field ++ (44, line) ∷ rest))
+    × (rest ≡ after_field (field ++ (44, line) ∷ rest))
 before_comma [] rest line none = (refl, refl)
 before_comma (x ∷ xs) rest line none = let later = before_comma xs rest line none.1 in rw none.0 (ap (λ s. x ∷ s) later.0, later.1)
 
@@ -76,7 +80,8 @@ items_of-pair before x y text t =
     ∙ ap (with_first x) (items_of-plain (escape_after escape.Nothing before x.0) x.0 y text facts.1 ∙ ap (λ by. with_first y (items_of by y.0 text)) facts.2)
 
 -- a byte that takes nothing is by itself
-alone-same : (before x : ℕ) (text : List PlacedByte) → stands_alone before x text ≡ true → items_of (escape_after escape.Nothing before x) x text ≡ items_of escape.Nothing x text
+alone-same : (before x : ℕ) (text : List PlacedByte) → stands_alone before x text ≡ true → items_of (escape_after escape.Nothing before x) x text
+    ≡ items_of escape.Nothing x text
 alone-same before x [] alone = refl
 alone-same before x (y ∷ ys) alone =
     elim (cases_Bool (x == 92)) [
@@ -93,7 +98,8 @@ items_of-alone : (before : ℕ) (x : PlacedByte) (text : List PlacedByte) → x.
 items_of-alone before x text h alone = items_of-plain escape.Nothing before x text (ne_eqb x.0 44 h) ∙ ap (with_first x) (alone-same before x.0 text alone)
 
 -- every text has an item
-AreItems-cons : (before : ℕ) (text : List PlacedByte) (all : List (List PlacedByte)) → AreItems before text all → (item : List PlacedByte) × (items : List (List PlacedByte)) × (all ≡ item ∷ items)
+AreItems-cons : (before : ℕ) (text : List PlacedByte) (all : List (List PlacedByte)) → AreItems before text all → (item : List PlacedByte)
+    × (items : List (List PlacedByte)) × (all ≡ item ∷ items)
 AreItems-cons _ _ _ (last_item _) = ([], [], refl)
 AreItems-cons _ _ _ (item_ends _ _ _ items _) = ([], items, refl)
 AreItems-cons _ _ _ (pair_of_bytes _ x y _ item items _ _) = (x ∷ y ∷ item, items, refl)
@@ -105,13 +111,15 @@ more_pair before x y text all t are =
     let c = AreItems-cons y.0 text all are in
     rw c.2 (pair_of_bytes before x y text c.0 c.1 t (rw c.2 at are))
 
-more_single : (before : ℕ) (x : PlacedByte) (text : List PlacedByte) (all : List (List PlacedByte)) → x.0 ≢ 44 → stands_alone before x.0 text ≡ true → AreItems x.0 text all
+more_single : (before : ℕ) (x : PlacedByte) (text : List PlacedByte) (all : List (List PlacedByte)) → x.0 ≢ 44 → stands_alone before x.0 text ≡ true
+    → AreItems x.0 text all
     → AreItems before (x ∷ text) (with_first x all)
 more_single before x text all h alone are =
     let c = AreItems-cons x.0 text all are in
     rw c.2 (single_byte before x text c.0 c.1 h alone (rw c.2 at are))
 
-more_cut : (before : ℕ) (x : PlacedByte) (text : List PlacedByte) → x.0 ≡ 44 → AreItems 44 text (items_of escape.Nothing 44 text) → AreItems before (x ∷ text) (items_of escape.Nothing before (x ∷ text))
+more_cut : (before : ℕ) (x : PlacedByte) (text : List PlacedByte) → x.0 ≡ 44 → AreItems 44 text (items_of escape.Nothing 44 text)
+    → AreItems before (x ∷ text) (items_of escape.Nothing before (x ∷ text))
 more_cut before x text e are =
     let items = items_of escape.Nothing 44 text in
     let P : ℕ → Type 0 = λ b. AreItems before ((b, x.1) ∷ text) ([] ∷ items) in
@@ -132,15 +140,19 @@ has_items before (x ∷ y ∷ text) =
             | inl t ↦ rw (items_of-pair before x y text t) (more_pair before x y text (items_of escape.Nothing y.0 text) t (has_items y.0 text))
             | inr f ↦
                 let alone : stands_alone before x.0 (y ∷ text) ≡ true = ap not f in
-                rw (items_of-alone before x (y ∷ text) other.1 alone) (more_single before x (y ∷ text) (items_of escape.Nothing x.0 (y ∷ text)) other.1 alone (has_items x.0 (y ∷ text)))
+                rw (items_of-alone before x (y ∷ text) other.1 alone)
+                (more_single before x (y ∷ text) (items_of escape.Nothing x.0 (y ∷ text)) other.1 alone (has_items x.0 (y ∷ text)))
           ]
     ]
 
-pub one_items : (before : ℕ) (text : List PlacedByte) (items : List (List PlacedByte)) → AreItems before text items → items ≡ items_of escape.Nothing before text
+pub one_items : (before : ℕ) (text : List PlacedByte) (items : List (List PlacedByte)) → AreItems before text items
+    → items ≡ items_of escape.Nothing before text
 one_items _ _ _ (last_item before) = refl
 one_items _ _ _ (item_ends before line text items are) = ap (λ later. [] ∷ later) (one_items 44 text items are)
-one_items _ _ _ (pair_of_bytes before x y text item items t are) = ap (λ all. with_first x (with_first y all)) (one_items y.0 text (item ∷ items) are) ∙ sym (items_of-pair before x y text t)
-one_items _ _ _ (single_byte before x text item items h alone are) = ap (with_first x) (one_items x.0 text (item ∷ items) are) ∙ sym (items_of-alone before x text h alone)
+one_items _ _ _ (pair_of_bytes before x y text item items t are) =
+    ap (λ all. with_first x (with_first y all)) (one_items y.0 text (item ∷ items) are) ∙ sym (items_of-pair before x y text t)
+one_items _ _ _ (single_byte before x text item items h alone are) =
+    ap (with_first x) (one_items x.0 text (item ∷ items) are) ∙ sym (items_of-alone before x text h alone)
 
 -- ---- what an item states
 
@@ -198,17 +210,20 @@ cons≢nil : (s : List ℕ) (x : ℕ) (t : List ℕ) → s ++ x ∷ t ≢ []
 cons≢nil [] x t e = cc
 cons≢nil (y ∷ ys) x t e = cc
 
-states-number : (name value : List ℕ) → HasNoMark name → IsEnabled (name ++ 35 ∷ value) → Some (record { name = name; claim = claims_number value }) ≡ statement_of (name ++ 35 ∷ value)
+states-number : (name value : List ℕ) → HasNoMark name → IsEnabled (name ++ 35 ∷ value) → Some (record { name = name; claim = claims_number value })
+    ≡ statement_of (name ++ 35 ∷ value)
 states-number name value none on =
     let behind = mark_behind name 35 value none refl in
     rw (statement-of (name ++ 35 ∷ value) on (cons≢nil name 35 value), behind.1, behind.0) refl
 
-states-text : (name value : List ℕ) → HasNoMark name → IsEnabled (name ++ 61 ∷ value) → Some (record { name = name; claim = claims_text value }) ≡ statement_of (name ++ 61 ∷ value)
+states-text : (name value : List ℕ) → HasNoMark name → IsEnabled (name ++ 61 ∷ value) → Some (record { name = name; claim = claims_text value })
+    ≡ statement_of (name ++ 61 ∷ value)
 states-text name value none on =
     let behind = mark_behind name 61 value none refl in
     rw (statement-of (name ++ 61 ∷ value) on (cons≢nil name 61 value), behind.1, behind.0) refl
 
-states-cancel : (name end : List ℕ) → HasNoMark name → IsWhite end → IsEnabled (name ++ 64 ∷ end) → Some (record { name = name; claim = claims_cancel }) ≡ statement_of (name ++ 64 ∷ end)
+states-cancel : (name end : List ℕ) → HasNoMark name → IsWhite end → IsEnabled (name ++ 64 ∷ end)
+    → Some (record { name = name; claim = claims_cancel }) ≡ statement_of (name ++ 64 ∷ end)
 states-cancel name end none white on =
     rw (
       statement-of (name ++ 64 ∷ end) on (cons≢nil name 64 end),
@@ -246,7 +261,8 @@ one_statement _ _ (cancel_item name end none white on) = states-cancel name end 
 one_statement _ _ (flag_item name end none white on visible other) = states-flag name end none white on visible other
 
 -- a text is what is before its first mark, and the rest, which begins with one
-mark_split : (s : List ℕ) → (s ≡ before_mark s ++ from_mark s) × HasNoMark (before_mark s) × ((m : ℕ) (value : List ℕ) → from_mark s ≡ m ∷ value → is_mark m ≡ true)
+mark_split : (s : List ℕ) → (s ≡ before_mark s ++ from_mark s) × HasNoMark (before_mark s)
+    × ((m : ℕ) (value : List ℕ) → from_mark s ≡ m ∷ value → is_mark m ≡ true)
 mark_split [] = (refl, tt, λ m value e. cc)
 mark_split (x ∷ xs) =
     let later = mark_split xs in
@@ -310,7 +326,8 @@ unmarked_states x core end none white on visible =
       | inr other ↦ rw other.0 (flag_item (x ∷ core) end none white on visible other.1)
     ]
 
-marked_states : (x : ℕ) (xs rest : List ℕ) → (x == 46) ≡ false → is_white_space x ≡ false → from_mark (x ∷ xs) ≡ rest → States (x ∷ xs) (Some (statement_by_mark (x ∷ xs) rest))
+marked_states : (x : ℕ) (xs rest : List ℕ) → (x == 46) ≡ false → is_white_space x ≡ false → from_mark (x ∷ xs) ≡ rest
+    → States (x ∷ xs) (Some (statement_by_mark (x ∷ xs) rest))
 marked_states x xs (mark ∷ value) on visible e =
     let parts = mark_split (x ∷ xs) in
     let name = before_mark (x ∷ xs) in

@@ -1,5 +1,6 @@
 -- Items read byte by byte.
-use Rattle.std.proofs.Common.{◌≡◌, ◌≢◌, ℕ, zero, suc, ◌-◌, ◌<◌, ◌≤◌, Bool, true, false, not, ◌==◌, ◌||◌, ◌&&◌, List, [], ◌∷◌, ◌++◌, length, take, get_or, cond, refl, sym, ap, subst, ◌∙◌, arith, append_assoc, ◌⊎◌, inl, inr}
+use Rattle.std.proofs.Common.{◌≡◌, ◌≢◌, ℕ, zero, suc, ◌-◌, ◌<◌, ◌≤◌, Bool, true, false, not, ◌==◌, ◌||◌, ◌&&◌, List, [], ◌∷◌, ◌++◌, length, take, get_or}
+use Rattle.std.proofs.Common.{cond, refl, sym, ap, subst, ◌∙◌, arith, append_assoc, ◌⊎◌, inl, inr}
 use Rattle.std.proofs.Math.Bool.{or-false}
 use Rattle.std.proofs.Math.Seq.{take-suc}
 use Rattle.std.proofs.lemmas.Bool.{cases_Bool, ne_eqb, eqb-true}
@@ -11,12 +12,15 @@ use Rattle.ti_text.specs.WhiteSpace.{is_white_space}
 use Rattle.ti_source.specs.Folding.{PlacedByte}
 use Rattle.ti_source.specs.Items.{bytes, ItemPiece, item_piece, without_front, line_of, piece_of}
 use Rattle.ti_source.specs.inside.Folding.{SkipsWhiteSpace, skips_nothing, skips_byte}
-use Rattle.ti_source.specs.inside.Items.{escape_after, cuts, with_first, with_text_before, items_of, with_byte, on_line, PassesRun, takes_no_byte, takes_byte, begins_visible, IsWholeItem, TakesWholeItem, ReadsSoFar, TakesItem}
+use Rattle.ti_source.specs.inside.Items.{escape_after, cuts, with_first, with_text_before, items_of, with_byte, on_line, PassesRun, takes_no_byte}
+use Rattle.ti_source.specs.inside.Items.{takes_byte, begins_visible, IsWholeItem, TakesWholeItem, ReadsSoFar, TakesItem}
 
-pub items_of-plain : (by : Escape) (before : ℕ) (x : PlacedByte) (xs : List PlacedByte) → cuts by x.0 ≡ false → items_of by before (x ∷ xs) ≡ with_first x (items_of (escape_after by before x.0) x.0 xs)
+pub items_of-plain : (by : Escape) (before : ℕ) (x : PlacedByte) (xs : List PlacedByte) → cuts by x.0 ≡ false
+    → items_of by before (x ∷ xs) ≡ with_first x (items_of (escape_after by before x.0) x.0 xs)
 items_of-plain by before x xs f = rw f
 
-items_of-cut : (by : Escape) (before : ℕ) (x : PlacedByte) (xs : List PlacedByte) → cuts by x.0 ≡ true → items_of by before (x ∷ xs) ≡ [] ∷ items_of escape.Nothing 44 xs
+items_of-cut : (by : Escape) (before : ℕ) (x : PlacedByte) (xs : List PlacedByte) → cuts by x.0 ≡ true
+    → items_of by before (x ∷ xs) ≡ [] ∷ items_of escape.Nothing 44 xs
 items_of-cut by before x xs t = rw t
 
 with_front-with_first : (x : PlacedByte) (items : List (List PlacedByte)) → with_first x items ≡ with_text_before [] (with_first x items)
@@ -33,16 +37,20 @@ with_front-nil by before (x ∷ xs) =
       | false ↦ with_front-with_first x later
     ]
 
-with_front-push : (seen : List PlacedByte) (x : PlacedByte) (items : List (List PlacedByte)) → with_text_before seen (with_first x items) ≡ with_text_before (seen ++ x ∷ []) items
+with_front-push : (seen : List PlacedByte) (x : PlacedByte) (items : List (List PlacedByte))
+    → with_text_before seen (with_first x items) ≡ with_text_before (seen ++ x ∷ []) items
 with_front-push seen x [] = refl
 with_front-push seen x (i ∷ is) = ap (λ item. item ∷ is) (sym (append_assoc seen (x ∷ []) i))
 
 -- an item with one more byte shows one more byte
-without_front-push : (s : List PlacedByte) (x : PlacedByte) → (without_front s ≡ [] → without_front (s ++ x ∷ []) ≡ without_front (x ∷ [])) × ((y : PlacedByte) (ys : List PlacedByte) → without_front s ≡ y ∷ ys → without_front (s ++ x ∷ []) ≡ y ∷ (ys ++ x ∷ []))
+without_front-push : (s : List PlacedByte) (x : PlacedByte) → (without_front s ≡ [] → without_front (s ++ x ∷ []) ≡ without_front (x ∷ []))
+    × ((y : PlacedByte) (ys : List PlacedByte) → without_front s ≡ y ∷ ys → without_front (s ++ x ∷ []) ≡ y ∷ (ys ++ x ∷ []))
 without_front-push [] x = (λ e. refl, λ y ys e. cc)
 without_front-push (z ∷ zs) x =
-    elim (is_white_space z.0) as (λ b. (cond b (without_front zs) (z ∷ zs) ≡ [] → cond b (without_front (zs ++ x ∷ [])) (z ∷ (zs ++ x ∷ [])) ≡ without_front (x ∷ []))
-    × ((y : PlacedByte) (ys : List PlacedByte) → cond b (without_front zs) (z ∷ zs) ≡ y ∷ ys → cond b (without_front (zs ++ x ∷ [])) (z ∷ (zs ++ x ∷ [])) ≡ y ∷ (ys ++ x ∷ []))) [
+    elim (is_white_space z.0) as (λ b. (cond b (without_front zs) (z ∷ zs) ≡ [] → cond b (without_front (zs ++ x ∷ [])) (z ∷ (zs ++ x ∷ []))
+    ≡ without_front (x ∷ []))
+    × ((y : PlacedByte) (ys : List PlacedByte) → cond b (without_front zs) (z ∷ zs) ≡ y ∷ ys
+    → cond b (without_front (zs ++ x ∷ [])) (z ∷ (zs ++ x ∷ [])) ≡ y ∷ (ys ++ x ∷ []))) [
       | true ↦ without_front-push zs x
       | false ↦ (λ e. cc, λ y ys e. ap (λ s. s ++ x ∷ []) e)
     ]
@@ -51,10 +59,12 @@ bytes-push : (s : List PlacedByte) (x : PlacedByte) → bytes (s ++ x ∷ []) �
 bytes-push [] x = refl
 bytes-push (y ∷ ys) x = ap (λ s. y.0 ∷ s) (bytes-push ys x)
 
-piece_of-push-by : (seen : List PlacedByte) (x : PlacedByte) (shown : List PlacedByte) → without_front seen ≡ shown → piece_of (seen ++ x ∷ []) ≡ with_byte (item_piece (bytes shown) (line_of shown)) x
+piece_of-push-by : (seen : List PlacedByte) (x : PlacedByte) (shown : List PlacedByte) → without_front seen ≡ shown
+    → piece_of (seen ++ x ∷ []) ≡ with_byte (item_piece (bytes shown) (line_of shown)) x
 piece_of-push-by seen x [] e =
     rw ((without_front-push seen x).0 e)
-    (elim (is_white_space x.0) as (λ b. item_piece (bytes (cond b [] (x ∷ []))) (line_of (cond b [] (x ∷ []))) ≡ cond b (item_piece [] 0) (item_piece (x.0 ∷ []) x.1)) [ true ↦ refl | false ↦ refl ])
+    (elim (is_white_space x.0) as (λ b. item_piece (bytes (cond b [] (x ∷ []))) (line_of (cond b [] (x ∷ [])))
+    ≡ cond b (item_piece [] 0) (item_piece (x.0 ∷ []) x.1)) [ true ↦ refl | false ↦ refl ])
 piece_of-push-by seen x (y ∷ ys) e =
     rw ((without_front-push seen x).1 y ys e)
     (ap (λ text. item_piece (y.0 ∷ text) y.1) (bytes-push ys x))
@@ -70,7 +80,8 @@ pub so_far-more : (start : List PlacedByte) (by : Escape) (before : ℕ) (x : Pl
 so_far-more start by before x source shown r f = record {
   seen = r.seen ++ x ∷ [];
   is_piece = piece_of-push r.seen x ∙ ap (λ p. with_byte p x) r.is_piece;
-  items = r.items ∙ ap (with_text_before r.seen) (items_of-plain by before x source f) ∙ with_front-push r.seen x (items_of (escape_after by before x.0) x.0 source);
+  items = r.items ∙ ap (with_text_before r.seen) (items_of-plain by before x source f)
+      ∙ with_front-push r.seen x (items_of (escape_after by before x.0) x.0 source);
   shorter = omega (arith, r.shorter);
 }
 
@@ -91,17 +102,20 @@ so_far-run start line at source text takes_no_byte some r = rw append-nil r
 so_far-run start {run = all} line at source text (takes_byte {by = by} {next = next} {before = before} {last = last} {run = run} x goes plain inner) some r =
     let regrouped : on_line at (run ++ x ∷ []) ++ source ≡ on_line at run ++ ((x, at) ∷ source) =
     rw on_line-append (append_assoc (on_line at run) ((x, at) ∷ []) source) in
-    let earlier = so_far-run start line at ((x, at) ∷ source) text goes some (subst (λ (s : List PlacedByte). ReadsSoFar start by before s (item_piece text line)) regrouped r) in
+    let earlier = so_far-run start line at ((x, at) ∷ source) text goes some
+    (subst (λ (s : List PlacedByte). ReadsSoFar start by before s (item_piece text line)) regrouped r) in
     let longer : with_byte (item_piece (text ++ run) line) (x, at) ≡ item_piece (text ++ (run ++ x ∷ [])) line =
     pushes (text ++ run) line (x, at) (omega (arith, length-append text run)) ∙ ap (λ (t : List ℕ). item_piece t line) (append_assoc text run (x ∷ [])) in
-    subst (λ (shown : ItemPiece). ReadsSoFar start (escape_after next last x) x source shown) longer (so_far-more start next last (x, at) source (item_piece (text ++ run) line) earlier inner)
+    subst (λ (shown : ItemPiece). ReadsSoFar start (escape_after next last x) x source shown) longer
+    (so_far-more start next last (x, at) source (item_piece (text ++ run) line) earlier inner)
 
 pub takes-cut : (start : List PlacedByte) (by : Escape) (before : ℕ) (x : PlacedByte) (source : List PlacedByte) (shown : ItemPiece)
     → ReadsSoFar start by before (x ∷ source) shown → cuts by x.0 ≡ true → TakesItem start shown false source
 takes-cut start by before x source shown r t = record {
   item = r.seen;
   is_piece = r.is_piece;
-  is_first = r.items ∙ ap (with_text_before r.seen) (items_of-cut by before x source t) ∙ ap (λ item. item ∷ items_of escape.Nothing 44 source) (append-nil r.seen);
+  is_first = r.items ∙ ap (with_text_before r.seen) (items_of-cut by before x source t)
+      ∙ ap (λ item. item ∷ items_of escape.Nothing 44 source) (append-nil r.seen);
   shorter = λ e. omega (arith, r.shorter);
 }
 
@@ -130,7 +144,8 @@ items_of-tab : (line : ℕ) (xs : List PlacedByte) → items_of escape.Nothing 4
 items_of-tab line [] = refl
 items_of-tab line (x ∷ xs) = refl
 
-items_of-white : (x : PlacedByte) (xs : List PlacedByte) → is_white_space x.0 ≡ true → items_of escape.Nothing 44 (x ∷ xs) ≡ with_first x (items_of escape.Nothing 44 xs)
+items_of-white : (x : PlacedByte) (xs : List PlacedByte) → is_white_space x.0 ≡ true → items_of escape.Nothing 44 (x ∷ xs)
+    ≡ with_first x (items_of escape.Nothing 44 xs)
 items_of-white x xs w =
     elim (white_cases x.0 w) [
       | inl e ↦ subst (λ b. items_of escape.Nothing 44 ((b, x.1) ∷ xs) ≡ with_first (b, x.1) (items_of escape.Nothing 44 xs)) (sym e) (items_of-space x.1 xs)
@@ -180,7 +195,8 @@ so_far-item start line source takes_no_byte v r = r
 so_far-item start line source (takes_byte {by = by} {next = next} {before = before} {last = last} {run = run} x goes plain inner) v r =
     let regrouped : on_line line (run ++ x ∷ []) ++ source ≡ on_line line run ++ ((x, line) ∷ source) =
     rw on_line-append (append_assoc (on_line line run) ((x, line) ∷ []) source) in
-    let earlier = so_far-item start line ((x, line) ∷ source) goes (begins_earlier run x v) (subst (λ (s : List PlacedByte). ReadsSoFar start by before s (item_piece [] 0)) regrouped r) in
+    let earlier = so_far-item start line ((x, line) ∷ source) goes (begins_earlier run x v)
+    (subst (λ (s : List PlacedByte). ReadsSoFar start by before s (item_piece [] 0)) regrouped r) in
     subst (λ (shown : ItemPiece). ReadsSoFar start (escape_after next last x) x source shown) (visible_more line x run v)
     (so_far-more start next last (x, line) source (item_piece run (line_at line run)) earlier inner)
 

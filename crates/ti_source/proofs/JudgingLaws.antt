@@ -11,7 +11,8 @@ use Rattle.ti_text.specs.Limits.{number_max}
 use Rattle.ti_source.specs.Numbers.{IsNumeral}
 use Rattle.ti_source.specs.Items.{Claim, claims_flag, claims_number, claims_text, claims_cancel, without_outer_space}
 use Rattle.ti_source.specs.Reading.{said_flag, said_number, said_text, said_cancel, said_import}
-use Rattle.ti_source.specs.Verdicts.{Verdict, accepted, is_import, ReadClaim, reads_flag, reads_number, reads_text, reads_cancel, IsReadAs, flag_read, number_read_as, text_read_as, cancel_read, fitting_verdict, verdict_on, Judges}
+use Rattle.ti_source.specs.Verdicts.{Verdict, accepted, is_import, ReadClaim, reads_flag, reads_number, reads_text, reads_cancel, IsReadAs, flag_read}
+use Rattle.ti_source.specs.Verdicts.{number_read_as, text_read_as, cancel_read, fitting_verdict, verdict_on, Judges}
 use Rattle.ti_source.specs.inside.Verdicts.{read_claim, verdict_of}
 use Rattle.ti_source.proofs.NumberLemmas.{each_text, one_reading as one_number}
 
@@ -88,6 +89,7 @@ judged_text name value text c other e is spells =
       is = ap (fitting_verdict c read) (sym is) ∙ named name (claims_text value) read c other e;
     }
 
-pub judged_import : (name value : List ℕ) → is_import name (claims_text value) ≡ true → Judges name (claims_text value) (accepted (said_import (without_outer_space value)))
+pub judged_import : (name value : List ℕ) → is_import name (claims_text value) ≡ true
+    → Judges name (claims_text value) (accepted (said_import (without_outer_space value)))
 judged_import name value t =
     record { read = reads_text value (unescape_result value); is_read = text_read_as (has_spelling value); is = rw t refl }

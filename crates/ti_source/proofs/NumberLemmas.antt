@@ -1,8 +1,10 @@
 -- What a number of a source is written as, and what it reads as.
-use Rattle.std.proofs.Common.{◌≡◌, ℕ, ◌<◌, ◌≤◌, true, false, ◌||◌, ◌==◌, nat_le, nat_lt, List, [], ◌∷◌, ◌++◌, Option, Some, None, Result, Ok, Err, All, ◌⊎◌, refl, sym, ap, subst, ◌∙◌, inl, inr, arith}
+use Rattle.std.proofs.Common.{◌≡◌, ℕ, ◌<◌, ◌≤◌, true, false, ◌||◌, ◌==◌, nat_le, nat_lt, List, [], ◌∷◌, ◌++◌, Option, Some, None, Result, Ok, Err, All, ◌⊎◌}
+use Rattle.std.proofs.Common.{refl, sym, ap, subst, ◌∙◌, inl, inr, arith}
 use Rattle.std.specs.Bool.{Decides}
 use Rattle.std.specs.List.{list_all, AllPass}
-use Rattle.std.proofs.lemmas.Bool.{cases_Bool, and_left, or_from, or_cases, or_left, or_right, eqb-true, eqb-false, eq-eqb, ne_eqb, leb-true, leb-false, le-leb, lt-leb}
+use Rattle.std.proofs.lemmas.Bool.{cases_Bool, and_left, or_from, or_cases, or_left, or_right, eqb-true, eqb-false, eq-eqb, ne_eqb, leb-true, leb-false}
+use Rattle.std.proofs.lemmas.Bool.{le-leb, lt-leb}
 use Rattle.std.proofs.lemmas.Bool.Decides.{Decides-ltb, Decides-by_and}
 use Rattle.std.proofs.lemmas.List.Elements.{All-nil, All-head, All-tail}
 use Rattle.std.proofs.lemmas.List.Sums.{AllPass-from_list_all, list_all-from_AllPass}
@@ -10,7 +12,8 @@ use Rattle.ti_source.specs.declared.numbers.NumberError.{NumberError}
 use Rattle.ti_source.specs.declared.numbers.NumberError.TheVariants.{Bad, TooLarge}
 use Rattle.ti_text.specs.WhiteSpace.{is_white_space}
 use Rattle.ti_source.specs.WhiteSpace.{without_trailing_space}
-use Rattle.ti_source.specs.Numbers.{digit_value, IsDigit, value_in, IsNumber, octal, hexadecimal, decimal, IsNumeral, ReadsAs, NumeralsHaveOneValue, EachTextIsRead, NumbersHaveOneReading}
+use Rattle.ti_source.specs.Numbers.{digit_value, IsDigit, value_in, IsNumber, octal, hexadecimal, decimal, IsNumeral, ReadsAs, NumeralsHaveOneValue}
+use Rattle.ti_source.specs.Numbers.{EachTextIsRead, NumbersHaveOneReading}
 use Rattle.ti_text.specs.Limits.{number_max}
 use Rattle.ti_source.specs.inside.Numbers.{digits_read, after_zero_read, value_read, within_limit, number_read, NumbersAreComputed}
 
@@ -137,7 +140,14 @@ numeral_is_read text v n =
 read_is_numeral : (text : List ℕ) (v : ℕ) → value_read (without_trailing_space text) ≡ Some v → IsNumeral text v
 read_is_numeral text v e =
     let space = trims text in
-    record { number = without_trailing_space text; space = space.0; whole = space.1.whole; blank = space.1.blank; written = read_is_number (without_trailing_space text) v e }
+    record {
+      number = without_trailing_space text;
+      space = space.0;
+      whole = space.1.whole;
+      blank = space.1.blank;
+      written =
+          read_is_number (without_trailing_space text) v e;
+    }
 
 pub one_value : NumeralsHaveOneValue
 one_value text v w n m = let same = sym (numeral_is_read text v n) ∙ numeral_is_read text w m in cc

@@ -12,6 +12,8 @@ use Rattle.ti_source.specs.inside.Parsing.{judged_of}
 pub record AddsSoFar (start : List PlacedByte) (old : Reading) (ordinal : ℕ) (source : List PlacedByte) (now : Reading) : Type 0 where
   pub same_field : now.field ≡ old.field
   pub same_names : now.names ≡ old.names
-  pub items : now.items ++ items_from ordinal (map judged_of (items_of escape.Nothing 44 source)) ≡ old.items ++ items_from 0 (map judged_of (items_of escape.Nothing 44 start))
-  pub faults : now.faults ++ faults_from ordinal (map judged_of (items_of escape.Nothing 44 source)) ≡ old.faults ++ faults_from 0 (map judged_of (items_of escape.Nothing 44 start))
+  pub items : now.items ++ items_from ordinal (map judged_of (items_of escape.Nothing 44 source)) ≡ old.items
+      ++ items_from 0 (map judged_of (items_of escape.Nothing 44 start))
+  pub faults : now.faults ++ faults_from ordinal (map judged_of (items_of escape.Nothing 44 source)) ≡ old.faults
+      ++ faults_from 0 (map judged_of (items_of escape.Nothing 44 start))
   pub few : ordinal + length source < 2 ^ 64

@@ -11,7 +11,8 @@ use Rattle.ti_source.specs.inside.Items.{field_of, after_field, items_of}
 use Rattle.ti_source.specs.Stating.{statement_of}
 use Rattle.ti_source.specs.Reading.{ReadItem, ReadFault, Reading}
 use Rattle.ti_source.specs.Verdicts.{Verdict}
-use Rattle.ti_source.specs.Judging.{Judged, IsJudged, item_ignored, item_judged, AreJudged, no_item, item_and_rest, items_from, faults_from, names_found, header_faults, reading_by}
+use Rattle.ti_source.specs.Judging.{Judged, IsJudged, item_ignored, item_judged, AreJudged, no_item, item_and_rest, items_from, faults_from, names_found}
+use Rattle.ti_source.specs.Judging.{header_faults, reading_by}
 use Rattle.ti_source.specs.Parsing.{Parses, reading_of_text, HasReading, BlocksHaveOneReading}
 use Rattle.ti_source.specs.inside.Parsing.{judged_as, judged_of, ReadsField, AddsItems, block_field}
 use Rattle.ti_source.specs.Walking.{block_items}
@@ -71,7 +72,8 @@ has_reading block =
       is = refl;
     }
 
-same_parts : (field field' : List ℕ) (names names' : Option (List (List ℕ))) (judged judged' : List (Option Judged)) → field ≡ field' → names ≡ names' → judged ≡ judged'
+same_parts : (field field' : List ℕ) (names names' : Option (List (List ℕ))) (judged judged' : List (Option Judged)) → field ≡ field' → names ≡ names'
+    → judged ≡ judged'
     → reading_by field names judged ≡ reading_by field' names' judged'
 same_parts field field' names names' judged judged' e f g =
     ap (λ x. reading_by x names judged) e ∙ ap (λ x. reading_by field' x judged) f ∙ ap (reading_by field' names') g
@@ -96,7 +98,8 @@ same_reading one other field names items faults =
     ∙ ap (λ (x : List ReadItem). record other { items = x; faults = one.faults }) items ∙ ap (λ (x : List ReadFault). record other { faults = x }) faults
 
 -- a block that is read part by part
-pub parsed_by_parts : (block field : List ℕ) (source rest : List PlacedByte) (header reading : Reading) → source ≡ folding_of block → field ≡ bytes (field_of source) → rest ≡ after_field source
+pub parsed_by_parts : (block field : List ℕ) (source rest : List PlacedByte) (header reading : Reading) → source ≡ folding_of block
+    → field ≡ bytes (field_of source) → rest ≡ after_field source
     → ReadsField field header → AddsItems rest header reading → reading ≡ reading_of_text block
 unfolding reading_of_text
 parsed_by_parts block field source rest header reading at_start is_field at_rest reads adds =

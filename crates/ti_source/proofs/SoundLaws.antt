@@ -1,6 +1,7 @@
 -- What is known of every block that is read.
 use Rattle.std.specs.Option.{option_or}
-use Rattle.std.proofs.Common.{◌≡◌, ◌≢◌, ℕ, suc, ◌+◌, ◌<◌, ◌≤◌, Bool, true, false, ◌==◌, ◌||◌, ◌&&◌, List, [], ◌∷◌, ◌++◌, length, cond, Option, Some, None, option_map, map, Result, Ok, Err, All, nat_lt, refl, sym, subst, ◌∙◌, inl, inr, arith}
+use Rattle.std.proofs.Common.{◌≡◌, ◌≢◌, ℕ, suc, ◌+◌, ◌<◌, ◌≤◌, Bool, true, false, ◌==◌, ◌||◌, ◌&&◌, List, [], ◌∷◌, ◌++◌, length, cond, Option, Some, None}
+use Rattle.std.proofs.Common.{option_map, map, Result, Ok, Err, All, nat_lt, refl, sym, subst, ◌∙◌, inl, inr, arith}
 use Rattle.std.specs.List.{list_any, AllByRecursion}
 use Rattle.std.proofs.lemmas.Bool.{cases_Bool, ltb-false}
 use Rattle.std.specs.Str.{bytes_eq}
@@ -36,7 +37,8 @@ use Rattle.ti_source.specs.inside.Parsing.{judged_as, judged_of, block_field}
 use Rattle.ti_source.specs.Walking.{block_items}
 use Rattle.ti_source.specs.inside.Verdicts.{read_claim, verdict_of}
 use Rattle.ti_text.specs.Limits.{names_max}
-use Rattle.ti_source.specs.Verdicts.{Verdict, accepted, accepted_odd, refused, is_import, ReadClaim, IsReadAs, flag_read, number_read_as, text_read_as, cancel_read, number_verdict, text_verdict, fitting_verdict, named_verdict, items_by, faults_by, header_fault}
+use Rattle.ti_source.specs.Verdicts.{Verdict, accepted, accepted_odd, refused, is_import, ReadClaim, IsReadAs, flag_read, number_read_as, text_read_as}
+use Rattle.ti_source.specs.Verdicts.{cancel_read, number_verdict, text_verdict, fitting_verdict, named_verdict, items_by, faults_by, header_fault}
 use Rattle.ti_source.specs.Sound.{SetsItsKind, IsLineOf, IsWritable, IsRising, EachIsWellRead}
 use Rattle.ti_text.proofs.LineLaws.{lines_add}
 use Rattle.ti_source.proofs.HeaderLemmas.{each_header}
@@ -59,17 +61,20 @@ SetsBy (accepted said) = SetsItsKind said
 SetsBy (accepted_odd said) = SetsItsKind said
 SetsBy (refused code) = is_of_header code ≡ false
 
-number_sets : (c : Capability) (text : List ℕ) (read : Result ℕ NumberError) → IsCapability c → c.kind ≡ kind.Number → ReadsAs text read → SetsBy (number_verdict c read)
+number_sets : (c : Capability) (text : List ℕ) (read : Result ℕ NumberError) → IsCapability c → c.kind ≡ kind.Number → ReadsAs text read
+    → SetsBy (number_verdict c read)
 number_sets c text (Ok n) valid is read = (valid, is, read.1)
 number_sets c text (Err Bad) valid is read = refl
 number_sets c text (Err TooLarge) valid is read = refl
 
-text_sets : ValuesAreSound → (c : Capability) (raw : List ℕ) (found : Result (List ℕ × Bool) UnescapeError) → IsCapability c → c.kind ≡ kind.Text → SpellsAs raw found → SetsBy (text_verdict c found)
+text_sets : ValuesAreSound → (c : Capability) (raw : List ℕ) (found : Result (List ℕ × Bool) UnescapeError) → IsCapability c → c.kind ≡ kind.Text
+    → SpellsAs raw found → SetsBy (text_verdict c found)
 text_sets sound c raw (Ok (text, true)) valid is spells = (valid, is, (sound raw text true spells).no_nul)
 text_sets sound c raw (Ok (text, false)) valid is spells = (valid, is, (sound raw text false spells).no_nul)
 text_sets sound c raw (Err cause) valid is spells = refl
 
-fitting_sets : ValuesAreSound → (c : Capability) (claim : Claim) (read : ReadClaim) (k : Kind) → IsReadAs claim read → IsCapability c → c.kind ≡ k → SetsBy (fitting_verdict c read k)
+fitting_sets : ValuesAreSound → (c : Capability) (claim : Claim) (read : ReadClaim) (k : Kind) → IsReadAs claim read → IsCapability c → c.kind ≡ k
+    → SetsBy (fitting_verdict c read k)
 fitting_sets sound c _ _ kind.Flag flag_read valid is = (valid, is)
 fitting_sets sound c _ _ kind.Number flag_read valid is = refl
 fitting_sets sound c _ _ kind.Text flag_read valid is = refl
@@ -81,7 +86,8 @@ fitting_sets sound c _ _ kind.Number (text_read_as spells) valid is = refl
 fitting_sets sound c _ _ kind.Text (text_read_as {value = value} {found = found} spells) valid is = text_sets sound c value found valid is spells
 fitting_sets sound c _ _ k cancel_read valid is = valid
 
-named_sets : NamedIsCapability → ValuesAreSound → (name : List ℕ) (claim : Claim) (o : Option Capability) → capability_named name ≡ o → SetsBy (named_verdict (read_claim claim) o)
+named_sets : NamedIsCapability → ValuesAreSound → (name : List ℕ) (claim : Claim) (o : Option Capability) → capability_named name ≡ o
+    → SetsBy (named_verdict (read_claim claim) o)
 named_sets valid sound name claim None e = refl
 named_sets valid sound name claim (Some c) e = fitting_sets sound c claim (read_claim claim) c.kind (is_read claim) (valid name c e) refl
 
@@ -121,14 +127,22 @@ module _ (P : PlacedByte → Type 0) where
   without_comments-all comment before (x ∷ xs) all =
       let kept = without_comments-all false x.0 xs all.1 in
       let left_out = without_comments-all true x.0 xs all.1 in
-      elim (in_comment comment before x.0) as (λ b. AllByRecursion P (cond b (without_comments true x.0 xs) (x ∷ without_comments false x.0 xs))) [ true ↦ left_out | false ↦ (all.0, kept) ]
+      elim (in_comment comment before x.0) as (λ b. AllByRecursion P (cond b (without_comments true x.0 xs) (x ∷ without_comments false x.0 xs))) [
+        | true ↦
+            left_out
+        | false ↦ (all.0, kept)
+      ]
 
   joined-all : (joining : Bool) (s : List PlacedByte) → AllByRecursion P s → AllByRecursion P (without_breaks joining s)
   joined-all joining [] all = tt
   joined-all joining (x ∷ xs) all =
       let kept = joined-all false xs all.1 in
       let left_out = joined-all true xs all.1 in
-      elim (x.0 == 10 || (joining && is_white_space x.0)) as (λ b. AllByRecursion P (cond b (without_breaks true xs) (x ∷ without_breaks false xs))) [ true ↦ left_out | false ↦ (all.0, kept) ]
+      elim (x.0 == 10 || (joining && is_white_space x.0)) as (λ b. AllByRecursion P (cond b (without_breaks true xs) (x ∷ without_breaks false xs))) [
+        | true
+            ↦ left_out
+        | false ↦ (all.0, kept)
+      ]
 
   after_field-all : (s : List PlacedByte) → AllByRecursion P s → AllByRecursion P (after_field s)
   after_field-all [] all = tt
@@ -136,7 +150,8 @@ module _ (P : PlacedByte → Type 0) where
       let later = after_field-all xs all.1 in
       elim (x.0 == 44) as (λ b. AllByRecursion P (cond b xs (after_field xs))) [ true ↦ all.1 | false ↦ later ]
 
-  with_first-all : (x : PlacedByte) (items : List (List PlacedByte)) → P x → AllByRecursion (AllByRecursion P) items → AllByRecursion (AllByRecursion P) (with_first x items)
+  with_first-all : (x : PlacedByte) (items : List (List PlacedByte)) → P x → AllByRecursion (AllByRecursion P) items
+      → AllByRecursion (AllByRecursion P) (with_first x items)
   with_first-all x [] p all = ((p, tt), tt)
   with_first-all x (item ∷ items) p all = ((p, all.0), all.1)
 
@@ -145,7 +160,8 @@ module _ (P : PlacedByte → Type 0) where
   items_of-all by before (x ∷ xs) all =
       let cut = items_of-all escape.Nothing 44 xs all.1 in
       let plain = with_first-all x (items_of (escape_after by before x.0) x.0 xs) all.0 (items_of-all (escape_after by before x.0) x.0 xs all.1) in
-      elim (cuts by x.0) as (λ b. AllByRecursion (AllByRecursion P) (cond b ([] ∷ items_of escape.Nothing 44 xs) (with_first x (items_of (escape_after by before x.0) x.0 xs)))) [ true ↦ (tt, cut) | false ↦ plain ]
+      elim (cuts by x.0) as (λ b. AllByRecursion (AllByRecursion P)
+      (cond b ([] ∷ items_of escape.Nothing 44 xs) (with_first x (items_of (escape_after by before x.0) x.0 xs)))) [ true ↦ (tt, cut) | false ↦ plain ]
 
   without_front-all : (s : List PlacedByte) → AllByRecursion P s → AllByRecursion P (without_front s)
   without_front-all [] all = tt
@@ -166,17 +182,19 @@ abbrev IsBetween : ℕ → ℕ → ℕ → Type 0
 IsBetween low high line = (low ≤ line) × (line < high)
 
 -- the lines of a text that begins on a line
-placed-between : (low high line : ℕ) (s : List ℕ) → low ≤ line → last_byte 10 s ≡ 10 → line + line_count s ≤ high → AllByRecursion (λ x. IsBetween low high x.1) (bytes_on_lines line s)
+placed-between : (low high line : ℕ) (s : List ℕ) → low ≤ line → last_byte 10 s ≡ 10 → line + line_count s ≤ high
+    → AllByRecursion (λ x. IsBetween low high x.1) (bytes_on_lines line s)
 placed-between low high line [] h ends fits = tt
 placed-between low high line (x ∷ xs) h ends fits =
     let one = some_line 10 x xs ends in
     let more = lines_add (x ∷ []) xs in
     let tail = last_byte-tail x xs ends in (
       (h, omega arith),
-      elim (x == 10) as (λ b. line_count (x ∷ xs) ≡ cond b 1 0 + line_count xs → AllByRecursion (λ x. IsBetween low high x.1) (bytes_on_lines (cond b (line + 1) line) xs)) [
-        | true ↦ λ e. placed-between low high (line + 1) xs (omega arith) tail (omega arith)
-        | false ↦ λ e. placed-between low high line xs h tail (omega arith)
-      ] (omega arith),
+      elim (x == 10) as (λ b. line_count (x ∷ xs) ≡ cond b 1 0 + line_count xs
+          → AllByRecursion (λ x. IsBetween low high x.1) (bytes_on_lines (cond b (line + 1) line) xs)) [
+            | true ↦ λ e. placed-between low high (line + 1) xs (omega arith) tail (omega arith)
+            | false ↦ λ e. placed-between low high line xs h tail (omega arith)
+          ] (omega arith),
     )
 
 -- each item lies on such a line
@@ -191,16 +209,19 @@ faults_by-lines Q n line name (accepted_odd said) q = (q, tt)
 faults_by-lines Q n line name (refused code) q = (q, tt)
 
 shown-lines : (Q : ℕ → Type 0) (n : ℕ) (shown : List PlacedByte) → AllByRecursion (λ (x : PlacedByte). Q x.1) shown
-    → AllByRecursion (λ (i : ReadItem). Q i.line) (items_at n (judged_as (line_of shown) (statement_of (bytes shown)))) × AllByRecursion (λ (f : ReadFault). Q f.line) (faults_at n (judged_as (line_of shown) (statement_of (bytes shown))))
+    → AllByRecursion (λ (i : ReadItem). Q i.line) (items_at n (judged_as (line_of shown) (statement_of (bytes shown))))
+    × AllByRecursion (λ (f : ReadFault). Q f.line) (faults_at n (judged_as (line_of shown) (statement_of (bytes shown))))
 shown-lines Q n [] all = (tt, tt)
 shown-lines Q n (x ∷ xs) all = by_statement (statement_of (bytes (x ∷ xs)))
   where
-    by_statement : (o : Option Statement) → AllByRecursion (λ (i : ReadItem). Q i.line) (items_at n (judged_as x.1 o)) × AllByRecursion (λ (f : ReadFault). Q f.line) (faults_at n (judged_as x.1 o))
+    by_statement : (o : Option Statement) → AllByRecursion (λ (i : ReadItem). Q i.line) (items_at n (judged_as x.1 o))
+        × AllByRecursion (λ (f : ReadFault). Q f.line) (faults_at n (judged_as x.1 o))
     by_statement None = (tt, tt)
     by_statement (Some s) = (items_by-lines Q n x.1 (verdict_of s.name s.claim) all.0, faults_by-lines Q n x.1 s.name (verdict_of s.name s.claim) all.0)
 
 from-lines : (Q : ℕ → Type 0) (n : ℕ) (items : List (List PlacedByte)) → AllByRecursion (AllByRecursion (λ (x : PlacedByte). Q x.1)) items
-    → AllByRecursion (λ (i : ReadItem). Q i.line) (items_from n (map judged_of items)) × AllByRecursion (λ (f : ReadFault). Q f.line) (faults_from n (map judged_of items))
+    → AllByRecursion (λ (i : ReadItem). Q i.line) (items_from n (map judged_of items))
+    × AllByRecursion (λ (f : ReadFault). Q f.line) (faults_from n (map judged_of items))
 from-lines Q n [] all = (tt, tt)
 from-lines Q n (item ∷ items) all =
     let here = shown-lines Q n (without_front item) (without_front-all (λ x. Q x.1) item all.0) in
@@ -209,7 +230,8 @@ from-lines Q n (item ∷ items) all =
       AllByRecursion-append (λ (f : ReadFault). Q f.line) (faults_at n (judged_of item)) (faults_from (n + 1) (map judged_of items)) here.1 later.1,
     )
 
-block_items-lines : (block : List ℕ) → last_byte 10 block ≡ 10 → AllByRecursion (AllByRecursion (λ (x : PlacedByte). IsBetween 1 (1 + line_count block) x.1)) (block_items block)
+block_items-lines : (block : List ℕ) → last_byte 10 block ≡ 10
+    → AllByRecursion (AllByRecursion (λ (x : PlacedByte). IsBetween 1 (1 + line_count block) x.1)) (block_items block)
 block_items-lines block ends =
     let P : PlacedByte → Type 0 = λ x. IsBetween 1 (1 + line_count block) x.1 in
     items_of-all P escape.Nothing 44 (after_field (folding_of block))
@@ -223,10 +245,15 @@ AllByRecursion-weaker P Q w (x ∷ xs) all = (w x all.0, AllByRecursion-weaker P
 
 -- ---- the header
 
-header_faults-lines : (Q : ℕ → Type 0) → Q 1 → (field : List ℕ) (o : Option (List (List ℕ))) → AllByRecursion (λ (f : ReadFault). Q f.line) (header_faults field o)
+header_faults-lines : (Q : ℕ → Type 0) → Q 1 → (field : List ℕ) (o : Option (List (List ℕ)))
+    → AllByRecursion (λ (f : ReadFault). Q f.line) (header_faults field o)
 header_faults-lines Q q field None = (q, tt)
 header_faults-lines Q q field (Some names) =
-    elim (nat_lt names_max (length field)) as (λ b. AllByRecursion (λ (f : ReadFault). Q f.line) (cond b (header_fault code.NamesTooLong ∷ []) [])) [ true ↦ (q, tt) | false ↦ tt ]
+    elim (nat_lt names_max (length field)) as (λ b. AllByRecursion (λ (f : ReadFault). Q f.line) (cond b (header_fault code.NamesTooLong ∷ []) [])) [
+      | true ↦
+          (q, tt)
+      | false ↦ tt
+    ]
 
 names-sound : (field : List ℕ) (o : Option (List (List ℕ))) → ReadsNames field o → All IsLookupName (names_found o)
 names-sound field None read = All-nil IsLookupName
@@ -265,7 +292,8 @@ all-places place n [] all = tt
 all-places place n (x ∷ xs) all = (omega (arith, all.0), all-places place n xs all.1)
 
 -- what is at a place, and what is after it
-rising-at : {A : Type 0} (place : A → ℕ) (n : ℕ) (here later : List A) → IsAt place n here → AllByRecursion (λ x. n + 1 ≤ place x) later → IsRising (map place later)
+rising-at : {A : Type 0} (place : A → ℕ) (n : ℕ) (here later : List A) → IsAt place n here → AllByRecursion (λ x. n + 1 ≤ place x) later
+    → IsRising (map place later)
     → AllByRecursion (λ x. n ≤ place x) (here ++ later) × IsRising (map place (here ++ later))
 rising-at place n [] later at after rise = (AllByRecursion-weaker (λ x. n + 1 ≤ place x) (λ x. n ≤ place x) (λ x h. omega (arith, h)) later after, rise)
 rising-at place n (x ∷ []) later at after rise =
@@ -325,10 +353,12 @@ faults_from-item valid sound n (item ∷ items) =
     AllByRecursion-append IsOfItem (faults_at n (judged_of item)) (faults_from (n + 1) (map judged_of items))
     (judged_as-item valid sound n p.line (statement_of p.text)) (faults_from-item valid sound (n + 1) items)
 
-header_faults-one : (field : List ℕ) (o : Option (List (List ℕ))) → (length (header_faults field o) ≤ 1) × AllByRecursion (λ (f : ReadFault). is_of_header f.code ≡ true) (header_faults field o)
+header_faults-one : (field : List ℕ) (o : Option (List (List ℕ))) → (length (header_faults field o) ≤ 1)
+    × AllByRecursion (λ (f : ReadFault). is_of_header f.code ≡ true) (header_faults field o)
 header_faults-one field None = (omega arith, (refl, tt))
 header_faults-one field (Some names) =
-    elim (nat_lt names_max (length field)) as (λ b. (length (cond b (header_fault code.NamesTooLong ∷ []) []) ≤ 1) × AllByRecursion (λ (f : ReadFault). is_of_header f.code ≡ true) (cond b (header_fault code.NamesTooLong ∷ []) [])) [
+    elim (nat_lt names_max (length field)) as (λ b. (length (cond b (header_fault code.NamesTooLong ∷ []) []) ≤ 1)
+    × AllByRecursion (λ (f : ReadFault). is_of_header f.code ≡ true) (cond b (header_fault code.NamesTooLong ∷ []) [])) [
       | true ↦ (omega arith, (refl, tt))
       | false ↦ (omega arith, tt)
     ]
@@ -344,10 +374,12 @@ well_read valid sound block one =
     let InBlock : ℕ → Type 0 = λ line. IsBetween 1 (1 + line_count block) line in
     let in_block : (line : ℕ) → InBlock line → IsLineOf block line = λ line h. (h.0, omega (arith, h.1)) in
     let lines = from-lines InBlock 0 items (block_items-lines block ends.0) in
-    let header_lines : AllByRecursion (λ (f : ReadFault). IsLineOf block f.line) (header_faults field found) = header_faults-lines (IsLineOf block) (omega arith, ends.1) field found in
+    let header_lines : AllByRecursion (λ (f : ReadFault). IsLineOf block f.line) (header_faults field found) =
+    header_faults-lines (IsLineOf block) (omega arith, ends.1) field found in
     record {
       names = names-sound field found (each_header field);
-      named = λ e. named-sound field found refl (each_header field) (any-front (λ (f : ReadFault). is_error f.code) (header_faults field found) (faults_from 0 judged) e);
+      named = λ e. named-sound field found refl (each_header field)
+          (any-front (λ (f : ReadFault). is_error f.code) (header_faults field found) (faults_from 0 judged) e);
       sets = All-from_recursion Sets (items_from 0 judged) (items_from-sets valid sound 0 items);
       order = record {
         of_header = header_faults field found;
@@ -360,10 +392,12 @@ well_read valid sound block one =
         faults_rise = (faults_from-rise 0 judged).1;
       };
       item_lines = All-from_recursion (λ (i : ReadItem). IsLineOf block i.line) (items_from 0 judged)
-          (AllByRecursion-weaker (λ (i : ReadItem). InBlock i.line) (λ (i : ReadItem). IsLineOf block i.line) (λ i h. in_block i.line h) (items_from 0 judged) lines.0);
+          (AllByRecursion-weaker (λ (i : ReadItem). InBlock i.line) (λ (i : ReadItem). IsLineOf block i.line) (λ i h. in_block i.line h)
+          (items_from 0 judged) lines.0);
       fault_lines = All-from_recursion (λ (f : ReadFault). IsLineOf block f.line) (header_faults field found ++ faults_from 0 judged)
           (AllByRecursion-append (λ (f : ReadFault). IsLineOf block f.line) (header_faults field found) (faults_from 0 judged) header_lines
-          (AllByRecursion-weaker (λ (f : ReadFault). InBlock f.line) (λ (f : ReadFault). IsLineOf block f.line) (λ f h. in_block f.line h) (faults_from 0 judged) lines.1));
+          (AllByRecursion-weaker (λ (f : ReadFault). InBlock f.line) (λ (f : ReadFault). IsLineOf block f.line) (λ f h. in_block f.line h)
+          (faults_from 0 judged) lines.1));
     }
 
 -- ---- a name in the tables
@@ -394,8 +428,10 @@ first-valid : (one other : Option Capability) → ((c : Capability) → one ≡ 
 first-valid None other p q c e = q c e
 first-valid (Some d) other p q c e = p c e
 
-pub named_valid : count_of kind.Flag ≡ length (names kind.Flag) → count_of kind.Number ≡ length (names kind.Number) → count_of kind.Text ≡ length (names kind.Text) → NamedIsCapability
+pub named_valid : count_of kind.Flag ≡ length (names kind.Flag) → count_of kind.Number ≡ length (names kind.Number)
+    → count_of kind.Text ≡ length (names kind.Text) → NamedIsCapability
 unfolding capability_named
 named_valid flags numbers texts name c e =
     first-valid (named_in name kind.Flag) (option_or (named_in name kind.Number) (named_in name kind.Text)) (λ d. named_in-valid name kind.Flag d flags)
-    (first-valid (named_in name kind.Number) (named_in name kind.Text) (λ d. named_in-valid name kind.Number d numbers) (λ d. named_in-valid name kind.Text d texts)) c e
+    (first-valid (named_in name kind.Number) (named_in name kind.Text) (λ d. named_in-valid name kind.Number d numbers)
+    (λ d. named_in-valid name kind.Text d texts)) c e

@@ -1,5 +1,6 @@
 -- Texts of items: white space at the end, the byte at the end, and the first mark.
-use Rattle.std.proofs.Common.{◌≡◌, ◌≢◌, ℕ, zero, suc, ◌+◌, ◌<◌, ◌≤◌, true, false, if◌then◌else◌, List, [], ◌∷◌, ◌++◌, length, take, drop, get_or, cond, Some, refl, ap, inl, inr, arith, add-one}
+use Rattle.std.proofs.Common.{◌≡◌, ◌≢◌, ℕ, zero, suc, ◌+◌, ◌<◌, ◌≤◌, true, false, if◌then◌else◌, List, [], ◌∷◌, ◌++◌, length, take, drop, get_or, cond}
+use Rattle.std.proofs.Common.{Some, refl, ap, inl, inr, arith, add-one}
 use Rattle.std.specs.List.{list_all}
 use Rattle.std.proofs.lemmas.Bool.{ne_eqb, cases_Bool, and_parts}
 use Rattle.memchr.specs.Find.{NoneBefore}
@@ -75,7 +76,8 @@ first_mark [] n h none t = absurd (omega arith)
 first_mark (x ∷ xs) zero h none t = (rw t, rw t)
 first_mark (x ∷ xs) (suc n) h none t =
     let later = first_mark xs n (omega arith) (λ k i. none (suc k) (omega arith)) t in
-    elim (is_mark x) as (λ b. (is_mark x ≡ b) → (cond b [] (x ∷ before_mark xs) ≡ x ∷ take n xs) × (cond b (x ∷ xs) (from_mark xs) ≡ get_or xs n 0 ∷ drop (suc n) xs)) [
+    elim (is_mark x) as (λ b. (is_mark x ≡ b) → (cond b [] (x ∷ before_mark xs) ≡ x ∷ take n xs)
+    × (cond b (x ∷ xs) (from_mark xs) ≡ get_or xs n 0 ∷ drop (suc n) xs)) [
       | true ↦ λ y. absurd (none 0 (omega arith) y)
       | false ↦ λ f. (ap (λ s. x ∷ s) later.0, later.1)
     ] refl
@@ -85,7 +87,8 @@ pub ruleset plain_statement_lemmas = (last_byte-push, without_last-push)
 statement-enabled : (s : List ℕ) (x : ℕ) (xs : List ℕ) → s ≡ x ∷ xs → x ≢ 46 → statement_of s ≡ Some (statement_by_mark s (from_mark s))
 statement-enabled s x xs e enabled = rw (e, ne_eqb x 46 enabled) refl
 
-pub statement-statement_by_mark : (s : List ℕ) (n x : ℕ) (xs : List ℕ) → s ≡ x ∷ xs → x ≢ 46 → NoneBefore (λ k. is_mark (get_or s k 0) ≡ true) 0 (length s) n → is_mark (get_or s n 0) ≡ true
+pub statement-statement_by_mark : (s : List ℕ) (n x : ℕ) (xs : List ℕ) → s ≡ x ∷ xs → x ≢ 46
+    → NoneBefore (λ k. is_mark (get_or s k 0) ≡ true) 0 (length s) n → is_mark (get_or s n 0) ≡ true
     → statement_of s ≡ Some (statement_with_value (take n s) (get_or s n 0) (drop (n + 1) s))
 statement-statement_by_mark s n x xs e enabled none t =
     let first = first_mark s n none.high (λ k h. none.before k (omega arith) h) t in

@@ -29,7 +29,8 @@ but_last s h =
     let i = length s - 1 in
     sym (take_all (i + 1) s (omega arith)) ∙ take_more s i 0 (omega arith)
 
-pub trim_step : (s : List ℕ) → 0 < length s → is_white_space (get_or s (length s - 1) 0) ≡ true → without_trailing_space (take (length s - 1) s) ≡ without_trailing_space s
+pub trim_step : (s : List ℕ) → 0 < length s → is_white_space (get_or s (length s - 1) 0) ≡ true
+    → without_trailing_space (take (length s - 1) s) ≡ without_trailing_space s
 trim_step s h t = sym (ap without_trailing_space (but_last s h) ∙ trimmed-white (take (length s - 1) s) _ t)
 
 pub trim_stop : (s : List ℕ) → 0 < length s → is_white_space (get_or s (length s - 1) 0) ≡ false → s ≡ without_trailing_space s

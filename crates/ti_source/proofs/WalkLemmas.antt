@@ -1,5 +1,6 @@
 -- How a walk from newline to newline finds the blocks.
-use Rattle.std.proofs.Common.{◌≡◌, ◌≢◌, ℕ, zero, suc, ◌+◌, ◌-◌, ◌<◌, ◌≤◌, Bool, true, false, ◌==◌, List, [], ◌∷◌, ◌++◌, length, take, drop, get_or, Option, Some, None, IsTrue, slice_get, nat_eq, Bor, refl, sym, ap, subst, ◌∙◌, inl, inr, arith}
+use Rattle.std.proofs.Common.{◌≡◌, ◌≢◌, ℕ, zero, suc, ◌+◌, ◌-◌, ◌<◌, ◌≤◌, Bool, true, false, ◌==◌, List, [], ◌∷◌, ◌++◌, length, take, drop, get_or, Option}
+use Rattle.std.proofs.Common.{Some, None, IsTrue, slice_get, nat_eq, Bor, refl, sym, ap, subst, ◌∙◌, inl, inr, arith}
 use Rattle.std.proofs.lemmas.Bool.{cases_Bool, eqb-true, eq-eqb, ne_eqb, and_left}
 use Rattle.std.proofs.lemmas.List.{length-append, length-take-le, length-drop, drop-drop, take_rest}
 use Rattle.std.proofs.lemmas.Option.{slice_get-get_or}
@@ -83,11 +84,13 @@ front_of-begins_not (x ∷ xs) f = front_of-plain 10 x xs f
 
 -- the walk from newline to newline: the rest of the text at `at` has its first newline at n
 pub walk_step : (s : List ℕ) (at n : ℕ) → length (to_next_head s) ≡ at + length (to_next_head (drop at s))
-    → IsFirstByte (is_byte 10) (take (length s - at) (drop at s)) (Some n) → (at + (n + 1) ≤ length s) × (length (to_next_head s) ≡ at + (n + 1) + length (front_of 10 (drop (at + (n + 1)) s)))
+    → IsFirstByte (is_byte 10) (take (length s - at) (drop at s)) (Some n) → (at + (n + 1) ≤ length s)
+    × (length (to_next_head s) ≡ at + (n + 1) + length (front_of 10 (drop (at + (n + 1)) s)))
 walk_step s at n so first =
     let r = drop at s in
     let found = subst (λ t. IsFirstByte (is_byte 10) t (Some n)) (take_rest s at) first in
-    let line = to_next_head-line r n found.0.high (λ k l e. found.0.before k (omega arith) l (eq-eqb (get_or r k 0) 10 e)) (eqb-true (get_or r n 0) 10 found.1) in
+    let line =
+    to_next_head-line r n found.0.high (λ k l e. found.0.before k (omega arith) l (eq-eqb (get_or r k 0) 10 e)) (eqb-true (get_or r n 0) 10 found.1) in
     let lengths = ap length line ∙ length-append (take (suc n) r) (front_of 10 (drop (suc n) r)) in
     let taken = length-take-le (suc n) r (omega (arith, found.0.high)) in
     let rest : drop (suc n) r ≡ drop (at + (n + 1)) s = drop-drop (suc n) at s ∙ ap (λ k. drop k s) (omega arith) in

@@ -1,5 +1,6 @@
 -- Reading the octal digits at the front of a text one by one.
-use Rattle.std.proofs.Common.{◌≡◌, ℕ, zero, suc, ◌+◌, ◌-◌, ◌*◌, ◌^◌, ◌<◌, ◌≤◌, ◌≢◌, Bool, true, false, List, [], ◌∷◌, length, get_or, drop, refl, ap, subst, sym, ◌∙◌, cond, add-one, arith}
+use Rattle.std.proofs.Common.{◌≡◌, ℕ, zero, suc, ◌+◌, ◌-◌, ◌*◌, ◌^◌, ◌<◌, ◌≤◌, ◌≢◌, Bool, true, false, List, [], ◌∷◌, length, get_or, drop, refl, ap, subst}
+use Rattle.std.proofs.Common.{sym, ◌∙◌, cond, add-one, arith}
 use Rattle.std.specs.Prelude.{nat_le}
 use Rattle.std.proofs.Math.Nat.{pow-suc}
 use Rattle.std.proofs.Math.Seq.{drop-cons}
@@ -27,7 +28,8 @@ starts text = record { values = refl; lengths = omega arith; room = refl; below 
 pub digit_bounds : (x : ℕ) → is_octal_digit x ≡ true → (48 ≤ x) × (x ≤ 55)
 digit_bounds x e = let p = and_parts (nat_le 48 x) (nat_le x 55) e in (leb-true 48 x p.0, leb-true x 55 p.1)
 
-pub goes_on : (text : List ℕ) (value count left x : ℕ) (xs : List ℕ) → is_octal_digit x ≡ true → IsOctalFront text value count (suc left) (x ∷ xs) → IsOctalFront text (value * 8 + (x - 48)) (count + 1) left xs
+pub goes_on : (text : List ℕ) (value count left x : ℕ) (xs : List ℕ) → is_octal_digit x ≡ true → IsOctalFront text value count (suc left) (x ∷ xs)
+    → IsOctalFront text (value * 8 + (x - 48)) (count + 1) left xs
 goes_on text value count left x xs e front = record {
   values = front.values ∙ ap (octal_value_from value) (digits_on x left xs e);
   lengths = front.lengths ∙ ap (λ (ds : List ℕ). count + length ds) (digits_on x left xs e) ∙ omega arith;
@@ -46,24 +48,29 @@ pub record IsOctalRead (text : List ℕ) (value count : ℕ) : Type 0 where
   pub value_is : octal_value (octal_digits text) ≡ value
   pub count_is : length (octal_digits text) ≡ count
 
-stops : (text : List ℕ) (value count left : ℕ) (rest : List ℕ) → octal_digits_up_to left rest ≡ [] → IsOctalFront text value count left rest → IsOctalRead text value count
+stops : (text : List ℕ) (value count left : ℕ) (rest : List ℕ) → octal_digits_up_to left rest ≡ [] → IsOctalFront text value count left rest
+    → IsOctalRead text value count
 stops text value count left rest none front = record {
   value_is = front.values ∙ ap (octal_value_from value) none;
   count_is = front.lengths ∙ ap (λ (ds : List ℕ). count + length ds) none ∙ omega arith;
 }
 
 -- the reading stops: there are three digits, or another byte follows
-pub stops_at_three : (text : List ℕ) (value count : ℕ) (rest : List ℕ) → count ≡ 3 → IsOctalFront text value count (3 - count) rest → IsOctalRead text value count
+pub stops_at_three : (text : List ℕ) (value count : ℕ) (rest : List ℕ) → count ≡ 3 → IsOctalFront text value count (3 - count) rest
+    → IsOctalRead text value count
 stops_at_three text value count rest full front =
     let none : 3 - count ≡ 0 = omega arith in
     stops text value count (3 - count) rest (ap (λ (left : ℕ). octal_digits_up_to left rest) none) front
 
-pub stops_at_other : (text : List ℕ) (value count i : ℕ) → i < length text → is_octal_digit (get_or text i 0) ≡ false → IsOctalFront text value count (3 - count) (drop i text) → IsOctalRead text value count
+pub stops_at_other : (text : List ℕ) (value count i : ℕ) → i < length text → is_octal_digit (get_or text i 0) ≡ false
+    → IsOctalFront text value count (3 - count) (drop i text) → IsOctalRead text value count
 stops_at_other text value count i lt other front =
-    stops text value count (3 - count) (drop i text) (ap (octal_digits_up_to (3 - count)) (drop-cons text i 0 lt) ∙ digits_off (get_or text i 0) (3 - count) (drop (suc i) text) other) front
+    stops text value count (3 - count) (drop i text) (ap (octal_digits_up_to (3 - count)) (drop-cons text i 0 lt)
+    ∙ digits_off (get_or text i 0) (3 - count) (drop (suc i) text) other) front
 
 -- one more digit
-pub reads_digit : (text : List ℕ) (value count i : ℕ) → i < length text → count ≢ 3 → is_octal_digit (get_or text i 0) ≡ true → IsOctalFront text value count (3 - count) (drop i text)
+pub reads_digit : (text : List ℕ) (value count i : ℕ) → i < length text → count ≢ 3 → is_octal_digit (get_or text i 0) ≡ true
+    → IsOctalFront text value count (3 - count) (drop i text)
     → IsOctalFront text (value * 8 + (get_or text i 0 - 48)) (count + 1) (3 - (count + 1)) (drop (i + 1) text)
 reads_digit text value count i lt ne digit front =
     let room : 3 - count ≡ suc (3 - (count + 1)) = omega (arith, front.room) in

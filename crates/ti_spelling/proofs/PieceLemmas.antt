@@ -1,18 +1,23 @@
 -- Walking over the pieces of a text: each function that computes a piece gives what the relations
 -- say.
-use Rattle.std.proofs.Common.{◌≡◌, ◌≢◌, ℕ, zero, suc, ◌+◌, ◌-◌, ◌<◌, ◌≤◌, Bool, true, false, cond, eqb, List, [], ◌∷◌, ◌++◌, length, get_or, take, drop, Option, Some, None, Result, Ok, Err, refl, ap, subst, sym, ◌∙◌, append_assoc, arith}
+use Rattle.std.proofs.Common.{◌≡◌, ◌≢◌, ℕ, zero, suc, ◌+◌, ◌-◌, ◌<◌, ◌≤◌, Bool, true, false, cond, eqb, List, [], ◌∷◌, ◌++◌, length, get_or, take, drop}
+use Rattle.std.proofs.Common.{Option, Some, None, Result, Ok, Err, refl, ap, subst, sym, ◌∙◌, append_assoc, arith}
 use Rattle.std.specs.Prelude.{◌&&◌, ◌||◌, not, bit_and, MatchResult, nat_le}
 use Rattle.std.specs.List.{list_all}
-use Rattle.std.proofs.lemmas.Bool.{cond_both, eqb-true, eqb-false, ne_eqb, leb-true, leb-false, le-leb, and_parts, and_from, both_ways, not-true, not_from_false, or_parts}
+use Rattle.std.proofs.lemmas.Bool.{cond_both, eqb-true, eqb-false, ne_eqb, leb-true, leb-false, le-leb, and_parts, and_from, both_ways, not-true}
+use Rattle.std.proofs.lemmas.Bool.{not_from_false, or_parts}
 use Rattle.std.proofs.lemmas.Result.{MatchResult-at_ok}
 use Rattle.std.proofs.lemmas.List.{length-append, append-nil}
 use Rattle.ti_spelling.specs.declared.spelling.Piece.{Piece}
 use Rattle.ti_spelling.specs.declared.spelling.UnescapeError.{UnescapeError}
 use Rattle.ti_spelling.specs.declared.spelling.UnescapeError.TheVariants.{BadOctal, BadControl, BadByte}
 use Rattle.ti_spelling.specs.Spelling.{named_escape, is_octal_digit, octal_digits, octal_digits_up_to, octal_value, is_percent, not_nul, IsEscape, escape_named}
-use Rattle.ti_spelling.specs.Spelling.{escape_octal, escape_unknown, escape_missing, IsControl, control_delete, control_masked, IsPiece, piece_escape, piece_control}
-use Rattle.ti_spelling.specs.Spelling.{piece_caret, piece_plain, IsRefused, refused_octal, refused_control, refused_control_at_end, refused_nul, refused_escaped_nul}
-use Rattle.ti_spelling.specs.inside.Spelling.{octal_piece, unnamed_piece, named_piece, escape_piece, is_control_letter, control_piece, first_piece, is_literal, with_piece, then_later, unescaped_from, with_front}
+use Rattle.ti_spelling.specs.Spelling.{escape_octal, escape_unknown, escape_missing, IsControl, control_delete, control_masked, IsPiece, piece_escape}
+use Rattle.ti_spelling.specs.Spelling.{piece_control}
+use Rattle.ti_spelling.specs.Spelling.{piece_caret, piece_plain, IsRefused, refused_octal, refused_control, refused_control_at_end, refused_nul}
+use Rattle.ti_spelling.specs.Spelling.{refused_escaped_nul}
+use Rattle.ti_spelling.specs.inside.Spelling.{octal_piece, unnamed_piece, named_piece, escape_piece, is_control_letter, control_piece, first_piece}
+use Rattle.ti_spelling.specs.inside.Spelling.{is_literal, with_piece, then_later, unescaped_from, with_front}
 
 -- ---- octal digits
 
@@ -49,8 +54,11 @@ octal_right x xs digit =
     let front = digits_front 2 xs in
     let digits : octal_digits (x ∷ xs) ≡ x ∷ ds = ap (λ (b : Bool). cond b (x ∷ ds) []) digit in
     let again : octal_digits (x ∷ (ds ++ front.rest)) ≡ x ∷ ds = subst (λ (ys : List ℕ). octal_digits (x ∷ ys) ≡ x ∷ ds) front.whole digits in
-    cond_both (nat_le (octal_value (octal_digits (x ∷ xs))) 255) (Ok (record { size = length (octal_digits (x ∷ xs)) + 1; byte = not_nul (octal_value (octal_digits (x ∷ xs))); odd = false })) (Err BadOctal) (EscapeRight (x ∷ xs))
-    (λ e. subst (λ (all : List ℕ). octal_value all ≤ 255 → EscapeFound (x ∷ xs) (record { size = length all + 1; byte = not_nul (octal_value all); odd = false })) (sym digits)
+    cond_both (nat_le (octal_value (octal_digits (x ∷ xs))) 255)
+    (Ok (record { size = length (octal_digits (x ∷ xs)) + 1; byte = not_nul (octal_value (octal_digits (x ∷ xs))); odd = false })) (Err BadOctal)
+    (EscapeRight (x ∷ xs))
+    (λ e. subst (λ (all : List ℕ). octal_value all ≤ 255
+    → EscapeFound (x ∷ xs) (record { size = length all + 1; byte = not_nul (octal_value all); odd = false })) (sym digits)
     (λ le. record { text = x ∷ ds; rest = front.rest; whole = ap (λ (ys : List ℕ). x ∷ ys) front.whole; size = refl; is_escape = escape_octal again le })
     (leb-true _ 255 e))
     (λ e before. refused_octal (leb-false _ 255 e))
@@ -58,7 +66,8 @@ octal_right x xs digit =
 -- the case of a letter without a name
 unnamed_right : (x : ℕ) (xs : List ℕ) → named_escape x ≡ None → EscapeRight (x ∷ xs) (unnamed_piece x xs)
 unnamed_right x xs unnamed =
-    cond_both (is_octal_digit x) (octal_piece (octal_digits (x ∷ xs))) (cond (eqb x 0) (Err BadByte) (Ok (record { size = 2; byte = x; odd = true }))) (EscapeRight (x ∷ xs))
+    cond_both (is_octal_digit x) (octal_piece (octal_digits (x ∷ xs))) (cond (eqb x 0) (Err BadByte) (Ok (record { size = 2; byte = x; odd = true })))
+    (EscapeRight (x ∷ xs))
     (λ digit. octal_right x xs digit)
     (λ other. cond_both (eqb x 0) (Err BadByte) (Ok (record { size = 2; byte = x; odd = true })) (EscapeRight (x ∷ xs))
     (λ nul before. subst (λ (y : ℕ). IsRefused before (92 ∷ y ∷ xs) BadByte) (sym (eqb-true x 0 nul)) refused_escaped_nul)
@@ -99,10 +108,29 @@ control_right : (before : ℕ) (xs : List ℕ) → is_percent before ≡ false �
 unfolding control_piece
 control_right before [] e = refused_control_at_end e
 control_right before (x ∷ xs) e =
-    cond_both (eqb x 63) (Ok (record { size = 2; byte = 127; odd = false })) (cond (is_control_letter x) (Ok (record { size = 2; byte = not_nul (bit_and x 31); odd = false })) (Err BadControl)) (λ r. MatchResult r (ControlFound (x ∷ xs)) (IsRefused before (94 ∷ x ∷ xs)))
-    (λ is. record { letter = x; rest = xs; whole = refl; is_control = subst (λ (y : ℕ). IsControl y 127) (sym (eqb-true x 63 is)) control_delete; size = refl; even = refl })
-    (λ other. cond_both (is_control_letter x) (Ok (record { size = 2; byte = not_nul (bit_and x 31); odd = false })) (Err BadControl) (λ r. MatchResult r (ControlFound (x ∷ xs)) (IsRefused before (94 ∷ x ∷ xs)))
-    (λ is. let p = control_letter x is in record { letter = x; rest = xs; whole = refl; is_control = control_masked p.0 p.1 p.2 (eqb-false x 63 other); size = refl; even = refl })
+    cond_both (eqb x 63) (Ok (record { size = 2; byte = 127; odd = false }))
+    (cond (is_control_letter x) (Ok (record { size = 2; byte = not_nul (bit_and x 31); odd = false })) (Err BadControl))
+    (λ r. MatchResult r (ControlFound (x ∷ xs)) (IsRefused before (94 ∷ x ∷ xs)))
+    (λ is. record {
+      letter = x;
+      rest = xs;
+      whole = refl;
+      is_control = subst (λ (y : ℕ). IsControl y 127) (sym (eqb-true x 63 is)) control_delete;
+      size =
+          refl;
+      even = refl;
+    })
+    (λ other. cond_both (is_control_letter x) (Ok (record { size = 2; byte = not_nul (bit_and x 31); odd = false })) (Err BadControl)
+    (λ r. MatchResult r (ControlFound (x ∷ xs)) (IsRefused before (94 ∷ x ∷ xs)))
+    (λ is. let p = control_letter x is in record {
+      letter = x;
+      rest = xs;
+      whole = refl;
+      is_control =
+          control_masked p.0 p.1 p.2 (eqb-false x 63 other);
+      size = refl;
+      even = refl;
+    })
     (λ none. refused_control e (no_control x (eqb-false x 63 other) none)))
 
 pub record Found (before : ℕ) (raw : List ℕ) (piece : Piece) : Type 0 where
@@ -116,10 +144,19 @@ abbrev pub FirstRight : ℕ → List ℕ → Result Piece UnescapeError → Type
 FirstRight before raw r = MatchResult r (Found before raw) (IsRefused before raw)
 
 after_backslash : (before : ℕ) (xs : List ℕ) (r : Result Piece UnescapeError) → EscapeRight xs r → FirstRight before (92 ∷ xs) r
-after_backslash before xs (Ok piece) found = record { text = 92 ∷ found.text; rest = found.rest; whole = ap (λ (ys : List ℕ). 92 ∷ ys) found.whole; size = omega (arith, found.size); is_piece = piece_escape found.is_escape }
+after_backslash before xs (Ok piece) found =
+    record {
+      text = 92 ∷ found.text;
+      rest = found.rest;
+      whole = ap (λ (ys : List ℕ). 92 ∷ ys) found.whole;
+      size = omega (arith, found.size);
+      is_piece =
+          piece_escape found.is_escape;
+    }
 after_backslash before xs (Err cause) refused = refused before
 
-after_caret : (before : ℕ) (xs : List ℕ) (r : Result Piece UnescapeError) → is_percent before ≡ false → MatchResult r (ControlFound xs) (IsRefused before (94 ∷ xs)) → FirstRight before (94 ∷ xs) r
+after_caret : (before : ℕ) (xs : List ℕ) (r : Result Piece UnescapeError) → is_percent before ≡ false
+    → MatchResult r (ControlFound xs) (IsRefused before (94 ∷ xs)) → FirstRight before (94 ∷ xs) r
 after_caret before xs (Ok piece) e found = record {
   text = 94 ∷ found.letter ∷ [];
   rest = found.rest;
@@ -133,7 +170,8 @@ pub first_right : (before x : ℕ) (xs : List ℕ) → FirstRight before (x ∷ 
 unfolding first_piece
 first_right before x xs =
     cond_both (eqb x 92) (escape_piece xs) (cond (eqb x 94) (cond (is_percent before) caret (control_piece xs)) others) (FirstRight before (x ∷ xs))
-    (λ is. subst (λ (y : ℕ). FirstRight before (y ∷ xs) (escape_piece xs)) (sym (eqb-true x 92 is)) (after_backslash before xs (escape_piece xs) (escape_right xs)))
+    (λ is. subst (λ (y : ℕ). FirstRight before (y ∷ xs) (escape_piece xs)) (sym (eqb-true x 92 is))
+    (after_backslash before xs (escape_piece xs) (escape_right xs)))
     (λ ne92. cond_both (eqb x 94) (cond (is_percent before) caret (control_piece xs)) others (FirstRight before (x ∷ xs))
     (λ is. subst (λ (y : ℕ). FirstRight before (y ∷ xs) (cond (is_percent before) caret (control_piece xs))) (sym (eqb-true x 94 is))
     (cond_both (is_percent before) caret (control_piece xs) (FirstRight before (94 ∷ xs))
@@ -141,7 +179,14 @@ first_right before x xs =
     (λ takes. after_caret before xs (control_piece xs) takes (control_right before xs takes))))
     (λ ne94. cond_both (eqb x 0) (Err BadByte) plain (FirstRight before (x ∷ xs))
     (λ is. subst (λ (y : ℕ). IsRefused before (y ∷ xs) BadByte) (sym (eqb-true x 0 is)) refused_nul)
-    (λ ne0. record { text = x ∷ []; rest = xs; whole = refl; size = refl; is_piece = piece_plain (eqb-false x 92 ne92) (eqb-false x 94 ne94) (eqb-false x 0 ne0) })))
+    (λ ne0. record {
+      text = x ∷ [];
+      rest = xs;
+      whole = refl;
+      size = refl;
+      is_piece =
+          piece_plain (eqb-false x 92 ne92) (eqb-false x 94 ne94) (eqb-false x 0 ne0);
+    })))
   where
     caret : Result Piece UnescapeError
     caret = Ok (record { size = 1; byte = 94; odd = false })
@@ -178,7 +223,8 @@ skips (suc k) before [] le = absurd (omega arith)
 skips (suc k) before (x ∷ xs) le = skips k x xs (omega arith)
 
 -- the code's step
-pub steps : (before : ℕ) (raw : List ℕ) (piece : Piece) → first_piece (is_percent before) raw ≡ Ok piece → unescaped_from 0 before raw ≡ with_piece piece (unescaped_from 0 (get_or raw (piece.size - 1) 0) (drop piece.size raw))
+pub steps : (before : ℕ) (raw : List ℕ) (piece : Piece) → first_piece (is_percent before) raw ≡ Ok piece
+    → unescaped_from 0 before raw ≡ with_piece piece (unescaped_from 0 (get_or raw (piece.size - 1) 0) (drop piece.size raw))
 unfolding unescaped_from
 steps before [] piece e = absurd (omega (arith, piece_fits before [] piece e))
 steps before (x ∷ xs) piece e =
@@ -190,7 +236,8 @@ steps before (x ∷ xs) piece e =
     ap (λ (r : Result Piece UnescapeError). then_later r (λ p. unescaped_from (p.size - 1) x xs)) e
     ∙ ap (with_piece piece) (passed ∙ ap (λ (rest : List ℕ). unescaped_from 0 (get_or (x ∷ xs) (piece.size - 1) 0) rest) (sym at))
 
-pub refuses : (before : ℕ) (raw : List ℕ) (cause : UnescapeError) → 0 < length raw → first_piece (is_percent before) raw ≡ Err cause → unescaped_from 0 before raw ≡ Err cause
+pub refuses : (before : ℕ) (raw : List ℕ) (cause : UnescapeError) → 0 < length raw → first_piece (is_percent before) raw ≡ Err cause
+    → unescaped_from 0 before raw ≡ Err cause
 unfolding unescaped_from
 refuses before [] cause lt e = absurd (omega arith)
 refuses before (x ∷ xs) cause lt e = ap (λ (r : Result Piece UnescapeError). then_later r (λ p. unescaped_from (p.size - 1) x xs)) e
@@ -210,7 +257,8 @@ or_regroup : (a b c : Bool) → (a || (b || c)) ≡ ((a || b) || c)
 or_regroup true b c = refl
 or_regroup false b c = refl
 
-pub moves_on : (front : List ℕ) (odd : Bool) (piece : Piece) (r : Result (List ℕ × Bool) UnescapeError) → with_front front odd (with_piece piece r) ≡ with_front (front ++ piece.byte ∷ []) (odd || piece.odd) r
+pub moves_on : (front : List ℕ) (odd : Bool) (piece : Piece) (r : Result (List ℕ × Bool) UnescapeError)
+    → with_front front odd (with_piece piece r) ≡ with_front (front ++ piece.byte ∷ []) (odd || piece.odd) r
 moves_on front odd piece (Ok later) = rw (append_assoc front (piece.byte ∷ []) later.0, or_regroup odd piece.odd later.1) refl
 moves_on front odd piece (Err cause) = refl
 
@@ -220,7 +268,8 @@ is_whole front false = rw append-nil refl
 
 -- ---- bytes that spell themselves
 
-pub joins_front : (front more : List ℕ) (odd : Bool) (r : Result (List ℕ × Bool) UnescapeError) → with_front front odd (with_front more false r) ≡ with_front (front ++ more) odd r
+pub joins_front : (front more : List ℕ) (odd : Bool) (r : Result (List ℕ × Bool) UnescapeError)
+    → with_front front odd (with_front more false r) ≡ with_front (front ++ more) odd r
 joins_front front more odd (Ok later) = rw (append_assoc front more later.0) refl
 joins_front front more odd (Err cause) = refl
 
@@ -231,7 +280,8 @@ literal_piece before x xs e =
     let pairs = or_parts (eqb x 92) (eqb x 94) parts.0 in
     rw (pairs.0, pairs.1, parts.1) refl
 
-literal_in_front : (x : ℕ) (front : List ℕ) (r : Result (List ℕ × Bool) UnescapeError) → with_piece (record { size = 1; byte = x; odd = false }) (with_front front false r) ≡ with_front (x ∷ front) false r
+literal_in_front : (x : ℕ) (front : List ℕ) (r : Result (List ℕ × Bool) UnescapeError)
+    → with_piece (record { size = 1; byte = x; odd = false }) (with_front front false r) ≡ with_front (x ∷ front) false r
 literal_in_front x front (Ok later) = refl
 literal_in_front x front (Err cause) = refl
 

@@ -1,5 +1,6 @@
 -- What is computed of a text is what the relations say, so a text has one outcome.
-use Rattle.std.proofs.Common.{◌≡◌, ◌≢◌, ℕ, zero, suc, ◌+◌, ◌-◌, ◌<◌, ◌≤◌, Bool, true, false, cond, eqb, List, [], ◌∷◌, ◌++◌, length, Option, Some, None, Result, Ok, Err, refl, ap, subst, sym, ◌∙◌, add-one, arith, ◌⊎◌, inl, inr}
+use Rattle.std.proofs.Common.{◌≡◌, ◌≢◌, ℕ, zero, suc, ◌+◌, ◌-◌, ◌<◌, ◌≤◌, Bool, true, false, cond, eqb, List, [], ◌∷◌, ◌++◌, length, Option, Some, None}
+use Rattle.std.proofs.Common.{Result, Ok, Err, refl, ap, subst, sym, ◌∙◌, add-one, arith, ◌⊎◌, inl, inr}
 use Rattle.std.specs.Prelude.{◌&&◌, ◌||◌, bit_and, MatchResult, nat_le, is_some, IsOk}
 use Rattle.std.proofs.lemmas.Bool.{ne_eqb, le-leb, lt-leb, agree_below_at, false_from_ne_true}
 use Rattle.std.proofs.lemmas.Result.{MatchResult-at_ok, MatchResult-at_err}
@@ -8,11 +9,14 @@ use Rattle.ti_spelling.specs.declared.spelling.Piece.{Piece}
 use Rattle.ti_spelling.specs.declared.spelling.UnescapeError.{UnescapeError}
 use Rattle.ti_spelling.specs.declared.spelling.UnescapeError.TheVariants.{BadOctal, BadControl, BadByte, Memory}
 use Rattle.ti_spelling.specs.Spelling.{named_escape, is_octal_digit, octal_digits, octal_digits_up_to, octal_value, is_percent, last_byte, not_nul, IsEscape}
-use Rattle.ti_spelling.specs.Spelling.{escape_named, escape_octal, escape_unknown, escape_missing, IsControl, control_delete, control_masked, IsPiece, piece_escape}
+use Rattle.ti_spelling.specs.Spelling.{escape_named, escape_octal, escape_unknown, escape_missing, IsControl, control_delete, control_masked, IsPiece}
+use Rattle.ti_spelling.specs.Spelling.{piece_escape}
 use Rattle.ti_spelling.specs.Spelling.{piece_control, piece_caret, piece_plain, IsRefused, refused_octal, refused_control, refused_control_at_end, refused_nul}
-use Rattle.ti_spelling.specs.Spelling.{refused_escaped_nul, SpellsAfter, spells_nothing, spells_piece, FailsAfter, fails_here, fails_later, Spells, Fails, CanBeSpelled}
+use Rattle.ti_spelling.specs.Spelling.{refused_escaped_nul, SpellsAfter, spells_nothing, spells_piece, FailsAfter, fails_here, fails_later, Spells, Fails}
+use Rattle.ti_spelling.specs.Spelling.{CanBeSpelled}
 use Rattle.ti_spelling.specs.Spelling.{IsCauseOf, OneOutcome}
-use Rattle.ti_spelling.specs.inside.Spelling.{octal_piece, unnamed_piece, named_piece, escape_piece, is_control_letter, control_piece, first_piece, with_piece, then_later, unescaped_from, unescape_result, UnescapedAgrees}
+use Rattle.ti_spelling.specs.inside.Spelling.{octal_piece, unnamed_piece, named_piece, escape_piece, is_control_letter, control_piece, first_piece}
+use Rattle.ti_spelling.specs.inside.Spelling.{with_piece, then_later, unescaped_from, unescape_result, UnescapedAgrees}
 use Rattle.ti_spelling.proofs.OctalDigits.{digit_bounds}
 use Rattle.ti_spelling.proofs.PieceLemmas.{is_letter, control_letter, Found, first_right, piece_some, refuses}
 
@@ -31,7 +35,8 @@ named_digit x = is_octal_digit x && is_some (named_escape x)
 -- no octal digit is a name
 digits_have_no_name : (x : ℕ) → is_octal_digit x ≡ true → named_escape x ≡ None
 unfolding named_digit
-digits_have_no_name x digit = none (named_escape x) (sym (ap (λ (b : Bool). b && is_some (named_escape x)) digit) ∙ agree_below_at named_digit (λ y. false) 56 x refl (omega (arith, digit_bounds x digit)))
+digits_have_no_name x digit = none (named_escape x) (sym (ap (λ (b : Bool). b && is_some (named_escape x)) digit)
+    ∙ agree_below_at named_digit (λ y. false) 56 x refl (omega (arith, digit_bounds x digit)))
   where
     none : (name : Option ℕ) → is_some name ≡ false → name ≡ None
     none None e = refl
@@ -45,7 +50,8 @@ first_is_digit x xs ds e = by_test (is_octal_digit x) e
     by_test true e = refl
     by_test false e = absurd cc
 
-escape_computes : {text rest : List ℕ} {byte : ℕ} {odd : Bool} → IsEscape text rest byte odd → escape_piece (text ++ rest) ≡ Ok (record { size = length text + 1; byte = byte; odd = odd })
+escape_computes : {text rest : List ℕ} {byte : ℕ} {odd : Bool} → IsEscape text rest byte odd
+    → escape_piece (text ++ rest) ≡ Ok (record { size = length text + 1; byte = byte; odd = odd })
 unfolding escape_piece
 escape_computes (escape_named {letter = x} {rest = rest} e) = ap (λ (name : Option ℕ). named_piece name (unnamed_piece x rest)) e
 escape_computes (escape_octal {digit = x} {digits = ds} {rest = rest} digits le) =
@@ -66,12 +72,15 @@ control_computes x byte rest control_delete = refl
 control_computes x byte rest (control_masked low high comma question) =
     other (eqb x 63) _ _ (ne_eqb x 63 question) ∙ chosen (is_control_letter x) _ (Err BadControl) (is_letter x low high comma)
 
-pub piece_computes : {before : ℕ} {text rest : List ℕ} {byte : ℕ} {odd : Bool} → IsPiece before text rest byte odd → first_piece (is_percent before) (text ++ rest) ≡ Ok (record { size = length text; byte = byte; odd = odd })
+pub piece_computes : {before : ℕ} {text rest : List ℕ} {byte : ℕ} {odd : Bool} → IsPiece before text rest byte odd
+    → first_piece (is_percent before) (text ++ rest) ≡ Ok (record { size = length text; byte = byte; odd = odd })
 unfolding first_piece
 piece_computes (piece_escape e) = rw add-one at (escape_computes e)
-piece_computes (piece_control {before = before} {x = x} {byte = byte} {rest = rest} takes c) = other (is_percent before) _ _ takes ∙ control_computes x byte rest c
+piece_computes (piece_control {before = before} {x = x} {byte = byte} {rest = rest} takes c) =
+    other (is_percent before) _ _ takes ∙ control_computes x byte rest c
 piece_computes (piece_caret {before = before} literal) = chosen (is_percent before) _ _ literal
-piece_computes (piece_plain {x = x} ne92 ne94 ne0) = other (eqb x 92) _ _ (ne_eqb x 92 ne92) ∙ other (eqb x 94) _ _ (ne_eqb x 94 ne94) ∙ other (eqb x 0) _ _ (ne_eqb x 0 ne0)
+piece_computes (piece_plain {x = x} ne92 ne94 ne0) =
+    other (eqb x 92) _ _ (ne_eqb x 92 ne92) ∙ other (eqb x 94) _ _ (ne_eqb x 94 ne94) ∙ other (eqb x 0) _ _ (ne_eqb x 0 ne0)
 
 octal_of_nothing : octal_value (octal_digits []) ≡ 0
 octal_of_nothing = refl
@@ -102,7 +111,8 @@ unfolding control_piece
 no_control_computes x xs none =
     let ne63 : x ≢ 63 = λ e. none 127 (subst (λ (y : ℕ). IsControl y 127) (sym e) control_delete) in
     other (eqb x 63) _ _ (ne_eqb x 63 ne63)
-    ∙ other (is_control_letter x) _ (Err BadControl) (false_from_ne_true (is_control_letter x) (λ is. let p = control_letter x is in none (not_nul (bit_and x 31)) (control_masked p.0 p.1 p.2 ne63)))
+    ∙ other (is_control_letter x) _ (Err BadControl) (false_from_ne_true (is_control_letter x)
+    (λ is. let p = control_letter x is in none (not_nul (bit_and x 31)) (control_masked p.0 p.1 p.2 ne63)))
 
 control_end_computes : control_piece [] ≡ Err BadControl
 unfolding control_piece
@@ -132,7 +142,8 @@ passes before [] rest = refl
 passes before (x ∷ text) rest = passes x text rest
 
 -- a text that begins with a piece
-pub begins : (before : ℕ) (text rest : List ℕ) (piece : Piece) → 0 < length text → length text ≡ piece.size → first_piece (is_percent before) (text ++ rest) ≡ Ok piece
+pub begins : (before : ℕ) (text rest : List ℕ) (piece : Piece) → 0 < length text → length text ≡ piece.size
+    → first_piece (is_percent before) (text ++ rest) ≡ Ok piece
     → unescaped_from 0 before (text ++ rest) ≡ with_piece piece (unescaped_from 0 (last_byte before text) rest)
 unfolding unescaped_from
 begins before [] rest piece some size e = absurd (omega arith)
@@ -142,17 +153,21 @@ begins before (x ∷ text) rest piece some size e =
     ∙ ap (with_piece piece) (ap (λ (k : ℕ). unescaped_from k x (text ++ rest)) left ∙ passes x text rest)
 
 begins_piece : {before : ℕ} {text rest : List ℕ} {byte : ℕ} {odd : Bool} → IsPiece before text rest byte odd
-    → unescaped_from 0 before (text ++ rest) ≡ with_piece (record { size = length text; byte = byte; odd = odd }) (unescaped_from 0 (last_byte before text) rest)
-begins_piece {before} {text} {rest} {byte} {odd} p = begins before text rest (record { size = length text; byte = byte; odd = odd }) (piece_some p) refl (piece_computes p)
+    → unescaped_from 0 before (text ++ rest) ≡ with_piece (record { size = length text; byte = byte; odd = odd })
+    (unescaped_from 0 (last_byte before text) rest)
+begins_piece {before} {text} {rest} {byte} {odd} p =
+    begins before text rest (record { size = length text; byte = byte; odd = odd }) (piece_some p) refl (piece_computes p)
 
 pub spells_computes : {before : ℕ} {raw value : List ℕ} {odd : Bool} → SpellsAfter before raw value odd → unescaped_from 0 before raw ≡ Ok (value, odd)
 unfolding unescaped_from
 spells_computes spells_nothing = refl
-spells_computes (spells_piece {byte = byte} {text = text} {odd = odd} p later) = begins_piece p ∙ ap (with_piece (record { size = length text; byte = byte; odd = odd })) (spells_computes later)
+spells_computes (spells_piece {byte = byte} {text = text} {odd = odd} p later) =
+    begins_piece p ∙ ap (with_piece (record { size = length text; byte = byte; odd = odd })) (spells_computes later)
 
 pub fails_computes : {before : ℕ} {raw : List ℕ} {cause : UnescapeError} → FailsAfter before raw cause → unescaped_from 0 before raw ≡ Err cause
 fails_computes (fails_here {before = before} {raw = raw} {cause = cause} r) = refuses before raw cause (refusal_some r) (refusal_computes r)
-fails_computes (fails_later {byte = byte} {text = text} {odd = odd} p later) = begins_piece p ∙ ap (with_piece (record { size = length text; byte = byte; odd = odd })) (fails_computes later)
+fails_computes (fails_later {byte = byte} {text = text} {odd = odd} p later) =
+    begins_piece p ∙ ap (with_piece (record { size = length text; byte = byte; odd = odd })) (fails_computes later)
 
 -- the way back: what begins with a piece is read as one
 abbrev pub Outcome : ℕ → List ℕ → Result (List ℕ × Bool) UnescapeError → Type 0
@@ -160,7 +175,8 @@ Outcome before raw r = MatchResult r (λ found. SpellsAfter before raw found.0 f
 
 goes_on : (before : ℕ) (raw : List ℕ) (piece : Piece) (found : Found before raw piece) (r : Result (List ℕ × Bool) UnescapeError)
     → Outcome (last_byte before found.text) found.rest r → Outcome before raw (with_piece piece r)
-goes_on before raw piece found (Ok later) o = subst (λ (text : List ℕ). SpellsAfter before text (piece.byte ∷ later.0) (piece.odd || later.1)) (sym found.whole) (spells_piece found.is_piece o)
+goes_on before raw piece found (Ok later) o =
+    subst (λ (text : List ℕ). SpellsAfter before text (piece.byte ∷ later.0) (piece.odd || later.1)) (sym found.whole) (spells_piece found.is_piece o)
 goes_on before raw piece found (Err cause) o = subst (λ (text : List ℕ). FailsAfter before text cause) (sym found.whole) (fails_later found.is_piece o)
 
 outcome_within : (n before : ℕ) (raw : List ℕ) → length raw ≤ n → Outcome before raw (unescaped_from 0 before raw)
@@ -169,14 +185,16 @@ outcome_within n before [] le = spells_nothing
 outcome_within zero before (x ∷ xs) le = absurd (omega arith)
 outcome_within (suc n) before (x ∷ xs) le = by_first (first_piece (is_percent before) (x ∷ xs)) refl (first_right before x xs) (outcome_within n)
   where
-    by_first : (r : Result Piece UnescapeError) → first_piece (is_percent before) (x ∷ xs) ≡ r → MatchResult r (Found before (x ∷ xs)) (IsRefused before (x ∷ xs))
+    by_first : (r : Result Piece UnescapeError) → first_piece (is_percent before) (x ∷ xs) ≡ r
+        → MatchResult r (Found before (x ∷ xs)) (IsRefused before (x ∷ xs))
         → ((b : ℕ) (rest : List ℕ) → length rest ≤ n → Outcome b rest (unescaped_from 0 b rest)) → Outcome before (x ∷ xs) (unescaped_from 0 before (x ∷ xs))
     by_first (Err cause) e refused again = subst (Outcome before (x ∷ xs)) (sym (refuses before (x ∷ xs) cause (omega arith) e)) (fails_here refused)
     by_first (Ok piece) e found again =
         let some = piece_some found.is_piece in
         let shorter : length found.rest ≤ n = omega (arith, ap length found.whole, length-append found.text found.rest, some, le) in
         let split : unescaped_from 0 before (x ∷ xs) ≡ with_piece piece (unescaped_from 0 (last_byte before found.text) found.rest) =
-        ap (unescaped_from 0 before) found.whole ∙ begins before found.text found.rest piece some found.size (ap (first_piece (is_percent before)) (sym found.whole) ∙ e) in
+        ap (unescaped_from 0 before) found.whole ∙ begins before found.text found.rest piece some found.size
+        (ap (first_piece (is_percent before)) (sym found.whole) ∙ e) in
         subst (Outcome before (x ∷ xs)) (sym split) (goes_on before (x ∷ xs) piece found _ (again (last_byte before found.text) found.rest shorter))
 
 pub outcome : (raw : List ℕ) → Outcome 0 raw (unescape_result raw)
@@ -210,7 +228,8 @@ some_outcome raw (Ok found) s = inl (found.0, found.1, s)
 some_outcome raw (Err cause) f = inr (cause, f)
 
 -- two answers to one computation
-same_value : (r : Result (List ℕ × Bool) UnescapeError) (value other_value : List ℕ) (odd also_odd : Bool) → r ≡ Ok (value, odd) → r ≡ Ok (other_value, also_odd) → (value ≡ other_value) × (odd ≡ also_odd)
+same_value : (r : Result (List ℕ × Bool) UnescapeError) (value other_value : List ℕ) (odd also_odd : Bool) → r ≡ Ok (value, odd)
+    → r ≡ Ok (other_value, also_odd) → (value ≡ other_value) × (odd ≡ also_odd)
 same_value r value other_value odd also_odd e f =
     let pair : ◌≡◌ {A = List ℕ × Bool} (value, odd) (other_value, also_odd) = cc in
     (ap (λ (p : List ℕ × Bool). p.0) pair, ap (λ (p : List ℕ × Bool). p.1) pair)

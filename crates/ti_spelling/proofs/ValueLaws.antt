@@ -22,7 +22,8 @@ unfolding rows_fit
 row_fits x byte [] fit e = absurd cc
 row_fits x byte (row ∷ rows) fit e = by_test (eqb row.0 x) e (row_fits x byte rows (and_parts _ _ fit).1)
   where
-    by_test : (b : Bool) → cond b (Some row.1) (lookup (λ row. eqb row x) rows) ≡ Some byte → (lookup (λ row. eqb row x) rows ≡ Some byte → (0 < byte) × (byte < 256)) → (0 < byte) × (byte < 256)
+    by_test : (b : Bool) → cond b (Some row.1) (lookup (λ row. eqb row x) rows) ≡ Some byte
+        → (lookup (λ row. eqb row x) rows ≡ Some byte → (0 < byte) × (byte < 256)) → (0 < byte) × (byte < 256)
     by_test true h later =
         let row_is : row.1 ≡ byte = cc in
         let p = and_parts (ltb 0 row.1) (ltb row.1 256) (and_parts (ltb 0 row.1 && ltb row.1 256) (rows_fit rows) fit).0 in

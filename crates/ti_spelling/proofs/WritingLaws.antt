@@ -1,5 +1,6 @@
 -- Writing a value byte by byte, and what is written reads back.
-use Rattle.std.proofs.Common.{◌≡◌, ◌≢◌, ℕ, suc, ◌+◌, ◌-◌, ◌<◌, Bool, true, false, eqb, ltb, List, [], ◌∷◌, ◌++◌, length, get_or, drop, Result, Ok, Err, refl, ap, subst, sym, ◌∙◌, append_assoc, add-one, arith, ◌⊎◌, inl, inr}
+use Rattle.std.proofs.Common.{◌≡◌, ◌≢◌, ℕ, suc, ◌+◌, ◌-◌, ◌<◌, Bool, true, false, eqb, ltb, List, [], ◌∷◌, ◌++◌, length, get_or, drop, Result, Ok, Err}
+use Rattle.std.proofs.Common.{refl, ap, subst, sym, ◌∙◌, append_assoc, add-one, arith, ◌⊎◌, inl, inr}
 use Rattle.std.specs.Prelude.{◌&&◌, ◌||◌, not}
 use Rattle.std.proofs.Math.Seq.{drop-cons}
 use Rattle.std.proofs.lemmas.Bool.{eqb-true, eq-eqb, ne_eqb, ltb-true, not-true, and_parts, agree_below_at, cases_eq}
@@ -23,13 +24,16 @@ ends_there value i lt = by_place (cases_eq i (length value - 1))
     by_place (inr more) = ap is_empty (drop-cons value (suc i) 0 (omega (arith, more))) ∙ sym (ne_eqb _ _ more)
 
 pub writes_on : (text value all : List ℕ) (before i : ℕ) → i < length value → text ++ written_from (eqb i 0) before (drop i value) ≡ all
-    → (text ++ byte_text (is_percent before) (eqb i 0 || eqb i (length value - 1)) (get_or value i 0)) ++ written_from (eqb (i + 1) 0) (get_or value i 0) (drop (i + 1) value) ≡ all
+    → (text ++ byte_text (is_percent before) (eqb i 0 || eqb i (length value - 1)) (get_or value i 0))
+    ++ written_from (eqb (i + 1) 0) (get_or value i 0) (drop (i + 1) value) ≡ all
 writes_on text value all before i lt done =
     let x : ℕ = get_or value i 0 in
     let not_first : eqb (i + 1) 0 ≡ false = ne_eqb (i + 1) 0 (λ e. absurd (omega arith)) in
     let edge = ends_there value i lt in
-    let one : written_from (eqb i 0) before (drop i value) ≡ byte_text (is_percent before) (eqb i 0 || eqb i (length value - 1)) x ++ written_from false x (drop (suc i) value) =
-    ap (written_from (eqb i 0) before) (drop-cons value i 0 lt) ∙ ap (λ (last : Bool). byte_text (is_percent before) (eqb i 0 || last) x ++ written_from false x (drop (suc i) value)) edge in
+    let one : written_from (eqb i 0) before (drop i value) ≡ byte_text (is_percent before) (eqb i 0 || eqb i (length value - 1)) x
+    ++ written_from false x (drop (suc i) value) =
+    ap (written_from (eqb i 0) before) (drop-cons value i 0 lt)
+    ∙ ap (λ (last : Bool). byte_text (is_percent before) (eqb i 0 || last) x ++ written_from false x (drop (suc i) value)) edge in
     rw (append_assoc, not_first, add-one) (ap (λ (rest : List ℕ). text ++ rest) (sym one) ∙ done)
 
 -- ---- a byte that is its own spelling
@@ -68,7 +72,8 @@ same_piece_is (Ok piece) size byte e =
 same_piece_is (Err cause) size byte e = absurd cc
 
 reads_byte : (percent edge : Bool) (rest : List ℕ) (byte : ℕ) → Bool
-reads_byte percent edge rest byte = eqb byte 0 || same_piece (first_piece percent (byte_text percent edge byte ++ rest)) (length (byte_text percent edge byte)) byte
+reads_byte percent edge rest byte =
+    eqb byte 0 || same_piece (first_piece percent (byte_text percent edge byte ++ rest)) (length (byte_text percent edge byte)) byte
 
 -- each of the 256 bytes, whatever follows
 reads_each : (percent edge : Bool) (rest : List ℕ) (byte : ℕ) → byte < 256 → reads_byte percent edge rest byte ≡ true
@@ -92,12 +97,15 @@ text_some true false byte lt = agree_below_at (λ b. ltb 0 (length (byte_text tr
 text_some false true byte lt = agree_below_at (λ b. ltb 0 (length (byte_text false true b))) (λ b. true) 256 byte refl lt
 text_some false false byte lt = agree_below_at (λ b. ltb 0 (length (byte_text false false b))) (λ b. true) 256 byte refl lt
 
-reads_text : (percent edge : Bool) (rest : List ℕ) (byte : ℕ) → byte < 256 → byte ≢ 0 → first_piece percent (byte_text percent edge byte ++ rest) ≡ Ok (record { size = length (byte_text percent edge byte); byte = byte; odd = false })
+reads_text : (percent edge : Bool) (rest : List ℕ) (byte : ℕ) → byte < 256 → byte ≢ 0 → first_piece percent (byte_text percent edge byte ++ rest)
+    ≡ Ok (record { size = length (byte_text percent edge byte); byte = byte; odd = false })
 unfolding reads_byte
 reads_text percent edge rest byte lt some =
-    same_piece_is _ _ byte (sym (ap (λ (nul : Bool). nul || same_piece (first_piece percent (byte_text percent edge byte ++ rest)) (length (byte_text percent edge byte)) byte) (ne_eqb byte 0 some)) ∙ reads_each percent edge rest byte lt)
+    same_piece_is _ _ byte (sym (ap (λ (nul : Bool). nul || same_piece (first_piece percent (byte_text percent edge byte ++ rest))
+    (length (byte_text percent edge byte)) byte) (ne_eqb byte 0 some)) ∙ reads_each percent edge rest byte lt)
 
-reads_back : (value : List ℕ) (first : Bool) (before after : ℕ) → is_percent before ≡ is_percent after → AreBytes value → HasNoNul value → unescaped_from 0 after (written_from first before value) ≡ Ok (value, false)
+reads_back : (value : List ℕ) (first : Bool) (before after : ℕ) → is_percent before ≡ is_percent after → AreBytes value → HasNoNul value
+    → unescaped_from 0 after (written_from first before value) ≡ Ok (value, false)
 unfolding unescaped_from
 reads_back [] first before after same bytes some = refl
 reads_back (x ∷ xs) first before after same bytes some =
@@ -107,9 +115,11 @@ reads_back (x ∷ xs) first before after same bytes some =
     let lt : x < 256 = bytes 0 0 (omega arith) in
     let not_nul : x ≢ 0 = some 0 0 (omega arith) in
     let piece : Piece = record { size = length text; byte = x; odd = false } in
-    let read : first_piece (is_percent after) (text ++ rest) ≡ Ok piece = subst (λ (p : Bool). first_piece p (text ++ rest) ≡ Ok piece) same (reads_text (is_percent before) edge rest x lt not_nul) in
+    let read : first_piece (is_percent after) (text ++ rest) ≡ Ok piece =
+    subst (λ (p : Bool). first_piece p (text ++ rest) ≡ Ok piece) same (reads_text (is_percent before) edge rest x lt not_nul) in
     begins after text rest piece (ltb-true 0 (length text) (text_some (is_percent before) edge x lt)) refl read
-    ∙ ap (with_piece piece) (reads_back xs false x (last_byte after text) (sym (percent_after after (is_percent before) edge x lt)) (λ k d below. bytes (suc k) d (omega arith)) (λ k d below. some (suc k) d (omega arith)))
+    ∙ ap (with_piece piece) (reads_back xs false x (last_byte after text) (sym (percent_after after (is_percent before) edge x lt))
+    (λ k d below. bytes (suc k) d (omega arith)) (λ k d below. some (suc k) d (omega arith)))
 
 pub written_reads : (value : List ℕ) → AreBytes value → HasNoNul value → unescape_result (spelling_of value) ≡ Ok (value, false)
 unfolding unescape_result

@@ -1,5 +1,6 @@
 -- Elements of lists by their places.
-use Rattle.std.proofs.Common.{◌≡◌, ℕ, zero, suc, ◌+◌, ◌<◌, ◌⊎◌, inl, inr, true, List, [], ◌∷◌, ◌++◌, length, get_or, set, take, drop, map, nat_eq, Some, slice_get, refl, sym, ap, arith}
+use Rattle.std.proofs.Common.{◌≡◌, ℕ, zero, suc, ◌+◌, ◌<◌, ◌⊎◌, inl, inr, true, List, [], ◌∷◌, ◌++◌, length, get_or, set, take, drop, map, nat_eq, Some}
+use Rattle.std.proofs.Common.{slice_get, refl, sym, ap, arith}
 use Rattle.std.specs.List.{list_any}
 use Rattle.std.proofs.lemmas.Bool.{false≢true, or_cases, eqb-true}
 use Rattle.std.proofs.lemmas.List.{map-append, take_more}
@@ -16,7 +17,8 @@ module _ {X : Type 0} where
   get_back [] ys j x e = let z : 0 + j ≡ j = omega arith in rw z e
   get_back (w ∷ ws) ys j x e = let z : suc (length ws) + j ≡ suc (length ws + j) = omega arith in rw z (get_back ws ys j x e)
 
-  pub get_cases : (xs ys : List X) (i : ℕ) (x : X) → slice_get (xs ++ ys) i ≡ Some x → (slice_get xs i ≡ Some x) ⊎ ((j : ℕ) × (i ≡ length xs + j) × (slice_get ys j ≡ Some x))
+  pub get_cases : (xs ys : List X) (i : ℕ) (x : X) → slice_get (xs ++ ys) i ≡ Some x → (slice_get xs i ≡ Some x)
+      ⊎ ((j : ℕ) × (i ≡ length xs + j) × (slice_get ys j ≡ Some x))
   get_cases [] ys i x e = inr (i, omega arith, e)
   get_cases (z ∷ zs) ys zero x e = inl e
   get_cases (z ∷ zs) ys (suc i) x e =
@@ -111,5 +113,6 @@ Has_from_any (y ∷ ys) x e =
 pub take_item : {X : Type 0} (xs : List X) (i : ℕ) (x : X) → i < length xs → x ≡ get_or xs i x → take (i + 1) xs ≡ take i xs ++ x ∷ []
 take_item xs i x l e = rw (take_more xs i x l, ← e) refl
 
-pub map-take_item : {X Y : Type 0} (f : X → Y) (xs : List X) (i : ℕ) (x : X) → i < length xs → x ≡ get_or xs i x → map f (take (i + 1) xs) ≡ map f (take i xs) ++ f x ∷ []
+pub map-take_item : {X Y : Type 0} (f : X → Y) (xs : List X) (i : ℕ) (x : X) → i < length xs → x ≡ get_or xs i x
+    → map f (take (i + 1) xs) ≡ map f (take i xs) ++ f x ∷ []
 map-take_item f xs i x l e = rw (take_more xs i x l, map-append f (take i xs) (get_or xs i x ∷ []), ← e) refl

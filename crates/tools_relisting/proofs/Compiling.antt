@@ -1,5 +1,6 @@
 -- A block that is read as the items of an entry compiles to the image of the entry.
-use Rattle.std.proofs.Common.{option_map, slice_get, ◌≡◌, ℕ, suc, false, List, [], ◌∷◌, ◌++◌, map, length, cond, Option, Some, None, option_and_then, refl, ap, sym, ◌∙◌, arith}
+use Rattle.std.proofs.Common.{option_map, slice_get, ◌≡◌, ℕ, suc, false, List, [], ◌∷◌, ◌++◌, map, length, cond, Option, Some, None, option_and_then, refl}
+use Rattle.std.proofs.Common.{ap, sym, ◌∙◌, arith}
 use Rattle.std.specs.List.{list_any}
 use Rattle.std.specs.Option.{option_or}
 use Rattle.std.proofs.lemmas.Bool.{le-ltb}
@@ -56,7 +57,8 @@ pub entry-is : ImagesAreOfValues → LimitsAreOfValues → (blocks : List Readin
     → ((c : Capability) → IsCapability c → without_cancel (contents ms c) ≡ without_cancel (table c)) → ImageFits field table
     → entry blocks block ≡ Some (image field table)
 entry-is images limits blocks block field table ms expands is_field tells within =
-    let same : (c : Capability) → IsCapability c → without_cancel (values ms c) ≡ without_cancel (table c) = λ c is. uncancelled-twice (contents ms c) ∙ tells c is in
+    let same : (c : Capability) → IsCapability c → without_cancel (values ms c) ≡ without_cancel (table c) =
+    λ c is. uncancelled-twice (contents ms c) ∙ tells c is in
     let is_image : image_of block ms ≡ image field table = ap (λ f. image f (values ms)) is_field ∙ images field (values ms) table same in
     let sizes : length (image_of block ms) ≡ length (image field table) = ap length is_image in
     let limit : image_limit (values ms) ≡ image_limit table = limits (values ms) table same in

@@ -145,7 +145,8 @@ pub record IsGoodText (percent : Bool) (b : ℕ) (t : List ℕ) : Type 0 where
 good_text : (percent edge : Bool) (b : ℕ) → b < 256 → IsGoodText percent b (byte_text percent edge b)
 good_text percent edge b lt =
     let t = byte_text percent edge b in
-    let last = and_parts (is_clear (cond percent 37 0) t && is_inline t && not (is_empty t)) (beq (last_byte 0 t == 37) (b == 37)) (texts-good percent edge b lt) in
+    let last = and_parts (is_clear (cond percent 37 0) t && is_inline t && not (is_empty t)) (beq (last_byte 0 t == 37) (b == 37))
+    (texts-good percent edge b lt) in
     let middle = and_parts (is_clear (cond percent 37 0) t && is_inline t) (not (is_empty t)) last.0 in
     let first = and_parts (is_clear (cond percent 37 0) t) (is_inline t) middle.0 in
     record { clear = first.0; inline = first.1; some = not-true (is_empty t) middle.1; ends = ends_alike (last_byte 0 t == 37) b last.1 }

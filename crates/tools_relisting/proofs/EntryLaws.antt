@@ -1,5 +1,6 @@
 -- Compiled entries of sources can be listed, and are the images of what is listed.
-use Rattle.std.proofs.Common.{◌++◌, map, ◌≡◌, ◌≢◌, ℕ, suc, ◌<◌, ◌≤◌, false, List, [], ◌∷◌, length, Option, Some, None, option_map, slice_get, refl, ap, sym, ◌∙◌, subst, inl, inr, arith}
+use Rattle.std.proofs.Common.{◌++◌, map, ◌≡◌, ◌≢◌, ℕ, suc, ◌<◌, ◌≤◌, false, List, [], ◌∷◌, length, Option, Some, None, option_map, slice_get, refl, ap, sym}
+use Rattle.std.proofs.Common.{◌∙◌, subst, inl, inr, arith}
 use Rattle.std.specs.List.{All}
 use Rattle.std.proofs.lemmas.Bool.{cases_Bool, ltb-false}
 use Rattle.std.proofs.lemmas.Option.{same_Some, none-some, slice_get-map}
@@ -27,7 +28,8 @@ use Rattle.tools_relisting.specs.Relisting.{CanHave, CanBeShown, CanBeUsed, List
 use Rattle.tools_relisting.specs.Entries.{IsEntry, IsUsedEntry, ShownEntry, listings, Relisting, Relistings, RelativeSource}
 use Rattle.tools_relisting.specs.ReadingBack.{PartsAreBlocks}
 use Rattle.tools_relisting.proofs.TextBytes.{parsed-bytes}
-use Rattle.tools_relisting.proofs.Fitting.{MentionFits, ItemFits, items-fit, unbroken-expand, follows, expand-fits, owned-has, said-has, uncancelled-has, agrees-has}
+use Rattle.tools_relisting.proofs.Fitting.{MentionFits, ItemFits, items-fit, unbroken-expand, follows, expand-fits, owned-has, said-has, uncancelled-has}
+use Rattle.tools_relisting.proofs.Fitting.{agrees-has}
 use Rattle.tools_relisting.proofs.Heading.{block-listable, first-lookup}
 use Rattle.tools_relisting.proofs.Compiling.{uncancelled-twice}
 use Rattle.tools_relisting.proofs.Relating.{All-at, uses-can, differing-can}
@@ -57,7 +59,8 @@ IsText text = OneBlock text × AreBytes text
 texts-both : (texts : List (List ℕ)) → All OneBlock texts → All AreBytes texts → All IsText texts
 texts-both [] blocks are = All-nil IsText
 texts-both (t ∷ texts) blocks are =
-    All-cons IsText t texts (All-head OneBlock t texts blocks, All-head AreBytes t texts are) (texts-both texts (All-tail OneBlock t texts blocks) (All-tail AreBytes t texts are))
+    All-cons IsText t texts (All-head OneBlock t texts blocks, All-head AreBytes t texts are)
+    (texts-both texts (All-tail OneBlock t texts blocks) (All-tail AreBytes t texts are))
 
 -- what a block says fits
 abbrev BlockFits : Reading → Type 0
@@ -128,7 +131,8 @@ has-image known texts at bytes are is =
       field = block.field;
       names = block.names;
       mentions = ms;
-      listable = subst (λ b. IsListable b.field b.names) of_text.is (block-listable of_text.text text.0 (known.computed of_text.text) (ap is_broken of_text.is ∙ sound));
+      listable = subst (λ b. IsListable b.field b.names) of_text.is
+          (block-listable of_text.text text.0 (known.computed of_text.text) (ap is_broken of_text.is ∙ sound));
       some = subst (λ (b : Reading). b.field ≢ []) of_text.is named.some;
       no_nul = subst (λ (b : Reading). All (λ byte. byte ≢ 0) b.field) of_text.is named.no_nul;
       fit = expand-fits (owner_block blocks) (λ name b e. owned-has BlockFits blocks name b fits e) (suc (length blocks)) block ms
@@ -152,12 +156,16 @@ is-shown known bytes shown entry =
     let has = has-image known entry.texts entry.at bytes (texts-both entry.texts entry.blocks entry.of_bytes) entry.is in
     let ms = has.mentions in
     let holds : (c : Capability) → CanHave c (values ms c) = λ c. uncancelled-has c (contents ms c) (said-has ms c has.fit) in
-    let read = known.read has.field (values ms) (some-long has.field has.some) has.listable.short has.no_nul (λ c is. agrees-has c (values ms c) (holds c)) has.within in
+    let read = known.read has.field (values ms) (some-long has.field has.some) has.listable.short has.no_nul
+    (λ c is. agrees-has c (values ms c) (holds c)) has.within in
     let reads : Reads bytes has.field read.0 = subst (λ b. Reads b has.field read.0) has.is read.1 in
     let same = known.one.0 bytes shown.names has.field shown.contents read.0 entry.reads reads in
-    let tells : (c : Capability) → IsCapability c → shown.contents c ≡ without_cancel (values ms c) = λ c is. ap (λ (table : Contents). table c) same.1 ∙ read.2 c is in
-    let alike : (c : Capability) → IsCapability c → without_cancel (shown.contents c) ≡ without_cancel (values ms c) = λ c is. ap without_cancel (tells c is) ∙ uncancelled-twice (values ms c) in
-    let image_is : image shown.names shown.contents ≡ bytes = ap (λ f. image f shown.contents) same.0 ∙ known.images has.field shown.contents (values ms) alike ∙ has.is in
+    let tells : (c : Capability) → IsCapability c → shown.contents c ≡ without_cancel (values ms c) =
+    λ c is. ap (λ (table : Contents). table c) same.1 ∙ read.2 c is in
+    let alike : (c : Capability) → IsCapability c → without_cancel (shown.contents c) ≡ without_cancel (values ms c) =
+    λ c is. ap without_cancel (tells c is) ∙ uncancelled-twice (values ms c) in
+    let image_is : image shown.names shown.contents ≡ bytes =
+    ap (λ f. image f shown.contents) same.0 ∙ known.images has.field shown.contents (values ms) alike ∙ has.is in
     let sizes : length (image shown.names shown.contents) ≡ length (image has.field (values ms)) = ap length (image_is ∙ sym has.is) in
     let limit : image_limit shown.contents ≡ image_limit (values ms) = known.limits shown.contents (values ms) alike in
     let is_within = has.within in
@@ -187,8 +195,11 @@ pub relisting : AreKnown → PartsAreBlocks → ListingsCompile → Relisting
 relisting known stands compiles bytes shown layout is_entry =
     let is = is-shown known bytes shown is_entry in
     let text = listing shown.names shown.contents layout in
-    let one = listing-stands known.ordered stands shown layout is.can in
-    (record { cut = one.cut; single = All-cons OneBlock text [] one (All-nil OneBlock) }, listing-compiles known compiles bytes shown layout is (text ∷ []) 0 refl)
+    let one = listing-stands known.ordered stands shown layout is.can in (
+      record { cut = one.cut; single = All-cons OneBlock text [] one (All-nil OneBlock) },
+      listing-compiles known compiles bytes shown layout is
+          (text ∷ []) 0 refl,
+    )
 
 -- ---- several listings
 
@@ -209,7 +220,8 @@ relistings known stands compiles entries layout are =
       λ i entry at.
           let is = is-shown known entry.0 entry.1 (All-at IsEntryShown entries i entry are at) in
           listing-compiles known compiles entry.0 entry.1 layout is (listings entries layout) i
-          (slice_get-map (λ (e : ShownEntry). listing e.1.names e.1.contents layout) entries i ∙ ap (option_map (λ (e : ShownEntry). listing e.1.names e.1.contents layout)) at),
+          (slice_get-map (λ (e : ShownEntry). listing e.1.names e.1.contents layout) entries i
+          ∙ ap (option_map (λ (e : ShownEntry). listing e.1.names e.1.contents layout)) at),
     )
 
 -- ---- relative source
@@ -226,7 +238,8 @@ listings-stand : EachKindIsInOrder → PartsAreBlocks → (listed : List Listed)
 listings-stand ordered stands [] used = All-nil OneBlock
 listings-stand ordered stands (one ∷ listed) used =
     All-cons OneBlock (listing_of one) (map listing_of listed)
-    (listing-stands ordered stands one.0 one.1 (All-head CanBeUsed one.0 (entries_of listed) used).shown) (listings-stand ordered stands listed (All-tail CanBeUsed one.0 (entries_of listed) used))
+    (listing-stands ordered stands one.0 one.1 (All-head CanBeUsed one.0 (entries_of listed) used).shown)
+    (listings-stand ordered stands listed (All-tail CanBeUsed one.0 (entries_of listed) used))
 
 relative-stands : EachKindIsInOrder → PartsAreBlocks → (entry : Entry) (layout : Layout) (listed : List Listed) → CanBeShown entry
     → All CanBeUsed (entries_of listed)

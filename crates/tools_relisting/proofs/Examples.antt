@@ -30,7 +30,8 @@ abbrev hidden : List ℕ
 hidden = codes "\n #x,\n"
 
 hidden-compiles : compiled (hidden ∷ []) 0 ≡ Some (image (codes "#x") nothing)
-unfolding reading_of_text capability_named names flag_names number_names text_names last_passing some_below below texts_below number_section image image_in contents
+unfolding reading_of_text capability_named names flag_names number_names text_names last_passing some_below below texts_below number_section image image_in
+    contents
 hidden-compiles = refl
 
 -- the listing of such a text is a comment, and has no entry
@@ -63,5 +64,6 @@ unfolding names flag_names number_names digits in_order contents
 wide-listed = refl
 
 wide-back : compiled (codes "x,am,cols#65536,lines#24,\n" ∷ []) 0 ≡ Some (image (codes "x") wide)
-unfolding reading_of_text capability_named names flag_names number_names text_names last_passing some_below below texts_below number_section image image_in contents
+unfolding reading_of_text capability_named names flag_names number_names text_names last_passing some_below below texts_below number_section image image_in
+    contents
 wide-back = refl

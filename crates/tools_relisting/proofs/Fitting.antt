@@ -109,7 +109,8 @@ expand-fits env good (suc depth) block ms fits e =
     let of_name : List ℕ → Option (List Mention) = λ name. option_and_then (expand env depth) (env name) in
     let items : expand_items of_name block.items ≡ Some ms = rw (unbroken-expand env depth block ms e) at e in
     items-mentions-fit of_name
-    (λ name more is. let owner = follows (expand env depth) (env name) more is in expand-fits env good depth owner.from more (good name owner.from owner.is) owner.gives)
+    (λ name more is. let owner = follows (expand env depth) (env name) more is in
+    expand-fits env good depth owner.from more (good name owner.from owner.is) owner.gives)
     block.items ms fits items
 
 pub owned-has : (P : Reading → Type 0) (blocks : List Reading) (name : List ℕ) (block : Reading) → All P blocks → owner_block blocks name ≡ Some block → P block

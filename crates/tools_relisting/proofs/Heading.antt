@@ -139,7 +139,8 @@ before_first-all (x ∷ w) h =
 apart-all : (w : List ℕ) → ¬ Contains w 124 → list_all (λ b. not (b == 124)) w ≡ true
 apart-all w none =
     let others : All (λ b. b ≢ 124) w = All-from_get_or (λ b. b ≢ 124) w 124 (λ i lt e. none (i, lt, e)) in
-    list_all-from_AllPass (λ b. not (b == 124)) w (All-weaker (λ b. b ≢ 124) (λ b. not (b == 124) ≡ true) (λ b ne. not_from_false (b == 124) (ne_eqb b 124 ne)) w others)
+    list_all-from_AllPass (λ b. not (b == 124)) w (All-weaker (λ b. b ≢ 124) (λ b. not (b == 124) ≡ true)
+    (λ b ne. not_from_false (b == 124) (ne_eqb b 124 ne)) w others)
 
 -- in a field of several parts the first is a lookup name, if the lookup parts are lookup names
 first-part : (field : List ℕ) (parts : List (List ℕ)) → field ≡ join_with_byte 124 parts → parts ≢ [] → All (λ part. ¬ Contains part 124) parts
@@ -154,7 +155,8 @@ first-part field (p ∷ q ∷ ps) whole some apart lookup =
     let many : length (p ∷ q ∷ ps) == 1 ≡ false = ne_eqb (length (p ∷ q ∷ ps)) 1 (λ e. omega (arith, e)) in
     let fewer : length (p ∷ q ∷ ps) - 1 ≡ suc (length ps) = omega arith in
     let first : All IsLookupName (p ∷ take (length ps) (q ∷ ps)) = rw (many, fewer) at lookup in
-    subst IsLookupName (sym (ap first_name whole ∙ before_first-here p (join_with_byte 124 (q ∷ ps)) bare)) (All-head IsLookupName p (take (length ps) (q ∷ ps)) first)
+    subst IsLookupName (sym (ap first_name whole ∙ before_first-here p (join_with_byte 124 (q ∷ ps)) bare))
+    (All-head IsLookupName p (take (length ps) (q ∷ ps)) first)
 
 pub first-lookup : (field : List ℕ) (names : List (List ℕ)) → HeaderNames field names → IsLookupName (first_name field)
 first-lookup field names h =

@@ -1,5 +1,6 @@
 -- A listing is laid out as the items of its entry, and says of each capability what the entry has.
-use Rattle.std.proofs.Common.{◌≡◌, ℕ, ◌+◌, Bool, true, false, ◌||◌, nat_lt, List, [], ◌∷◌, ◌++◌, map, cond, Option, Some, None, refl, ap, sym, ◌∙◌, subst, inl, inr, append_assoc}
+use Rattle.std.proofs.Common.{◌≡◌, ℕ, ◌+◌, Bool, true, false, ◌||◌, nat_lt, List, [], ◌∷◌, ◌++◌, map, cond, Option, Some, None, refl, ap, sym, ◌∙◌, subst}
+use Rattle.std.proofs.Common.{inl, inr, append_assoc}
 use Rattle.std.specs.List.{All}
 use Rattle.std.specs.Option.{option_or}
 use Rattle.std.proofs.lemmas.Bool.{cases_Bool}
@@ -51,7 +52,8 @@ lines-tail layout (item ∷ items) more rest laid =
 
 items_for-append : (table : Contents) (cs ds : List Capability) → items_for table (cs ++ ds) ≡ items_for table cs ++ items_for table ds
 items_for-append table [] ds = refl
-items_for-append table (c ∷ cs) ds = ap (λ l. item_for c (table c) ++ l) (items_for-append table cs ds) ∙ sym (append_assoc (item_for c (table c)) (items_for table cs) (items_for table ds))
+items_for-append table (c ∷ cs) ds =
+    ap (λ l. item_for c (table c) ++ l) (items_for-append table cs ds) ∙ sym (append_assoc (item_for c (table c)) (items_for table cs) (items_for table ds))
 
 -- the items of an entry are those of all capabilities, in the order of the layout
 pub entry_items-all : (layout : Layout) (table : Contents) → entry_items layout table ≡ items_for table (all_in layout.order)
@@ -84,7 +86,8 @@ listed-is field table layout more rest laid =
 
 pub listings_laid_out : ListingsAreLaidOut
 listings_laid_out field table layout =
-    subst (λ items. IsListing field items (listing field table layout)) (append-nil (entry_items layout table)) (listed-is field table layout [] (10 ∷ []) no_more)
+    subst (λ items. IsListing field items (listing field table layout)) (append-nil (entry_items layout table))
+    (listed-is field table layout [] (10 ∷ []) no_more)
 
 pub uses-tail : (others : List Entry) → IsTail (uses_of others) (use_lines others ++ 10 ∷ [])
 uses-tail [] = no_more
@@ -104,12 +107,14 @@ relatives_laid_out entry others layout =
 pub listed-all : (field : List ℕ) (table : Contents) (layout : Layout) (more : List Said) (rest : List ℕ) → IsTail more rest
     → IsListing field (items_for table (all_in layout.order) ++ more) (source_lines field table layout ++ rest)
 listed-all field table layout more rest laid =
-    subst (λ items. IsListing field (items ++ more) (source_lines field table layout ++ rest)) (entry_items-all layout table) (listed-is field table layout more rest laid)
+    subst (λ items. IsListing field (items ++ more) (source_lines field table layout ++ rest)) (entry_items-all layout table)
+    (listed-is field table layout more rest laid)
 
 pub relative-all : (entry : Entry) (others : List Entry) (layout : Layout)
     → IsListing entry.names (items_for (differing_contents entry.contents others) (all_in layout.order) ++ uses_of others) (relative entry others layout)
 relative-all entry others layout =
-    subst (λ items. IsListing entry.names (items ++ uses_of others) (relative entry others layout)) (entry_items-all layout (differing_contents entry.contents others))
+    subst (λ items. IsListing entry.names (items ++ uses_of others) (relative entry others layout))
+    (entry_items-all layout (differing_contents entry.contents others))
     (relatives_laid_out entry others layout)
 
 -- ---- what can be listed
@@ -125,7 +130,8 @@ items-can : (table : Contents) (cs : List Capability) → All IsCapability cs �
 items-can table [] valid has = All-nil CanBeListed
 items-can table (c ∷ cs) valid has =
     let is : IsCapability c = All-head IsCapability c cs valid in
-    All-append CanBeListed (item_for c (table c)) (items_for table cs) (item-can c (table c) is (has c is)) (items-can table cs (All-tail IsCapability c cs valid) has)
+    All-append CanBeListed (item_for c (table c)) (items_for table cs) (item-can c (table c) is (has c is))
+    (items-can table cs (All-tail IsCapability c cs valid) has)
 
 pub all-can : EachKindIsInOrder → (table : Contents) (layout : Layout) (more : List Said) → CanHaveAll table → All CanBeListed more
     → All CanBeListed (items_for table (all_in layout.order) ++ more)
@@ -172,7 +178,8 @@ mention-first : (m : Mention) (ms : List Mention) (later given : Option (List Me
     → both_lists (Some (m ∷ [])) given ≡ before (m ∷ ms) later
 mention-first m ms later given e = ap (both_lists (Some (m ∷ []))) e ∙ joined-before m ms later
 
-item-expands : (of_name : List ℕ → Option (List Mention)) (c : Capability) (o : Option Content) (ms : List Mention) (items : List Said) (later : Option (List Mention))
+item-expands : (of_name : List ℕ → Option (List Mention)) (c : Capability) (o : Option Content) (ms : List Mention) (items : List Said)
+    (later : Option (List Mention))
     → expand_says of_name items ≡ before ms later → expand_says of_name (item_for c o ++ items) ≡ before (mention_for c o ++ ms) later
 item-expands of_name c None ms items later e = e
 item-expands of_name c (Some content_true) ms items later e =

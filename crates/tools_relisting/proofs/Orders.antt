@@ -57,7 +57,8 @@ kind-valid ordered order.Name kind = All-weaker (λ c. (c.kind ≡ kind) × IsCa
 
 kind-complete : EachKindIsInOrder → (o : Order) (kind : Kind) (i : ℕ) → i < count_of kind → is_among (in_order o kind) (capability kind i) ≡ true
 unfolding in_order
-kind-complete ordered order.Table kind i lt = agree_below_at (λ i. is_among (by_index kind) (capability kind i)) (λ i. true) (count_of kind) i (by_index-complete kind) lt
+kind-complete ordered order.Table kind i lt =
+    agree_below_at (λ i. is_among (by_index kind) (capability kind i)) (λ i. true) (count_of kind) i (by_index-complete kind) lt
 kind-complete ordered order.Name kind i lt = contains-among (in_name_order kind) (capability kind i) ((ordered kind).all i lt)
 
 among-append : (cs ds : List Capability) (c : Capability) → is_among (cs ++ ds) c ≡ (is_among cs c || is_among ds c)
@@ -78,13 +79,15 @@ all_in-complete ordered o Number i lt =
     let later = in_order o Number ++ in_order o Text in
     among-append (in_order o Flag) later c
     ∙ or_right (is_among (in_order o Flag) c) (is_among later c)
-    (among-append (in_order o Number) (in_order o Text) c ∙ or_left (is_among (in_order o Number) c) (is_among (in_order o Text) c) (kind-complete ordered o Number i lt))
+    (among-append (in_order o Number) (in_order o Text) c ∙ or_left (is_among (in_order o Number) c) (is_among (in_order o Text) c)
+    (kind-complete ordered o Number i lt))
 all_in-complete ordered o Text i lt =
     let c = capability Text i in
     let later = in_order o Number ++ in_order o Text in
     among-append (in_order o Flag) later c
     ∙ or_right (is_among (in_order o Flag) c) (is_among later c)
-    (among-append (in_order o Number) (in_order o Text) c ∙ or_right (is_among (in_order o Number) c) (is_among (in_order o Text) c) (kind-complete ordered o Text i lt))
+    (among-append (in_order o Number) (in_order o Text) c ∙ or_right (is_among (in_order o Number) c) (is_among (in_order o Text) c)
+    (kind-complete ordered o Text i lt))
 
 pub all_in-all : EachKindIsInOrder → (o : Order) → AreAll (all_in o)
 all_in-all ordered o = record {

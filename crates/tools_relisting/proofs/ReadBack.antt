@@ -81,12 +81,14 @@ tail-read found spells _ _ can (same_line item items tail laid) s e =
     let w = item_text item in
     let readable = item-readable found spells item (All-head CanBeListed item items can) in
     let bare : unbroken false (w ++ 44 ∷ tail) ≡ w ++ 44 ∷ unbroken false tail = unbroken-inline w (44 ∷ tail) readable.inline in
-    item-read item items (32 ∷ w) w (unbroken false tail) s (e ∙ ap (λ t. 32 ∷ t) bare) (whole-cons 44 32 w refl (readable.whole 32)) (dark-front w readable.dark) readable
+    item-read item items (32 ∷ w) w (unbroken false tail) s (e ∙ ap (λ t. 32 ∷ t) bare) (whole-cons 44 32 w refl (readable.whole 32))
+    (dark-front w readable.dark) readable
     (λ later is. tail-read found spells items tail (All-tail CanBeListed item items can) laid later is)
 tail-read found spells _ _ can (new_line item items tail laid) s e =
     let w = item_text item in
     let readable = item-readable found spells item (All-head CanBeListed item items can) in
-    let bare : unbroken true (w ++ 44 ∷ tail) ≡ w ++ 44 ∷ unbroken false tail = unbroken-dark w (44 ∷ tail) readable.dark ∙ unbroken-inline w (44 ∷ tail) readable.inline in
+    let bare : unbroken true (w ++ 44 ∷ tail) ≡ w ++ 44 ∷ unbroken false tail =
+    unbroken-dark w (44 ∷ tail) readable.dark ∙ unbroken-inline w (44 ∷ tail) readable.inline in
     item-read item items w w (unbroken false tail) s (e ∙ bare) (readable.whole 44) (dark-front w readable.dark) readable
     (λ later is. tail-read found spells items tail (All-tail CanBeListed item items can) laid later is)
 
@@ -108,7 +110,8 @@ text-calm (x ∷ xs) tail plain inline calm =
 
 no_comma-of : (p : List PlacedByte) → list_all (λ b. not (b == 44)) (bytes p) ≡ true → HasNoComma p
 no_comma-of [] h = tt
-no_comma-of (x ∷ xs) h = let parts = and_parts (not (x.0 == 44)) (list_all (λ b. not (b == 44)) (bytes xs)) h in (not-true (x.0 == 44) parts.0, no_comma-of xs parts.1)
+no_comma-of (x ∷ xs) h =
+    let parts = and_parts (not (x.0 == 44)) (list_all (λ b. not (b == 44)) (bytes xs)) h in (not-true (x.0 == 44) parts.0, no_comma-of xs parts.1)
 
 begins-at : (s field rest : List PlacedByte) (line : ℕ) → s ≡ field ++ (44, line) ∷ rest → HasNoComma field → Begins s field rest
 begins-at s field rest line e none = subst (λ t. Begins t field rest) (sym e) (field_and_rest field rest line none)
@@ -125,7 +128,8 @@ listing-parses : EveryNameIsFound → WrittenSpells → (field : List ℕ) (name
 listing-parses found spells field names items text good can is =
     let calm = text-calm field is.tail good.plain good.inline (tail-calm found spells items is.tail can is.is_tail) in
     let bare : unbroken false (uncommented false 10 text) ≡ field ++ 44 ∷ unbroken false is.tail =
-    ap (λ t. unbroken false (uncommented false 10 t)) is.whole ∙ ap (unbroken false) (uncommented-calm 10 (field ++ 44 ∷ is.tail) calm) ∙ unbroken-inline field (44 ∷ is.tail) good.inline in
+    ap (λ t. unbroken false (uncommented false 10 t)) is.whole ∙ ap (unbroken false) (uncommented-calm 10 (field ++ 44 ∷ is.tail) calm)
+    ∙ unbroken-inline field (44 ∷ is.tail) good.inline in
     let parts = split-bytes (folding_of text) field (44 ∷ unbroken false is.tail) (bytes-folded text ∙ bare) in
     let comma = split-byte parts.rest 44 (unbroken false is.tail) parts.is_rest in
     let is_folded : folding_of text ≡ parts.front ++ (44, comma.line) ∷ comma.rest = parts.whole ∙ ap (λ t. parts.front ++ t) comma.whole in

@@ -1,5 +1,6 @@
 -- The relative source of an entry compiles to the image of the entry.
-use Rattle.std.proofs.Common.{◌≡◌, ℕ, zero, suc, true, false, List, [], ◌∷◌, ◌++◌, map, length, cond, Option, Some, None, option_map, option_and_then, slice_get, refl, ap, sym, ◌∙◌, subst, inl, inr}
+use Rattle.std.proofs.Common.{◌≡◌, ℕ, zero, suc, true, false, List, [], ◌∷◌, ◌++◌, map, length, cond, Option, Some, None, option_map, option_and_then}
+use Rattle.std.proofs.Common.{slice_get, refl, ap, sym, ◌∙◌, subst, inl, inr}
 use Rattle.std.specs.List.{All}
 use Rattle.std.specs.Option.{option_or}
 use Rattle.std.specs.Str.{bytes_eq}
@@ -75,7 +76,8 @@ pub uses-can : (others : List Entry) → All CanBeUsed others → All CanBeListe
 uses-can [] can = All-nil CanBeListed
 uses-can (other ∷ others) can =
     let first = (All-head CanBeUsed other others can).first in
-    All-cons CanBeListed (said_import (first_name other.names)) (uses_of others) (first.lookup, first.bare) (uses-can others (All-tail CanBeUsed other others can))
+    All-cons CanBeListed (said_import (first_name other.names)) (uses_of others) (first.lookup, first.bare)
+    (uses-can others (All-tail CanBeUsed other others can))
 
 -- the mentions of the others, in turn
 abbrev pub used_mentions : List Listed → List Mention
@@ -143,9 +145,11 @@ relatives_compile ordered read images limits e layout listed shown used owns wit
     → used_at (owner_block blocks) (length blocks) (first_name one.0.names) ≡ Some (mentions_for one.0.contents (all_in one.1.order)) =
     λ i one at.
     let one_shown = (All-at CanBeUsed others i one.0 used (at-place (λ (o : Listed). o.0) listed i one at)).shown in
-    let stands : slice_get blocks (suc i) ≡ Some (reading_of_text (list_one one)) = at-place reading_of_text (map list_one listed) i (list_one one) (at-place list_one listed i one at) in
+    let stands : slice_get blocks (suc i) ≡ Some (reading_of_text (list_one one)) =
+    at-place reading_of_text (map list_one listed) i (list_one one) (at-place list_one listed i one at) in
     ap (option_and_then (expand (owner_block blocks) (length blocks))) (owned-at blocks (first_name one.0.names) (suc i) (owns i one at) ∙ stands)
-    ∙ listing-expands ordered read (owner_block blocks) (length (map reading_of_text (map list_one listed))) one.0.names one_shown.names one.0.contents one.1 one_shown.listable one_shown.holds in
+    ∙ listing-expands ordered read (owner_block blocks) (length (map reading_of_text (map list_one listed))) one.0.names one_shown.names one.0.contents
+    one.1 one_shown.listable one_shown.holds in
     let ms = mentions_for table (all_in layout.order) ++ used_mentions listed in
     let expanded : expansion blocks block ≡ Some ms =
     own-at (owner_block blocks) (length blocks) block table (all_in layout.order) (uses_of others) is.none_wrong is.says

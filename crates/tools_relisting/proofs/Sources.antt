@@ -14,7 +14,8 @@ front-bytes (x ∷ s) t h = (h.0, front-bytes s t h.1)
 each-bytes : (texts : List (List ℕ)) → OfBytes (concat texts) → All AreBytes texts
 each-bytes [] h = All-nil AreBytes
 each-bytes (text ∷ texts) h =
-    All-cons AreBytes text texts (All-from_recursion (λ b. b < 256) text (front-bytes text (concat texts) h)) (each-bytes texts (behind-bytes text (concat texts) h))
+    All-cons AreBytes text texts (All-from_recursion (λ b. b < 256) text (front-bytes text (concat texts) h))
+    (each-bytes texts (behind-bytes text (concat texts) h))
 
 pub of_sources : BlocksAreSingle → EntriesOfSources
 of_sources single source preface texts at entry shown are ends cut is reads =

@@ -31,8 +31,14 @@ tail-headless found spells _ _ can (same_line item items tail laid) =
     let readable = item-readable found spells item (All-head CanBeListed item items can) in
     (refl, inline-headless 32 (item_text item) tail refl readable.inline (tail-headless found spells items tail (All-tail CanBeListed item items can) laid))
 tail-headless found spells _ _ can (new_line item items tail laid) =
-    let readable = item-readable found spells item (All-head CanBeListed item items can) in
-    (refl, (refl, inline-headless 9 (item_text item) tail refl readable.inline (tail-headless found spells items tail (All-tail CanBeListed item items can) laid)))
+    let readable = item-readable found spells item (All-head CanBeListed item items can) in (
+      refl,
+      (
+        refl,
+        inline-headless 9 (item_text item) tail refl readable.inline
+            (tail-headless found spells items tail (All-tail CanBeListed item items can) laid),
+      ),
+    )
 
 tail-ends : (items : List Said) (tail : List ℕ) → IsTail items tail → last_byte 44 tail ≡ 10
 tail-ends _ _ no_more = refl
@@ -62,7 +68,8 @@ field-head (x ∷ xs) tail names good none =
 
 pub parts_stand : EveryNameIsFound → WrittenSpells → PartsAreBlocks
 parts_stand found spells field names items text good can is =
-    let head : HasOneHead text = subst HasOneHead (sym is.whole) (field-head field is.tail names good (tail-headless found spells items is.tail can is.is_tail)) in
+    let head : HasOneHead text =
+    subst HasOneHead (sym is.whole) (field-head field is.tail names good (tail-headless found spells items is.tail can is.is_tail)) in
     record {
       cut = record { whole = sym (append-nil text); front = tt; each = (refl, head, tt) };
       ends = ap (last_byte 0) is.whole ∙ last_byte-append 0 field (44 ∷ is.tail) ∙ tail-ends items is.tail is.is_tail;

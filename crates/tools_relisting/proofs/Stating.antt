@@ -20,7 +20,8 @@ use Rattle.ti_source.specs.Reading.{Said, said_flag, said_number, said_text, sai
 use Rattle.ti_source.specs.Parsing.{accepted, Judges}
 use Rattle.ti_source.proofs.JudgingLaws.{judged_import, judged_flag, judged_cancel, judged_number, judged_text}
 use Rattle.ti_spelling.specs.Spelling.{is_empty, spelling_of, AreBytes, HasNoNul, WrittenSpells}
-use Rattle.tools_relisting.proofs.Cutting.{is_clear, is_whole, is_inline, has_no_cut, no_cut-whole, clear-cons, clear-append, clear-whole, written_from-clear, written_from-inline, is_plain}
+use Rattle.tools_relisting.proofs.Cutting.{is_clear, is_whole, is_inline, has_no_cut, no_cut-whole, clear-cons, clear-append, clear-whole}
+use Rattle.tools_relisting.proofs.Cutting.{written_from-clear, written_from-inline, is_plain}
 use Rattle.tools_relisting.proofs.Unfolding.{is_dark}
 use Rattle.tools_relisting.proofs.Words.{is_word_byte, is_word, word_byte-has, word-has, capability-name, decimal-digits, numeral-of}
 
@@ -105,10 +106,12 @@ number-readable found c n is kind small =
     let digits = decimal-digits n (omega arith) in
     record {
       dark = word-dark name (35 ∷ ds) good.some good.word;
-      inline = list_all-append (λ b. not (b == 10)) name (35 ∷ ds) ∙ and_from (is_inline name) (is_inline ds) (word-inline name good.word) (word-inline ds digits.word);
+      inline = list_all-append (λ b. not (b == 10)) name (35 ∷ ds)
+          ∙ and_from (is_inline name) (is_inline ds) (word-inline name good.word) (word-inline ds digits.word);
       whole = λ before.
           no_cut-whole before (name ++ 35 ∷ ds)
-          (list_all-append (λ b. not (b == 44) && not (b == 92)) name (35 ∷ ds) ∙ and_from (has_no_cut name) (has_no_cut ds) (word-no_cut name good.word) (word-no_cut ds digits.word));
+          (list_all-append (λ b. not (b == 44) && not (b == 92)) name (35 ∷ ds)
+          ∙ and_from (has_no_cut name) (has_no_cut ds) (word-no_cut name good.word) (word-no_cut ds digits.word));
       statement = record { name = name; claim = claims_number ds };
       states = number_item name ds (word-no_mark name good.word) (word-enabled name (35 ∷ ds) good.some good.word);
       judges = judged_number name ds c n (found c is) kind (numeral-of n ds digits) small;
@@ -139,8 +142,10 @@ text-readable found spells c t is kind are none =
     λ before. clear-append before name (61 ∷ value) (word-clear before name good.word) (clear-cons _ 61 value refl (written_from-clear true 0 61 t refl are)) in
     record {
       dark = word-dark name (61 ∷ value) good.some good.word;
-      inline = list_all-append (λ b. not (b == 10)) name (61 ∷ value) ∙ and_from (is_inline name) (is_inline value) (word-inline name good.word) (written_from-inline true 0 t are);
-      whole = λ before. subst (λ w. is_whole before w ≡ true) (append-nil (name ++ 61 ∷ value)) (clear-whole before (name ++ 61 ∷ value) [] (clear before) refl);
+      inline = list_all-append (λ b. not (b == 10)) name (61 ∷ value)
+          ∙ and_from (is_inline name) (is_inline value) (word-inline name good.word) (written_from-inline true 0 t are);
+      whole = λ before. subst (λ w. is_whole before w ≡ true) (append-nil (name ++ 61 ∷ value))
+          (clear-whole before (name ++ 61 ∷ value) [] (clear before) refl);
       statement = record { name = name; claim = claims_text value };
       states = text_item name value (word-no_mark name good.word) (word-enabled name (61 ∷ value) good.some good.word);
       judges = judged_text name value t c good.other (found c is) kind (spells t are none);
@@ -177,14 +182,16 @@ name-inline : (w : List ℕ) → All IsNameByte w → is_inline w ≡ true
 name-inline [] h = refl
 name-inline (x ∷ xs) h =
     let byte : IsNameByte x = All-head IsNameByte x xs h in
-    and_from (not (x == 10)) (is_inline xs) (not_from_false (x == 10) (ne_eqb x 10 (λ e. omega (arith, e, byte.0)))) (name-inline xs (All-tail IsNameByte x xs h))
+    and_from (not (x == 10)) (is_inline xs) (not_from_false (x == 10) (ne_eqb x 10 (λ e. omega (arith, e, byte.0))))
+    (name-inline xs (All-tail IsNameByte x xs h))
 
 name-no_cut : (w : List ℕ) → All IsNameByte w → All (λ byte. byte ≢ 92) w → has_no_cut w ≡ true
 name-no_cut [] h none = refl
 name-no_cut (x ∷ xs) h none =
     let byte : IsNameByte x = All-head IsNameByte x xs h in
     and_from (not (x == 44) && not (x == 92)) (has_no_cut xs)
-    (and_from (not (x == 44)) (not (x == 92)) (not_from_false (x == 44) (ne_eqb x 44 byte.2)) (not_from_false (x == 92) (ne_eqb x 92 (All-head (λ byte. byte ≢ 92) x xs none))))
+    (and_from (not (x == 44)) (not (x == 92)) (not_from_false (x == 44) (ne_eqb x 44 byte.2))
+    (not_from_false (x == 92) (ne_eqb x 92 (All-head (λ byte. byte ≢ 92) x xs none))))
     (name-no_cut xs (All-tail IsNameByte x xs h) (All-tail (λ byte. byte ≢ 92) x xs none))
 
 pub import-readable : (name : List ℕ) → IsLookupName name → All (λ byte. byte ≢ 92) name → IsReadable (codes "use=" ++ name) (said_import name)

@@ -1,5 +1,6 @@
 -- In a block of bytes each text that is read is of bytes.
-use Rattle.std.proofs.Common.{ℕ, ◌+◌, ◌<◌, Bool, true, false, ◌==◌, ◌||◌, ◌&&◌, List, [], ◌∷◌, ◌++◌, cond, Option, Some, None, Result, Ok, Err, sym, subst, inl, inr}
+use Rattle.std.proofs.Common.{ℕ, ◌+◌, ◌<◌, Bool, true, false, ◌==◌, ◌||◌, ◌&&◌, List, [], ◌∷◌, ◌++◌, cond, Option, Some, None, Result, Ok, Err, sym, subst}
+use Rattle.std.proofs.Common.{inl, inr}
 use Rattle.std.specs.List.{All, AllByRecursion}
 use Rattle.std.proofs.lemmas.List.Elements.{All-from_recursion, recursion_from_All, All-nil, All-cons}
 use Rattle.std.proofs.lemmas.Bool.{cases_Bool}
@@ -12,12 +13,14 @@ use Rattle.ti_text.specs.WhiteSpace.{is_white_space}
 use Rattle.ti_source.specs.Folding.{PlacedByte}
 use Rattle.ti_source.specs.inside.Folding.{in_comment, folding_of}
 use Rattle.ti_source.specs.Items.{bytes, Begins, all_field, field_and_rest, AreItems, last_item, item_ends, pair_of_bytes, single_byte, without_front, piece_of}
-use Rattle.ti_source.specs.Items.{Claim, claims_flag, claims_number, claims_text, claims_cancel, Statement, States, empty_item, disabled_item, number_item, text_item, cancel_item, flag_item}
+use Rattle.ti_source.specs.Items.{Claim, claims_flag, claims_number, claims_text, claims_cancel, Statement, States, empty_item, disabled_item, number_item}
+use Rattle.ti_source.specs.Items.{text_item, cancel_item, flag_item}
 use Rattle.ti_source.specs.Reading.{Said, said_flag, said_number, said_text, said_cancel, said_import, ReadItem}
 use Rattle.ti_source.specs.Parsing.{reading_of_text, HasReading}
 use Rattle.ti_source.specs.Judging.{Judged, item_ignored, item_judged, AreJudged, no_item, item_and_rest, items_from}
 use Rattle.ti_source.specs.Verdicts.{Verdict, accepted, accepted_odd, refused, is_import, ReadClaim, IsReadAs}
-use Rattle.ti_source.specs.Verdicts.{flag_read, number_read_as, text_read_as, cancel_read, number_verdict, text_verdict, fitting_verdict, named_verdict, verdict_on, Judges, items_by}
+use Rattle.ti_source.specs.Verdicts.{flag_read, number_read_as, text_read_as, cancel_read, number_verdict, text_verdict, fitting_verdict, named_verdict}
+use Rattle.ti_source.specs.Verdicts.{verdict_on, Judges, items_by}
 use Rattle.ti_source.proofs.FoldingLaws.{only_folded}
 use Rattle.ti_spelling.specs.declared.spelling.UnescapeError.{UnescapeError}
 use Rattle.ti_spelling.specs.Spelling.{AreBytes, SpellsAs, ValuesAreSound}
@@ -162,7 +165,8 @@ verdict-items ordinal line (refused code) found h later = later
 reads-bytes : ValuesAreSound → (ordinal : ℕ) (items : List (List PlacedByte)) (outcomes : List (Option Judged)) → AreJudged items outcomes
     → AllByRecursion ArePlacedBytes items → All ItemSaysBytes (items_from ordinal outcomes)
 reads-bytes sound ordinal _ _ no_item h = All-nil ItemSaysBytes
-reads-bytes sound ordinal _ _ (item_and_rest {items = items} {outcomes = outcomes} (item_ignored item states) later) h = reads-bytes sound (ordinal + 1) items outcomes later h.1
+reads-bytes sound ordinal _ _ (item_and_rest {items = items} {outcomes = outcomes} (item_ignored item states) later) h =
+    reads-bytes sound (ordinal + 1) items outcomes later h.1
 reads-bytes sound ordinal _ _ (item_and_rest {items = items} {outcomes = outcomes} (item_judged item s v states judges) later) h =
     let claim = states-bytes (piece_of item).text (Some s) states (front-bytes item h.0) in
     verdict-items ordinal (piece_of item).line v (items_from (ordinal + 1) outcomes) (judges-bytes sound s.name s.claim v judges claim)
@@ -173,4 +177,5 @@ parsed-bytes sound each block h =
     let has = each block in
     let text = subst ArePlacedBytes (sym (only_folded block has.text has.folds)) (folded-bytes block h) in
     subst (λ r. All ItemSaysBytes r.items) (sym has.is)
-    (reads-bytes sound 0 has.items has.judged has.are_judged (items-bytes 44 has.rest has.items has.cut (rest-bytes has.text has.field has.rest has.begins text)))
+    (reads-bytes sound 0 has.items has.judged has.are_judged (items-bytes 44 has.rest has.items has.cut
+    (rest-bytes has.text has.field has.rest has.begins text)))

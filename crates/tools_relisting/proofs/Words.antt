@@ -75,7 +75,8 @@ name-parts n h =
 pub capability-name : (c : Capability) → IsCapability c → IsName (name_of c)
 capability-name c is =
     name-parts (name_of c)
-    (All-get_or (λ n. is_name n ≡ true) (names c.kind) c.index [] (omega (arith, names-count c.kind)) (AllPass-from_list_all is_name (names c.kind) (names-good c.kind)))
+    (All-get_or (λ n. is_name n ≡ true) (names c.kind) c.index [] (omega (arith, names-count c.kind))
+    (AllPass-from_list_all is_name (names c.kind) (names-good c.kind)))
 
 -- ---- numbers
 

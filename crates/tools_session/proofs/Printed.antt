@@ -37,7 +37,8 @@ positions_text-some positions others first is = ap positions_text is ∙ append_
 
 -- the positions before one, and all of them
 pub next_positions-front : (positions : List ℕ) (i : ℕ) → i < length positions
-    → flat_map next_position positions ≡ (flat_map next_position (take i positions) ++ next_position (get_or positions i 0)) ++ flat_map next_position (drop (i + 1) positions)
+    → flat_map next_position positions ≡ (flat_map next_position (take i positions) ++ next_position (get_or positions i 0))
+    ++ flat_map next_position (drop (i + 1) positions)
 next_positions-front positions i low =
     ap (flat_map next_position) (sym (take-append-drop (i + 1) positions)) ∙ flat_map-append next_position (take (i + 1) positions) (drop (i + 1) positions)
     ∙ ap (λ (t : List ℕ). t ++ flat_map next_position (drop (i + 1) positions)) (ap (flat_map next_position) (take_more positions i 0 low)

@@ -1,5 +1,6 @@
 -- A newline that is put at the end of a source, and the blocks before and after it is.
-use Rattle.std.proofs.Common.{◌≡◌, ◌⊎◌, ℕ, suc, ◌+◌, ◌-◌, ◌<◌, ◌≤◌, ◌==◌, true, false, List, [], ◌∷◌, ◌++◌, length, map, get_or, Some, slice_get, refl, sym, ap, ap₂, ◌∙◌, inl, inr, arith}
+use Rattle.std.proofs.Common.{◌≡◌, ◌⊎◌, ℕ, suc, ◌+◌, ◌-◌, ◌<◌, ◌≤◌, ◌==◌, true, false, List, [], ◌∷◌, ◌++◌, length, map, get_or, Some, slice_get, refl, sym}
+use Rattle.std.proofs.Common.{ap, ap₂, ◌∙◌, inl, inr, arith}
 use Rattle.std.proofs.lemmas.Bool.{and_parts, cases_Bool, eqb-true, eq-eqb}
 use Rattle.std.proofs.lemmas.Option.{slice_get-get_or}
 use Rattle.ti_source.specs.Cutting.{begins_head, is_head, last_byte, front_of, blocks_from_head}
@@ -102,7 +103,8 @@ block-newline x xs f =
       | inr part ↦ ap (λ r. x ∷ r) part.0 ∙ sym (ended-of_newline (x ∷ front_of x xs) part.1)
     ]
 
-blocks_of-newline : (before : ℕ) (s : List ℕ) → (last_byte before s == 10) ≡ false → blocks_from_head before (s ++ 10 ∷ []) ≡ map with_last_newline (blocks_from_head before s)
+blocks_of-newline : (before : ℕ) (s : List ℕ) → (last_byte before s == 10) ≡ false → blocks_from_head before (s ++ 10 ∷ [])
+    ≡ map with_last_newline (blocks_from_head before s)
 blocks_of-newline before [] f = rw (no_head_at_newline before f)
 blocks_of-newline before (x ∷ xs) f =
     elim (cases_Bool (is_head before x)) [
@@ -159,10 +161,12 @@ first_after-ended source preface lines is is_ended e =
     let same : with_last_newline preface ≡ preface = rw is_ended in
     ap (λ (n : ℕ). n + 1) (e ∙ ap line_count (sym same ∙ ap with_last_newline is ∙ sym (preface_of-ended source)))
 
-pub first_after-open : LinesAdd → (source preface : List ℕ) (lines : ℕ) → preface ≡ front_of 10 source → (last_byte 10 preface == 10) ≡ false → lines ≡ line_count preface
+pub first_after-open : LinesAdd → (source preface : List ℕ) (lines : ℕ) → preface ≡ front_of 10 source → (last_byte 10 preface == 10) ≡ false
+    → lines ≡ line_count preface
     → lines + 2 ≡ first_line source
 first_after-open add source preface lines is is_open e =
     let same : with_last_newline preface ≡ preface ++ 10 ∷ [] = rw is_open in
-    let all : line_count (preface_of source) ≡ line_count (preface ++ 10 ∷ []) = ap line_count (preface_of-ended source ∙ ap with_last_newline (sym is) ∙ same) in
+    let all : line_count (preface_of source) ≡ line_count (preface ++ 10 ∷ []) =
+    ap line_count (preface_of-ended source ∙ ap with_last_newline (sym is) ∙ same) in
     let one : line_count (10 ∷ []) ≡ 1 = refl in
     omega (arith, e, all, add preface (10 ∷ []), one)

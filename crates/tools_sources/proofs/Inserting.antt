@@ -37,7 +37,8 @@ taken_by_run source blocks (block ∷ rest) (Accepted ∷ outcomes) last to run 
 taken_by_run source blocks (block ∷ rest) (Refused error ∷ outcomes) last to run = tt
 
 -- the same of all blocks of a source that ends with a newline
-pub inserted_by_run : (source : List ℕ) (changes : List Change) (outcomes : List Outcome) (last : List (List ℕ)) → All OneBlock (source_texts source) → last_byte 10 source ≡ 10
+pub inserted_by_run : (source : List ℕ) (changes : List Change) (outcomes : List Outcome) (last : List (List ℕ)) → All OneBlock (source_texts source)
+    → last_byte 10 source ≡ 10
     → changes ≡ insertions 0 (blocks_from_head 10 source) → EditRun [] changes outcomes last → IsRunOf source last (first_refusal outcomes)
 inserted_by_run source changes outcomes last single is_ended whole run =
     let texts : blocks_from_head 10 source ≡ source_texts source = ap (blocks_from_head 10) (sym (ended-of_newline source is_ended)) in
@@ -46,10 +47,16 @@ inserted_by_run source changes outcomes last single is_ended whole run =
 
 -- one more insertion is made of the blocks that are left
 pub one_more : (edits : List Edit) (edit : Edit) (text : List ℕ) (rest : List (List ℕ)) (all : List Change) → change_of edit ≡ insertion (length edits) text
-    → map change_of edits ++ insertions (length edits) (text ∷ rest) ≡ all → map change_of (edits ++ edit ∷ []) ++ insertions (length (edits ++ edit ∷ [])) rest ≡ all
+    → map change_of edits ++ insertions (length edits) (text ∷ rest) ≡ all → map change_of (edits ++ edit ∷ [])
+    ++ insertions (length (edits ++ edit ∷ [])) rest ≡ all
 one_more edits edit text rest all is e =
     let longer : length (edits ++ edit ∷ []) ≡ suc (length edits) = length-append edits (edit ∷ []) ∙ (omega arith) in
-    rw (map-append change_of edits (edit ∷ []), append_assoc (map change_of edits) (change_of edit ∷ []) (insertions (length (edits ++ edit ∷ [])) rest), is, longer) e
+    rw (
+      map-append change_of edits (edit ∷ []),
+      append_assoc (map change_of edits) (change_of edit ∷ []) (insertions (length (edits ++ edit ∷ [])) rest),
+      is,
+      longer,
+    ) e
 
 -- a newline that is put at the end of a source without one changes nothing
 pub newline_changes_nothing : (source : List ℕ) → (last_byte 10 source == 10) ≡ false → with_last_newline (source ++ 10 ∷ []) ≡ with_last_newline source

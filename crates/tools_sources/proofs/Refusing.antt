@@ -1,6 +1,7 @@
 -- Going over the blocks of a source: those before a place are taken, and the next is, or is
 -- refused.
-use Rattle.std.proofs.Common.{◌≡◌, ◌⊎◌, ◌==◌, ℕ, suc, ◌+◌, ◌<◌, ◌≤◌, All, false, true, List, [], ◌∷◌, ◌++◌, length, map, take, refl, sym, ap, ap₂, add-zero, zero-add, subst, ◌∙◌, inl, inr, arith}
+use Rattle.std.proofs.Common.{◌≡◌, ◌⊎◌, ◌==◌, ℕ, suc, ◌+◌, ◌<◌, ◌≤◌, All, false, true, List, [], ◌∷◌, ◌++◌, length, map, take, refl, sym, ap, ap₂, add-zero}
+use Rattle.std.proofs.Common.{zero-add, subst, ◌∙◌, inl, inr, arith}
 use Rattle.std.specs.List.{concat, sum_by}
 use Rattle.std.specs.Prelude.{Some, None, nat_le, nat_lt}
 use Rattle.std.proofs.lemmas.Bool.{cases_Bool, eqb-true, le-leb, le-ltb, lt-leb, lt-ltb}
@@ -16,7 +17,9 @@ use Rattle.base_meaning.specs.declared.edits.EditError.TheVariants.{Position, To
 use Rattle.base_meaning.proofs.Causes.{one_cause, refused_unsound}
 use Rattle.tools_sources.specs.declared.source_error.SourceError.{SourceError}
 use Rattle.tools_sources.specs.declared.source_error.SourceError.TheVariants as source_error
-use Rattle.tools_sources.specs.Sources.{AreTaken, IsFirstRefused, IsLoadRefusal, IsSourceRefusal, RefusalsAreComputed, SourcesHaveOneRefusal, TakenSourcesAreNotRefused, TakenSourcesHaveNone, first_line, line_after, preface_of, refusal_from, source_refusal, source_texts, with_last_newline}
+use Rattle.tools_sources.specs.Sources.{AreTaken, IsFirstRefused, IsLoadRefusal, IsSourceRefusal, RefusalsAreComputed, SourcesHaveOneRefusal}
+use Rattle.tools_sources.specs.Sources.{TakenSourcesAreNotRefused, TakenSourcesHaveNone, first_line, line_after, preface_of, refusal_from, source_refusal}
+use Rattle.tools_sources.specs.Sources.{source_texts, with_last_newline}
 use Rattle.tools_sources.proofs.Ending.{AllButLastEnded, blocks_of-all_but_last, last_byte-newline, preface_of-front, texts_of-blocks}
 
 -- ---- two places of a list
@@ -52,10 +55,12 @@ pub taken_none : AreTaken []
 taken_none [] block back e = absurd (cc)
 taken_none (x ∷ front) block back e = absurd (cc)
 
-pub taken_more : (blocks : List (List ℕ)) (block : List ℕ) → AreTaken blocks → IsSoundEdit blocks (insertion (length blocks) block) → AreTaken (blocks ++ block ∷ [])
+pub taken_more : (blocks : List (List ℕ)) (block : List ℕ) → AreTaken blocks → IsSoundEdit blocks (insertion (length blocks) block)
+    → AreTaken (blocks ++ block ∷ [])
 taken_more blocks block before here front other back e =
     elim (places_apart blocks block [] front other back e) [
-      | inl same ↦ subst (λ (b : List ℕ). IsSoundEdit front (insertion (length front) b)) same.1 (subst (λ (bs : List (List ℕ)). IsSoundEdit bs (insertion (length bs) block)) same.0 here)
+      | inl same ↦ subst (λ (b : List ℕ). IsSoundEdit front (insertion (length front) b)) same.1
+          (subst (λ (bs : List (List ℕ)). IsSoundEdit bs (insertion (length bs) block)) same.0 here)
       | inr apart ↦ elim apart [
         | inl later ↦
             let n : length (blocks ++ block ∷ []) ≡ length (front ++ other ∷ back) = ap (λ (bs : List (List ℕ)). length bs) e in
@@ -68,17 +73,20 @@ taken_more blocks block before here front other back e =
 -- ---- what comes of a source is determined
 
 -- no block before one that is refused is refused itself
-earlier_taken : (blocks : List (List ℕ)) (cause other : EditError) (r : IsFirstRefused blocks cause) (s : IsFirstRefused blocks other) (mid : List (List ℕ)) → (cause ≡ Memory → ⊥) → s.front ≡ r.front ++ r.block ∷ mid → ⊥
+earlier_taken : (blocks : List (List ℕ)) (cause other : EditError) (r : IsFirstRefused blocks cause) (s : IsFirstRefused blocks other) (mid : List (List ℕ))
+    → (cause ≡ Memory → ⊥) → s.front ≡ r.front ++ r.block ∷ mid → ⊥
 earlier_taken blocks cause other r s mid apart e =
     refused_unsound r.front (insertion (length r.front) r.block) cause apart r.refused (s.before r.front r.block mid e)
 
 -- the first refusal of blocks is the same, if no cause is out of memory
-same_refusal : (blocks : List (List ℕ)) (cause other : EditError) (r : IsFirstRefused blocks cause) (s : IsFirstRefused blocks other) → (cause ≡ Memory → ⊥) → (other ≡ Memory → ⊥) → (cause ≡ other) × (r.front ≡ s.front)
+same_refusal : (blocks : List (List ℕ)) (cause other : EditError) (r : IsFirstRefused blocks cause) (s : IsFirstRefused blocks other) → (cause ≡ Memory → ⊥)
+    → (other ≡ Memory → ⊥) → (cause ≡ other) × (r.front ≡ s.front)
 same_refusal blocks cause other r s apart apart' =
     elim (places_apart r.front r.block r.back s.front s.block s.back (sym r.whole ∙ s.whole)) [
       | inl same ↦ (
         one_cause r.front (insertion (length r.front) r.block) cause other r.refused
-            (subst (λ (b : List ℕ). IsRefusal r.front (insertion (length r.front) b) other) (sym same.1) (subst (λ (bs : List (List ℕ)). IsRefusal bs (insertion (length bs) s.block) other) (sym same.0) s.refused)),
+            (subst (λ (b : List ℕ). IsRefusal r.front (insertion (length r.front) b) other) (sym same.1)
+            (subst (λ (bs : List (List ℕ)). IsRefusal bs (insertion (length bs) s.block) other) (sym same.0) s.refused)),
         same.0,
       )
       | inr differ ↦ elim differ [
@@ -140,7 +148,8 @@ taken_to_end source blocks to =
     let all : source_texts source ≡ blocks = to.whole ∙ append-nil blocks in
     (sym all, subst AreTaken (sym all) to.taken)
 
-abbrev first_refused : (source : List ℕ) (blocks : List (List ℕ)) (block : List ℕ) (rest : List (List ℕ)) (cause : EditError) → IsTakenTo source blocks (block ∷ rest)
+abbrev first_refused : (source : List ℕ) (blocks : List (List ℕ)) (block : List ℕ) (rest : List (List ℕ)) (cause : EditError)
+    → IsTakenTo source blocks (block ∷ rest)
     → IsRefusal blocks (insertion (length blocks) block) cause → IsFirstRefused (source_texts source) cause
 first_refused source blocks block rest cause to refused = record {
   front = blocks;
@@ -152,7 +161,8 @@ first_refused source blocks block rest cause to refused = record {
 }
 
 -- if a database does not take the blocks, memory ran out, or the source is refused
-pub load_refused : (source : List ℕ) (error : EditError) → IsLoadRefusal source error → (error ≡ Memory) ⊎ ((refusal : SourceError) × IsSourceRefusal source refusal)
+pub load_refused : (source : List ℕ) (error : EditError) → IsLoadRefusal source error → (error ≡ Memory)
+    ⊎ ((refusal : SourceError) × IsSourceRefusal source refusal)
 load_refused source Position refused = absurd refused
 load_refused source TooLong refused = inr (source_error.BlockTooLong (line_after source refused.front), (refused, refl))
 load_refused source NotOneBlock refused = absurd refused
@@ -216,7 +226,8 @@ line_next : LinesAdd → (source seen : List ℕ) (blocks : List (List ℕ)) (bl
 line_next add source seen blocks block rest ends (inl none) = absurd (cc)
 line_next add source seen blocks block [] ends (inr e) = inl refl
 line_next add source seen blocks block (next ∷ rest) ends (inr e) =
-    let one : sum_by line_count (blocks ++ block ∷ []) ≡ sum_by line_count blocks + line_count block = sum_by-append line_count blocks (block ∷ []) ∙ (omega arith) in
+    let one : sum_by line_count (blocks ++ block ∷ []) ≡ sum_by line_count blocks + line_count block =
+    sum_by-append line_count blocks (block ∷ []) ∙ (omega arith) in
     inr (rw ends.0 (omega (arith, e, one, add seen block)))
 
 -- the next block is short enough, and not one too many
@@ -252,12 +263,15 @@ pub checked_too_long : (source : List ℕ) (offset count : ℕ) (block : List �
     → IsCheckedTo source offset count (block ∷ rest) → (length (with_last_newline block) ≤ block_bytes_max → ⊥) → line ≡ line_count (take offset source) + 1
     → IsSourceRefusal source (source_error.BlockTooLong line)
 checked_too_long source offset count block rest line c long is_line =
-    let end : length c.blocks ≤ length c.blocks = omega arith in
-    (first_refused source c.blocks (with_last_newline block) (map with_last_newline rest) TooLong c.to (end, long), line_seen source offset count block rest line c is_line)
+    let end : length c.blocks ≤ length c.blocks = omega arith in (
+      first_refused source c.blocks (with_last_newline block) (map with_last_newline rest) TooLong c.to (end, long),
+      line_seen source offset count block rest line c is_line,
+    )
 
 -- the next block is one too many
 pub checked_too_many : (source : List ℕ) (offset count : ℕ) (block : List ℕ) (rest : List (List ℕ)) (line : ℕ)
-    → IsCheckedTo source offset count (block ∷ rest) → length (with_last_newline block) ≤ block_bytes_max → blocks_max ≤ count → line ≡ line_count (take offset source) + 1
+    → IsCheckedTo source offset count (block ∷ rest) → length (with_last_newline block) ≤ block_bytes_max → blocks_max ≤ count
+    → line ≡ line_count (take offset source) + 1
     → IsSourceRefusal source (source_error.TooManyBlocks line)
 checked_too_many source offset count block rest line c short full is_line =
     let end : length c.blocks ≤ length c.blocks = omega arith in (
@@ -302,7 +316,8 @@ passed line count (text ∷ front) rest fit =
     let here = fit [] text front refl in
     let short : nat_lt block_bytes_max (length text) ≡ false = le-ltb block_bytes_max (length text) here.0 in
     let room : nat_le blocks_max count ≡ false = lt-leb blocks_max count (omega (arith, here.1)) in
-    let lines : line + line_count text + sum_by line_count front ≡ line + sum_by line_count (text ∷ front) = omega (arith, sum_by-append line_count (text ∷ []) front) in
+    let lines : line + line_count text + sum_by line_count front ≡ line + sum_by line_count (text ∷ front) =
+    omega (arith, sum_by-append line_count (text ∷ []) front) in
     let counts : suc count + length front ≡ count + length (text ∷ front) = omega arith in
     rw (short, room) (passed (line + line_count text) (suc count) front rest (fit_later count text front fit)
     ∙ ap₂ (λ (l k : ℕ). refusal_from l k rest) lines counts)
@@ -311,12 +326,14 @@ pub taken_have_none : TakenSourcesHaveNone
 taken_have_none source taken = none_of-fit (first_line source) 0 (source_texts source) (taken_fit (source_texts source) taken)
 
 -- the refusal of the block after those that fit
-found_long : (line count : ℕ) (block : List ℕ) (back : List (List ℕ)) → (length block ≤ block_bytes_max → ⊥) → refusal_from line count (block ∷ back) ≡ Some (source_error.BlockTooLong line)
+found_long : (line count : ℕ) (block : List ℕ) (back : List (List ℕ)) → (length block ≤ block_bytes_max → ⊥)
+    → refusal_from line count (block ∷ back) ≡ Some (source_error.BlockTooLong line)
 found_long line count block back long =
     let t : nat_lt block_bytes_max (length block) ≡ true = lt-ltb block_bytes_max (length block) (omega (arith, long)) in
     rw t
 
-found_many : (line count : ℕ) (block : List ℕ) (back : List (List ℕ)) → length block ≤ block_bytes_max → (count < blocks_max → ⊥) → refusal_from line count (block ∷ back) ≡ Some (source_error.TooManyBlocks line)
+found_many : (line count : ℕ) (block : List ℕ) (back : List (List ℕ)) → length block ≤ block_bytes_max → (count < blocks_max → ⊥)
+    → refusal_from line count (block ∷ back) ≡ Some (source_error.TooManyBlocks line)
 found_many line count block back short full =
     let f : nat_lt block_bytes_max (length block) ≡ false = le-ltb block_bytes_max (length block) short in
     let t : nat_le blocks_max count ≡ true = le-leb blocks_max count (omega (arith, full)) in

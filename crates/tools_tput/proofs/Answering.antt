@@ -212,7 +212,8 @@ module _ (entry : Entry) (rate : ℕ) (cap : List ℕ) (words : List (List ℕ))
   reset_so : (b : Bool) → bytes_eq cap (codes "longname") ≡ false → bytes_eq cap (codes "init") ≡ false → bytes_eq cap (codes "reset") ≡ b →
       AnswersName entry rate cap words statics (cond b (of_strings (reset_strings entry)) of_cap)
   reset_so true long init reset = of_reset long init reset (all_so (line_at_rate entry rate) (reset_strings entry) statics)
-  reset_so false long init reset = of_capability long init reset (capability_so (line_at_rate entry rate) cap words statics entry.contents (capability_named cap))
+  reset_so false long init reset =
+      of_capability long init reset (capability_so (line_at_rate entry rate) cap words statics entry.contents (capability_named cap))
 
   init_so : (b : Bool) → bytes_eq cap (codes "longname") ≡ false → bytes_eq cap (codes "init") ≡ b →
       AnswersName entry rate cap words statics (cond b (of_strings (init_strings entry))

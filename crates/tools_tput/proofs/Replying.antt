@@ -15,7 +15,8 @@ use Rattle.ti_layout.specs.View.{shown_text}
 use Rattle.tools_tput.specs.Entries.{line_at_rate}
 use Rattle.tools_tput.specs.Parameters.{parameters}
 use Rattle.tools_tput.specs.Results.{Reply, bad_status, init_strings, reset_strings}
-use Rattle.tools_tput.specs.inside.Results.{text_reply, content_reply, capability_reply, named_reply, padded_texts, padded_text, sent_reply, expansion_reply, string_reply, tput_result}
+use Rattle.tools_tput.specs.inside.Results.{text_reply, content_reply, capability_reply, named_reply, padded_texts, padded_text, sent_reply}
+use Rattle.tools_tput.specs.inside.Results.{expansion_reply, string_reply, tput_result}
 use Rattle.tools_tput.specs.Runs.{RunState, bad_step, reply_step, words_of}
 use Rattle.tools_tput.specs.inside.Runs.{command_step, line_step}
 

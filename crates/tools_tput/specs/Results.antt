@@ -134,7 +134,8 @@ pub data AnswersName (entry : Entry) (rate : ℕ) (cap : List ℕ) (words : List
   of_reset : {answer : Reply} → bytes_eq cap (codes "longname") ≡ false → bytes_eq cap (codes "init") ≡ false → bytes_eq cap (codes "reset") ≡ true →
       SendsAll (line_at_rate entry rate) (reset_strings entry) statics answer → AnswersName entry rate cap words statics answer
   of_capability : {answer : Reply} → bytes_eq cap (codes "longname") ≡ false → bytes_eq cap (codes "init") ≡ false → bytes_eq cap (codes "reset") ≡ false →
-      AnswersCapability (line_at_rate entry rate) cap words statics entry.contents (capability_named cap) answer → AnswersName entry rate cap words statics answer
+      AnswersCapability (line_at_rate entry rate) cap words statics entry.contents (capability_named cap) answer
+      → AnswersName entry rate cap words statics answer
 
 -- What a command answers; None is bad usage: no word, or more than nine parameters.
 pub data Answers (entry : Entry) (rate : ℕ) (statics : List ℤ) : List (List ℕ) → Option Reply → Type 0 where

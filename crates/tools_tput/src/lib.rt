@@ -17,5 +17,6 @@ mod words;
 
 pub use commands::tput;
 pub use entries::terminal_line;
+pub use parameters::parameters_of;
 pub use replies::TputOutcome;
 pub use streaming::tput_lines;

@@ -52,7 +52,7 @@ fn parameter_at<'a>(cap: &[u8], words: &[&'a [u8]], index: usize) -> Value<'a>
 /// and any other is a string. The second word of `pfkey`, `pfloc`, `pfx` and `pln`, and the second
 /// and third of `pfxl`, are always strings.
 #[tactic(auto, unfolding(crate::specs::Parameters::parameters))]
-pub fn parameters<'a>(cap: &[u8], words: &[&'a [u8]]) -> [Value<'a>; PARAMETERS_MAX]
+pub fn parameters_of<'a>(cap: &[u8], words: &[&'a [u8]]) -> [Value<'a>; PARAMETERS_MAX]
     ensures { map argument_of result ≡ parameters cap.now (map (λ word. word.now) words.now) }
 {
     [

@@ -12,7 +12,7 @@ ghost use Rattle.tools_tput.specs.inside.Replies.{made_bytes, given_texts};
 ghost use Rattle.tools_tput.specs.Replies.{reply_of};
 
 use crate::entries::{terminal_line, text};
-use crate::parameters::parameters;
+use crate::parameters::parameters_of;
 use memchr::memrchr;
 use std::alloc::{AllocError, Global};
 use ti_caps::{Cap, Kind, find};
@@ -107,7 +107,7 @@ fn string(
         return pad_once(alloc, text, line);
     }
     let mut after = *statics;
-    match expand_words(alloc, text, &parameters(cap, words), &mut after) {
+    match expand_words(alloc, text, &parameters_of(cap, words), &mut after) {
         Ok(output) => {
             let bytes = pad_output(alloc, output, line)?;
             if bytes.is_some() {

@@ -8,7 +8,8 @@ use Rattle.ti_layout.specs.declared.layout.Format.{Format}
 use Rattle.ti_layout.specs.declared.layout.Format.TheVariants.{Legacy, Extended}
 use Rattle.ti_layout.specs.Values.{Content, content_true, content_number, content_text, content_cancelled, Contents}
 use Rattle.ti_layout.specs.Layout.{absent_mark, entry_bytes, limit}
-use Rattle.ti_layout.specs.Image.{image, image_in, is_there, is_wide, format_of, of_kind, written_count, flag_value, number_value, offset_value, text_piece, flags_below, numbers_below, offsets_below, texts_below, even_gap}
+use Rattle.ti_layout.specs.Image.{image, image_in, is_there, is_wide, format_of, of_kind, written_count, flag_value, number_value, offset_value, text_piece}
+use Rattle.ti_layout.specs.Image.{flags_below, numbers_below, offsets_below, texts_below, even_gap}
 use Rattle.ti_layout.specs.Laws.{without_cancel, ShowSame}
 use Rattle.user_extension.specs.UserDefined.{Row}
 use Rattle.user_extension.specs.Extension.{entry, entry_format, entry_limit, extension_after, some_wide}
@@ -49,14 +50,18 @@ offset_value-presence offset _ = refl
 
 -- sections whose parts are the same
 alike : (w : Format) (names f f' g g' m m' o o' s s' : List ℕ) → f ≡ f' → g ≡ g' → m ≡ m' → o ≡ o' → s ≡ s'
-    → entry_bytes w (record { names = names; flags = f; gap = g; numbers = m; offsets = o; strings = s; rest = [] }) ≡ entry_bytes w (record { names = names; flags = f'; gap = g'; numbers = m'; offsets = o'; strings = s'; rest = [] })
+    → entry_bytes w (record { names = names; flags = f; gap = g; numbers = m; offsets = o; strings = s; rest = [] })
+    ≡ entry_bytes w (record { names = names; flags = f'; gap = g'; numbers = m'; offsets = o'; strings = s'; rest = [] })
 alike w names f f' g g' m m' o o' s s' a b c d e =
-    let whole : List ℕ → List ℕ → List ℕ → List ℕ → List ℕ → List ℕ = λ f g m o s. entry_bytes w (record { names = names; flags = f; gap = g; numbers = m; offsets = o; strings = s; rest = [] }) in
-    ap (λ x. whole x g m o s) a ∙ ap (λ x. whole f' x m o s) b ∙ ap (λ x. whole f' g' x o s) c ∙ ap (λ x. whole f' g' m' x s) d ∙ ap (λ x. whole f' g' m' o' x) e
+    let whole : List ℕ → List ℕ → List ℕ → List ℕ → List ℕ → List ℕ =
+    λ f g m o s. entry_bytes w (record { names = names; flags = f; gap = g; numbers = m; offsets = o; strings = s; rest = [] }) in
+    ap (λ x. whole x g m o s) a ∙ ap (λ x. whole f' x m o s) b ∙ ap (λ x. whole f' g' x o s) c ∙ ap (λ x. whole f' g' m' x s) d
+    ∙ ap (λ x. whole f' g' m' o' x) e
 
 module _ (t u : Contents) (h : ShowSame t u) where
   count-same : (k : Kind) → written_count t k ≡ written_count u k
-  count-same k = last_passing-same _ _ (count_of k) (λ i l. same_by_presence is_there (t (capability k i)) (u (capability k i)) is_there-presence (h (capability k i) l))
+  count-same k = last_passing-same _ _ (count_of k) (λ i l. same_by_presence is_there (t (capability k i)) (u (capability k i)) is_there-presence
+      (h (capability k i) l))
 
   count-within : (k : Kind) → written_count t k ≤ count_of k
   count-within k = last_passing-le (λ j. is_there (of_kind t k j)) (count_of k)
@@ -67,20 +72,23 @@ module _ (t u : Contents) (h : ShowSame t u) where
       (λ i l. same_by_presence is_wide (t (capability Number i)) (u (capability Number i)) is_wide-presence (h (capability Number i) l)))
 
   texts_below-same : (n : ℕ) → n ≤ 414 → texts_below t n ≡ texts_below u n
-  texts_below-same n l = texts-same t u n (λ i m. same_by_presence text_piece (t (capability Text i)) (u (capability Text i)) text_piece-presence (h (capability Text i) (omega arith)))
+  texts_below-same n l = texts-same t u n (λ i m. same_by_presence text_piece (t (capability Text i)) (u (capability Text i)) text_piece-presence
+      (h (capability Text i) (omega arith)))
 
   strings-same : texts_below t (written_count t Text) ≡ texts_below u (written_count u Text)
   strings-same = texts_below-same (written_count t Text) (count-within Text) ∙ ap (texts_below u) (count-same Text)
 
   flags-same : flags_below t (written_count t Flag) ≡ flags_below u (written_count u Flag)
   flags-same =
-      below-same _ _ (written_count t Flag) (λ i l. same_by_presence flag_value (t (capability Flag i)) (u (capability Flag i)) flag_value-presence (h (capability Flag i) (let m = count-within Flag in omega arith)))
+      below-same _ _ (written_count t Flag) (λ i l. same_by_presence flag_value (t (capability Flag i)) (u (capability Flag i)) flag_value-presence
+      (h (capability Flag i) (let m = count-within Flag in omega arith)))
       ∙ ap (flags_below u) (count-same Flag)
 
   numbers-same : (w : Format) → numbers_below w t (written_count t Number) ≡ numbers_below w u (written_count u Number)
   numbers-same w =
       below-same _ _ (written_count t Number)
-      (λ i l. same_by_presence (number_value (absent_mark w)) (t (capability Number i)) (u (capability Number i)) (number_value-presence (absent_mark w)) (h (capability Number i) (let m = count-within Number in omega arith)))
+      (λ i l. same_by_presence (number_value (absent_mark w)) (t (capability Number i)) (u (capability Number i)) (number_value-presence (absent_mark w))
+      (h (capability Number i) (let m = count-within Number in omega arith)))
       ∙ ap (numbers_below w u) (count-same Number)
 
   offsets-same : offsets_below t (written_count t Text) ≡ offsets_below u (written_count u Text)
@@ -88,7 +96,8 @@ module _ (t u : Contents) (h : ShowSame t u) where
       below-same _ _ (written_count t Text)
       (λ i l.
       let m = count-within Text in
-      same_by_presence (offset_value (length (texts_below t i))) (t (capability Text i)) (u (capability Text i)) (offset_value-presence (length (texts_below t i))) (h (capability Text i) (omega arith))
+      same_by_presence (offset_value (length (texts_below t i))) (t (capability Text i)) (u (capability Text i))
+      (offset_value-presence (length (texts_below t i))) (h (capability Text i) (omega arith))
       ∙ ap (λ s. offset_value (length s) (u (capability Text i))) (texts_below-same i (omega arith)))
       ∙ ap (offsets_below u) (count-same Text)
 

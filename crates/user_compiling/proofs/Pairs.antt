@@ -1,5 +1,6 @@
 -- Each warning is paired with what is wrong with its item.
-use Rattle.std.proofs.Common.{◌≡◌, ℕ, zero, suc, ◌+◌, ◌<◌, ◌≤◌, Bool, true, false, ◌&&◌, ◌||◌, cond, nat_eq, nat_lt, List, [], ◌∷◌, ◌++◌, map, filter, drop, length, get_or, Option, Some, None, refl, sym, ap, ◌∙◌, arith, inl, inr, append_assoc}
+use Rattle.std.proofs.Common.{◌≡◌, ℕ, zero, suc, ◌+◌, ◌<◌, ◌≤◌, Bool, true, false, ◌&&◌, ◌||◌, cond, nat_eq, nat_lt, List, [], ◌∷◌, ◌++◌, map, filter, drop}
+use Rattle.std.proofs.Common.{length, get_or, Option, Some, None, refl, sym, ap, ◌∙◌, arith, inl, inr, append_assoc}
 use Rattle.std.specs.Prelude.{not, All}
 use Rattle.std.specs.List.{flat_map, list_any}
 use Rattle.std.proofs.lemmas.Bool.{cases_Bool, false≢true}
@@ -15,7 +16,8 @@ use Rattle.base_meaning.specs.Owner.{readings, owner_block}
 use Rattle.base_meaning.specs.Expansion.{resolves}
 use Rattle.base_meaning.specs.Reaching.{used_name, leads_to}
 use Rattle.base_meaning.specs.Compiled.{EntryState}
-use Rattle.base_meaning.specs.Faults.{SourceFault, local_fault, local_faults, is_kept, name_fault, name_faults, is_owned_before, distinct, use_fault, fault_between, fault_of_use, fault_of_item, faults_before, faults_from, item_faults}
+use Rattle.base_meaning.specs.Faults.{SourceFault, local_fault, local_faults, is_kept, name_fault, name_faults, is_owned_before, distinct, use_fault}
+use Rattle.base_meaning.specs.Faults.{fault_between, fault_of_use, fault_of_item, faults_before, faults_from, item_faults}
 use Rattle.base_meaning.specs.Laws.{fault_with_ordinal, numbered_faults, ItemFaultsAreInOrder}
 use Rattle.user_items.specs.Names.{is_user_defined_name}
 use Rattle.user_items.specs.Verdicts.{UserVerdict, user_accepted, user_odd, user_refused, says, imports}
@@ -25,7 +27,8 @@ use Rattle.user_items.specs.Parsing.{user_reading_of_text}
 use Rattle.user_items.specs.inside.Computed.{judged_of}
 use Rattle.user_items.specs.declared.reading.UserCode.{UserCode}
 use Rattle.user_items.specs.declared.reading.UserCode.TheVariants as user
-use Rattle.user_compiling.specs.Faults.{ExtendedSourceFault, of_profile, in_place, is_user_warning, is_warning_with, own_code, extended_fault, extended_item_faults}
+use Rattle.user_compiling.specs.Faults.{ExtendedSourceFault, of_profile, in_place, is_user_warning, is_warning_with, own_code, extended_fault}
+use Rattle.user_compiling.specs.Faults.{extended_item_faults}
 use Rattle.user_compiling.specs.inside.Pairs.{is_local_warning, warning_ordinals, code_here, pairs, head_code, tail_codes, replaced, front_faults}
 
 -- ---- the ordinals of warnings are those of defining items
@@ -35,7 +38,8 @@ ordinals places = map (λ (p : NamedPlace). p.ordinal) places
 
 of_one : (f : ReadFault) (d : Option (List ℕ)) (rest : List ℕ) → ordinals (warning_of f d) ++ rest ≡ cond (is_warning_with f.code d) (f.ordinal ∷ rest) rest
 of_one f None rest = refl
-of_one f (Some name) rest = elim (is_unknown f.code && is_user_defined_name name) as (λ b. ordinals (cond b (record { ordinal = f.ordinal; line = f.line; name = name } ∷ []) []) ++ rest ≡ cond b (f.ordinal ∷ rest) rest) [ true ↦ refl | false ↦ refl ]
+of_one f (Some name) rest = elim (is_unknown f.code && is_user_defined_name name) as (λ b. ordinals
+    (cond b (record { ordinal = f.ordinal; line = f.line; name = name } ∷ []) []) ++ rest ≡ cond b (f.ordinal ∷ rest) rest) [ true ↦ refl | false ↦ refl ]
 
 warned : (fs : List ReadFault) → ordinals (flat_map user_warning fs) ≡ warning_ordinals fs
 warned [] = refl
@@ -43,7 +47,8 @@ warned (f ∷ fs) =
     map-append (λ (p : NamedPlace). p.ordinal) (user_warning f) (flat_map user_warning fs)
     ∙ ap (λ os. ordinals (user_warning f) ++ os) (warned fs) ∙ of_one f f.detail (warning_ordinals fs)
 
-defined : WarningsAreOfDefiningItems → (text : List ℕ) → warning_ordinals (reading_of_text text).faults ≡ ordinals (places_from 0 (map judged_of (block_items text)))
+defined : WarningsAreOfDefiningItems → (text : List ℕ) → warning_ordinals (reading_of_text text).faults
+    ≡ ordinals (places_from 0 (map judged_of (block_items text)))
 defined law text = sym (warned (reading_of_text text).faults) ∙ ap ordinals (law text)
 
 -- ---- pairing is looking up
@@ -70,23 +75,25 @@ fault_ordinals fs = map (λ (f : ReadUserFault). f.ordinal) fs
 places_least : (k : ℕ) (js : List (Option UserJudged)) → AtLeast k (ordinals (places_from k js))
 places_least k [] = tt
 places_least k (None ∷ js) = least-down k (ordinals (places_from (k + 1) js)) (places_least (k + 1) js)
-places_least k (Some j ∷ js) = of_verdict k j.line j.name j.verdict (places_from (k + 1) js) (least-down k (ordinals (places_from (k + 1) js)) (places_least (k + 1) js)) where
-  of_verdict : (k line : ℕ) (name : List ℕ) (v : UserVerdict) (rest : List NamedPlace) → AtLeast k (ordinals rest)
-      → AtLeast k (ordinals (places_at k (Some (record { line = line; name = name; verdict = v })) ++ rest))
-  of_verdict k line name (user_accepted (imports n)) rest a = a
-  of_verdict k line name (user_accepted (says n c)) rest a = (omega arith, a)
-  of_verdict k line name (user_odd s) rest a = (omega arith, a)
-  of_verdict k line name user_refused rest a = (omega arith, a)
+places_least k (Some j ∷ js) =
+    of_verdict k j.line j.name j.verdict (places_from (k + 1) js) (least-down k (ordinals (places_from (k + 1) js)) (places_least (k + 1) js)) where
+      of_verdict : (k line : ℕ) (name : List ℕ) (v : UserVerdict) (rest : List NamedPlace) → AtLeast k (ordinals rest)
+          → AtLeast k (ordinals (places_at k (Some (record { line = line; name = name; verdict = v })) ++ rest))
+      of_verdict k line name (user_accepted (imports n)) rest a = a
+      of_verdict k line name (user_accepted (says n c)) rest a = (omega arith, a)
+      of_verdict k line name (user_odd s) rest a = (omega arith, a)
+      of_verdict k line name user_refused rest a = (omega arith, a)
 
 faults_least : (k : ℕ) (js : List (Option UserJudged)) → AtLeast k (fault_ordinals (user_faults_from k js))
 faults_least k [] = tt
 faults_least k (None ∷ js) = least-down k (fault_ordinals (user_faults_from (k + 1) js)) (faults_least (k + 1) js)
-faults_least k (Some j ∷ js) = of_verdict k j.line j.name j.verdict (user_faults_from (k + 1) js) (least-down k (fault_ordinals (user_faults_from (k + 1) js)) (faults_least (k + 1) js)) where
-  of_verdict : (k line : ℕ) (name : List ℕ) (v : UserVerdict) (rest : List ReadUserFault) → AtLeast k (fault_ordinals rest)
-      → AtLeast k (fault_ordinals (faults_at k (Some (record { line = line; name = name; verdict = v })) ++ rest))
-  of_verdict k line name (user_accepted s) rest a = a
-  of_verdict k line name (user_odd s) rest a = (omega arith, a)
-  of_verdict k line name user_refused rest a = (omega arith, a)
+faults_least k (Some j ∷ js) = of_verdict k j.line j.name j.verdict (user_faults_from (k + 1) js)
+    (least-down k (fault_ordinals (user_faults_from (k + 1) js)) (faults_least (k + 1) js)) where
+      of_verdict : (k line : ℕ) (name : List ℕ) (v : UserVerdict) (rest : List ReadUserFault) → AtLeast k (fault_ordinals rest)
+          → AtLeast k (fault_ordinals (faults_at k (Some (record { line = line; name = name; verdict = v })) ++ rest))
+      of_verdict k line name (user_accepted s) rest a = a
+      of_verdict k line name (user_odd s) rest a = (omega arith, a)
+      of_verdict k line name user_refused rest a = (omega arith, a)
 
 unequal : (a b : ℕ) → a < b → nat_eq a b ≡ false
 unequal a b l = grind (arith, l)
@@ -112,25 +119,32 @@ skipped u k (o ∷ os) own e a =
     let other : nat_eq u.ordinal o ≡ false = grind (arith, a.0, e) in
     ap (λ b. cond b (Some u.code) (own_code o own) ∷ codes_at os (u ∷ own)) other ∙ ap (λ cs. own_code o own ∷ cs) (skipped u k os own e a.1)
 
-without_fault : (k : ℕ) (os : List ℕ) (own : List ReadUserFault) → AtLeast (k + 1) (fault_ordinals own) → pairs os own ≡ codes_at os own → pairs (k ∷ os) own ≡ codes_at (k ∷ os) own
+without_fault : (k : ℕ) (os : List ℕ) (own : List ReadUserFault) → AtLeast (k + 1) (fault_ordinals own) → pairs os own ≡ codes_at os own
+    → pairs (k ∷ os) own ≡ codes_at (k ∷ os) own
 without_fault k os own a e = no_pair k os own a ∙ ap (λ cs. None ∷ cs) e ∙ ap (λ c. c ∷ codes_at os own) (sym (no_code k own a))
 
-with_fault : (u : ReadUserFault) (os : List ℕ) (own : List ReadUserFault) → AtLeast (u.ordinal + 1) os → pairs os own ≡ codes_at os own → pairs (u.ordinal ∷ os) (u ∷ own) ≡ codes_at (u.ordinal ∷ os) (u ∷ own)
+with_fault : (u : ReadUserFault) (os : List ℕ) (own : List ReadUserFault) → AtLeast (u.ordinal + 1) os → pairs os own ≡ codes_at os own
+    → pairs (u.ordinal ∷ os) (u ∷ own) ≡ codes_at (u.ordinal ∷ os) (u ∷ own)
 with_fault u os own a e =
     let itself = equal u.ordinal in
     ap (λ b. cond b (Some u.code ∷ pairs os own) (None ∷ pairs os (u ∷ own))) itself
     ∙ ap (λ cs. Some u.code ∷ cs) (e ∙ sym (skipped u u.ordinal os own refl a))
     ∙ ap (λ b. cond b (Some u.code) (own_code u.ordinal own) ∷ codes_at os (u ∷ own)) (sym itself)
 
-paired : (k : ℕ) (js : List (Option UserJudged)) → pairs (ordinals (places_from k js)) (user_faults_from k js) ≡ codes_at (ordinals (places_from k js)) (user_faults_from k js)
+paired : (k : ℕ) (js : List (Option UserJudged)) → pairs (ordinals (places_from k js)) (user_faults_from k js)
+    ≡ codes_at (ordinals (places_from k js)) (user_faults_from k js)
 paired k [] = refl
 paired k (None ∷ js) = paired (k + 1) js
 paired k (Some j ∷ js) =
-    of_verdict k j.line j.name j.verdict (places_from (k + 1) js) (user_faults_from (k + 1) js) (places_least (k + 1) js) (faults_least (k + 1) js) (paired (k + 1) js) where
-      of_verdict : (k line : ℕ) (name : List ℕ) (v : UserVerdict) (ps : List NamedPlace) (us : List ReadUserFault) → AtLeast (k + 1) (ordinals ps) → AtLeast (k + 1) (fault_ordinals us)
+    of_verdict k j.line j.name j.verdict (places_from (k + 1) js) (user_faults_from (k + 1) js) (places_least (k + 1) js) (faults_least (k + 1) js)
+    (paired (k + 1) js) where
+      of_verdict : (k line : ℕ) (name : List ℕ) (v : UserVerdict) (ps : List NamedPlace) (us : List ReadUserFault) → AtLeast (k + 1) (ordinals ps)
+          → AtLeast (k + 1) (fault_ordinals us)
           → pairs (ordinals ps) us ≡ codes_at (ordinals ps) us
-          → pairs (ordinals (places_at k (Some (record { line = line; name = name; verdict = v })) ++ ps)) (faults_at k (Some (record { line = line; name = name; verdict = v })) ++ us)
-          ≡ codes_at (ordinals (places_at k (Some (record { line = line; name = name; verdict = v })) ++ ps)) (faults_at k (Some (record { line = line; name = name; verdict = v })) ++ us)
+          → pairs (ordinals (places_at k (Some (record { line = line; name = name; verdict = v })) ++ ps))
+          (faults_at k (Some (record { line = line; name = name; verdict = v })) ++ us)
+          ≡ codes_at (ordinals (places_at k (Some (record { line = line; name = name; verdict = v })) ++ ps))
+          (faults_at k (Some (record { line = line; name = name; verdict = v })) ++ us)
       of_verdict k line name (user_accepted (imports n)) ps us a b e = e
       of_verdict k line name (user_accepted (says n c)) ps us a b e = without_fault k (ordinals ps) us b e
       of_verdict k line name (user_odd s) ps us a b e = with_fault (fault_with k line name user.UnknownEscape) (ordinals ps) us a e
@@ -142,7 +156,8 @@ own_faults_from text = refl
 
 -- the codes of the warnings of a block are those of their items
 pub codes_of_block : WarningsAreOfDefiningItems → (text : List ℕ)
-    → pairs (warning_ordinals (reading_of_text text).faults) (user_reading_of_text text).faults ≡ codes_at (warning_ordinals (reading_of_text text).faults) (user_reading_of_text text).faults
+    → pairs (warning_ordinals (reading_of_text text).faults) (user_reading_of_text text).faults
+    ≡ codes_at (warning_ordinals (reading_of_text text).faults) (user_reading_of_text text).faults
 codes_of_block law text =
     let js = map judged_of (block_items text) in
     rw (defined law text, own_faults_from text) (paired 0 js)
@@ -159,14 +174,17 @@ pub no_warnings : (fs : List SourceFault) (cs : List (Option UserCode)) → list
 no_warnings [] cs h = refl
 no_warnings (f ∷ fs) cs h = elim (cases_Bool (is_user_warning f)) [
   | inl t ↦ absurd (false≢true (sym h ∙ any_first f fs t))
-  | inr n ↦ ap (λ b. cond b (in_place f (head_code cs) ++ replaced fs (tail_codes cs)) (of_profile f ∷ replaced fs cs)) n ∙ ap (λ xs. of_profile f ∷ xs) (no_warnings fs cs (sym (any_later f fs n) ∙ h))
+  | inr n ↦ ap (λ b. cond b (in_place f (head_code cs) ++ replaced fs (tail_codes cs)) (of_profile f ∷ replaced fs cs)) n
+      ∙ ap (λ xs. of_profile f ∷ xs) (no_warnings fs cs (sym (any_later f fs n) ∙ h))
 ]
 
-pub replaced-front : (fs gs : List SourceFault) (cs : List (Option UserCode)) → list_any is_user_warning fs ≡ false → replaced (fs ++ gs) cs ≡ map of_profile fs ++ replaced gs cs
+pub replaced-front : (fs gs : List SourceFault) (cs : List (Option UserCode)) → list_any is_user_warning fs ≡ false
+    → replaced (fs ++ gs) cs ≡ map of_profile fs ++ replaced gs cs
 replaced-front [] gs cs h = refl
 replaced-front (f ∷ fs) gs cs h = elim (cases_Bool (is_user_warning f)) [
   | inl t ↦ absurd (false≢true (sym h ∙ any_first f fs t))
-  | inr n ↦ ap (λ b. cond b (in_place f (head_code cs) ++ replaced (fs ++ gs) (tail_codes cs)) (of_profile f ∷ replaced (fs ++ gs) cs)) n ∙ ap (λ xs. of_profile f ∷ xs) (replaced-front fs gs cs (sym (any_later f fs n) ∙ h))
+  | inr n ↦ ap (λ b. cond b (in_place f (head_code cs) ++ replaced (fs ++ gs) (tail_codes cs)) (of_profile f ∷ replaced (fs ++ gs) cs)) n
+      ∙ ap (λ xs. of_profile f ∷ xs) (replaced-front fs gs cs (sym (any_later f fs n) ∙ h))
 ]
 
 no_detail : (c : Code) (d : Option (List ℕ)) → is_unknown c ≡ false → is_warning_with c d ≡ false
@@ -210,7 +228,8 @@ numbered_ordinals-append : (xs ys : Numbered) → numbered_ordinals (xs ++ ys) �
 numbered_ordinals-append [] ys = refl
 numbered_ordinals-append (x ∷ xs) ys =
     let rest = numbered_ordinals-append xs ys in
-    elim (is_user_warning x.1) as (λ b. cond b (x.0 ∷ numbered_ordinals (xs ++ ys)) (numbered_ordinals (xs ++ ys)) ≡ cond b (x.0 ∷ numbered_ordinals xs) (numbered_ordinals xs) ++ numbered_ordinals ys) [
+    elim (is_user_warning x.1) as (λ b. cond b (x.0 ∷ numbered_ordinals (xs ++ ys)) (numbered_ordinals (xs ++ ys))
+    ≡ cond b (x.0 ∷ numbered_ordinals xs) (numbered_ordinals xs) ++ numbered_ordinals ys) [
       | true ↦ ap (λ os. x.0 ∷ os) rest
       | false ↦ rest
     ]
@@ -219,7 +238,8 @@ warning_ordinals-append : (xs ys : List ReadFault) → warning_ordinals (xs ++ y
 warning_ordinals-append [] ys = refl
 warning_ordinals-append (x ∷ xs) ys =
     let rest = warning_ordinals-append xs ys in
-    elim (is_local_warning x) as (λ b. cond b (x.ordinal ∷ warning_ordinals (xs ++ ys)) (warning_ordinals (xs ++ ys)) ≡ cond b (x.ordinal ∷ warning_ordinals xs) (warning_ordinals xs) ++ warning_ordinals ys) [
+    elim (is_local_warning x) as (λ b. cond b (x.ordinal ∷ warning_ordinals (xs ++ ys)) (warning_ordinals (xs ++ ys))
+    ≡ cond b (x.ordinal ∷ warning_ordinals xs) (warning_ordinals xs) ++ warning_ordinals ys) [
       | true ↦ ap (λ os. x.ordinal ∷ os) rest
       | false ↦ rest
     ]
@@ -232,9 +252,12 @@ use_code_known : (o : Option Reading) (b : Bool) (r : Reading → Bool) (at line
     → numbered_ordinals (map (λ f. (ordinal, f)) (fault_of_use at line name (fault_between o b r))) ≡ []
 use_code_known None b r at line name ordinal = refl
 use_code_known (Some block) true r at line name ordinal = refl
-use_code_known (Some block) false r at line name ordinal = elim (r block) as (λ v. numbered_ordinals (map (λ f. (ordinal, f)) (fault_of_use at line name (cond v None (Some code.Unresolved)))) ≡ []) [ true ↦ refl | false ↦ refl ]
+use_code_known (Some block) false r at line name ordinal =
+    elim (r block) as (λ v. numbered_ordinals (map (λ f. (ordinal, f)) (fault_of_use at line name (cond v None (Some code.Unresolved))))
+    ≡ []) [ true ↦ refl | false ↦ refl ]
 
-use_quiet : (blocks : List Reading) (at line ordinal : ℕ) (used : Option (List ℕ)) → numbered_ordinals (map (λ f. (ordinal, f)) (fault_of_item blocks at line used)) ≡ []
+use_quiet : (blocks : List Reading) (at line ordinal : ℕ) (used : Option (List ℕ))
+    → numbered_ordinals (map (λ f. (ordinal, f)) (fault_of_item blocks at line used)) ≡ []
 use_quiet blocks at line ordinal None = refl
 use_quiet blocks at line ordinal (Some name) = use_code_known (owner_block blocks name) (leads_to blocks name at) (resolves blocks) at line name ordinal
 
@@ -245,7 +268,8 @@ split_at k (f ∷ fs) = joined (nat_lt f.ordinal k) f fs (faults_before k fs) (f
   joined true f fs a b e = ap (λ xs. f ∷ xs) e
   joined false f fs a b e = refl
 
-item_ordinals : (blocks : List Reading) (at : ℕ) (faults : List ReadFault) (items : List ReadItem) → numbered_ordinals (numbered_faults blocks at faults items) ≡ warning_ordinals faults
+item_ordinals : (blocks : List Reading) (at : ℕ) (faults : List ReadFault) (items : List ReadItem)
+    → numbered_ordinals (numbered_faults blocks at faults items) ≡ warning_ordinals faults
 item_ordinals blocks at faults [] = local_ordinals at faults
 item_ordinals blocks at faults (item ∷ items) =
     let before = faults_before item.ordinal faults in
@@ -254,7 +278,8 @@ item_ordinals blocks at faults (item ∷ items) =
     let rest = numbered_faults blocks at after items in
     numbered_ordinals-append (map (fault_with_ordinal at) before) (uses ++ rest)
     ∙ ap (λ os. os ++ numbered_ordinals (uses ++ rest)) (local_ordinals at before)
-    ∙ ap (λ os. warning_ordinals before ++ os) (numbered_ordinals-append uses rest ∙ ap (λ os. os ++ numbered_ordinals rest) (use_quiet blocks at item.line item.ordinal (used_name item.said)) ∙ item_ordinals blocks at after items)
+    ∙ ap (λ os. warning_ordinals before ++ os) (numbered_ordinals-append uses rest
+    ∙ ap (λ os. os ++ numbered_ordinals rest) (use_quiet blocks at item.line item.ordinal (used_name item.said)) ∙ item_ordinals blocks at after items)
     ∙ sym (warning_ordinals-append before after) ∙ ap warning_ordinals (split_at item.ordinal faults)
 
 -- those of the header are no warnings
@@ -279,12 +304,14 @@ by_ordinal own [] = refl
 by_ordinal own (n ∷ ns) = elim (cases_Bool (is_user_warning n.1)) [
   | inl t ↦
       ap (λ b. replaced (bare (n ∷ ns)) (codes_at (cond b (n.0 ∷ numbered_ordinals ns) (numbered_ordinals ns)) own)) t
-      ∙ ap (λ b. cond b (in_place n.1 (own_code n.0 own) ++ replaced (bare ns) (codes_at (numbered_ordinals ns) own)) (of_profile n.1 ∷ replaced (bare ns) (own_code n.0 own ∷ codes_at (numbered_ordinals ns) own))) t
+      ∙ ap (λ b. cond b (in_place n.1 (own_code n.0 own) ++ replaced (bare ns) (codes_at (numbered_ordinals ns) own))
+      (of_profile n.1 ∷ replaced (bare ns) (own_code n.0 own ∷ codes_at (numbered_ordinals ns) own))) t
       ∙ ap (λ xs. in_place n.1 (own_code n.0 own) ++ xs) (by_ordinal own ns)
       ∙ ap (λ b. cond b (in_place n.1 (own_code n.0 own)) (of_profile n.1 ∷ []) ++ flat_map (extended_fault own) ns) (sym t)
   | inr f ↦
       ap (λ b. replaced (bare (n ∷ ns)) (codes_at (cond b (n.0 ∷ numbered_ordinals ns) (numbered_ordinals ns)) own)) f
-      ∙ ap (λ b. cond b (in_place n.1 (head_code (codes_at (numbered_ordinals ns) own)) ++ replaced (bare ns) (tail_codes (codes_at (numbered_ordinals ns) own))) (of_profile n.1 ∷ replaced (bare ns) (codes_at (numbered_ordinals ns) own))) f
+      ∙ ap (λ b. cond b (in_place n.1 (head_code (codes_at (numbered_ordinals ns) own)) ++ replaced (bare ns)
+      (tail_codes (codes_at (numbered_ordinals ns) own))) (of_profile n.1 ∷ replaced (bare ns) (codes_at (numbered_ordinals ns) own))) f
       ∙ ap (λ xs. of_profile n.1 ∷ xs) (by_ordinal own ns)
       ∙ ap (λ b. cond b (in_place n.1 (own_code n.0 own)) (of_profile n.1 ∷ []) ++ flat_map (extended_fault own) ns) (sym f)
 ]
@@ -292,20 +319,23 @@ by_ordinal own (n ∷ ns) = elim (cases_Bool (is_user_warning n.1)) [
 -- ---- a block
 
 pub items_replaced : WarningsAreOfDefiningItems → ItemFaultsAreInOrder → (blocks : List Reading) (at : ℕ) (text : List ℕ)
-    → replaced (item_faults blocks at (filter (is_kept false) (reading_of_text text).faults) (reading_of_text text).items) (pairs (warning_ordinals (reading_of_text text).faults) (user_reading_of_text text).faults)
+    → replaced (item_faults blocks at (filter (is_kept false) (reading_of_text text).faults) (reading_of_text text).items)
+    (pairs (warning_ordinals (reading_of_text text).faults) (user_reading_of_text text).faults)
     ≡ extended_item_faults blocks at text
 items_replaced law order blocks at text =
     let block = reading_of_text text in
     let own = (user_reading_of_text text).faults in
     let numbered = numbered_faults blocks at (filter (is_kept false) block.faults) block.items in
-    let ordinals_are : warning_ordinals block.faults ≡ numbered_ordinals numbered = sym (item_ordinals blocks at (filter (is_kept false) block.faults) block.items ∙ items_alone block.faults) in
+    let ordinals_are : warning_ordinals block.faults ≡ numbered_ordinals numbered =
+    sym (item_ordinals blocks at (filter (is_kept false) block.faults) block.items ∙ items_alone block.faults) in
     ap (λ fs. replaced fs (pairs (warning_ordinals block.faults) own)) (sym (order.same blocks at (filter (is_kept false) block.faults) block.items))
     ∙ ap (replaced (bare numbered)) (codes_of_block law text ∙ ap (λ os. codes_at os own) ordinals_are) ∙ by_ordinal own numbered
 
 -- the faults of the profile before that of the entry, with what comes in the place of each warning
 pub front_replaced : WarningsAreOfDefiningItems → ItemFaultsAreInOrder → (blocks : List Reading) (at : ℕ) (text : List ℕ)
     → replaced (front_faults blocks at (reading_of_text text)) (pairs (warning_ordinals (reading_of_text text).faults) (user_reading_of_text text).faults)
-    ≡ map of_profile (local_faults true at (reading_of_text text).faults) ++ (map of_profile (name_faults blocks at (reading_of_text text).names) ++ extended_item_faults blocks at text)
+    ≡ map of_profile (local_faults true at (reading_of_text text).faults)
+    ++ (map of_profile (name_faults blocks at (reading_of_text text).names) ++ extended_item_faults blocks at text)
 front_replaced law order blocks at text =
     let block = reading_of_text text in
     let cs = pairs (warning_ordinals block.faults) (user_reading_of_text text).faults in
@@ -314,7 +344,8 @@ front_replaced law order blocks at text =
     let items = item_faults blocks at (filter (is_kept false) block.faults) block.items in
     replaced-front header (names ++ items) cs (header_quiet at block.faults)
     ∙ ap (λ xs. map of_profile header ++ xs)
-    (replaced-front names items cs (names_quiet at (filter (is_owned_before blocks at) (distinct block.names))) ∙ ap (λ xs. map of_profile names ++ xs) (items_replaced law order blocks at text))
+    (replaced-front names items cs (names_quiet at (filter (is_owned_before blocks at) (distinct block.names)))
+    ∙ ap (λ xs. map of_profile names ++ xs) (items_replaced law order blocks at text))
 
 -- without warnings the faults of items are those of the profile
 plain_numbered : (own : List ReadUserFault) (ns : Numbered) → numbered_ordinals ns ≡ [] → flat_map (extended_fault own) ns ≡ map of_profile (bare ns)
@@ -330,12 +361,14 @@ no_ordinals : (fs : List ReadFault) → flat_map user_warning fs ≡ [] → warn
 no_ordinals fs e = sym (warned fs) ∙ ap ordinals e
 
 pub plain_items : ItemFaultsAreInOrder → (blocks : List Reading) (at : ℕ) (text : List ℕ) → flat_map user_warning (reading_of_text text).faults ≡ []
-    → extended_item_faults blocks at text ≡ map of_profile (item_faults blocks at (filter (is_kept false) (reading_of_text text).faults) (reading_of_text text).items)
+    → extended_item_faults blocks at text
+    ≡ map of_profile (item_faults blocks at (filter (is_kept false) (reading_of_text text).faults) (reading_of_text text).items)
 plain_items order blocks at text e =
     let block = reading_of_text text in
     let own = (user_reading_of_text text).faults in
     let numbered = numbered_faults blocks at (filter (is_kept false) block.faults) block.items in
-    plain_numbered own numbered (item_ordinals blocks at (filter (is_kept false) block.faults) block.items ∙ items_alone block.faults ∙ no_ordinals block.faults e)
+    plain_numbered own numbered (item_ordinals blocks at (filter (is_kept false) block.faults) block.items ∙ items_alone block.faults
+    ∙ no_ordinals block.faults e)
     ∙ ap (map of_profile) (order.same blocks at (filter (is_kept false) block.faults) block.items)
 
 -- faults without the first
@@ -346,7 +379,8 @@ tail_faults (u ∷ us) = us
 -- ---- what the loops add
 
 -- the code of a warning was added, and its fault is the next
-pub code_added : (f : ReadFault) (fs : List ReadFault) (own rest : List ReadUserFault) (c : UserCode) (old new : List (Option UserCode)) → is_local_warning f ≡ true → Some c ≡ code_here f.ordinal own
+pub code_added : (f : ReadFault) (fs : List ReadFault) (own rest : List ReadUserFault) (c : UserCode) (old new : List (Option UserCode))
+    → is_local_warning f ≡ true → Some c ≡ code_here f.ordinal own
     → tail_faults own ≡ rest → new ≡ old ++ Some c ∷ [] → new ++ pairs (warning_ordinals fs) rest ≡ old ++ pairs (warning_ordinals (f ∷ fs)) own
 code_added f fs [] rest c old new t e r n = absurd (none-some c (sym e))
 code_added f fs (u ∷ us) rest c old new t e r n =
@@ -361,7 +395,8 @@ code_added f fs (u ∷ us) rest c old new t e r n =
     ]
 
 -- the next fault is not of the item of a warning
-pub none_added : (f : ReadFault) (fs : List ReadFault) (own : List ReadUserFault) (old new : List (Option UserCode)) → is_local_warning f ≡ true → None ≡ code_here f.ordinal own
+pub none_added : (f : ReadFault) (fs : List ReadFault) (own : List ReadUserFault) (old new : List (Option UserCode)) → is_local_warning f ≡ true
+    → None ≡ code_here f.ordinal own
     → new ≡ old ++ None ∷ [] → new ++ pairs (warning_ordinals fs) own ≡ old ++ pairs (warning_ordinals (f ∷ fs)) own
 none_added f fs [] old new t e n =
     ap (λ xs. xs ++ pairs (warning_ordinals fs) []) n ∙ append_assoc old (None ∷ []) (pairs (warning_ordinals fs) [])
@@ -376,7 +411,8 @@ none_added f fs (u ∷ us) old new t e n =
     ]
 
 -- another fault has no code
-pub no_code_added : (f : ReadFault) (fs : List ReadFault) (own : List ReadUserFault) (old : List (Option UserCode)) → is_local_warning f ≡ false → old ++ pairs (warning_ordinals fs) own ≡ old ++ pairs (warning_ordinals (f ∷ fs)) own
+pub no_code_added : (f : ReadFault) (fs : List ReadFault) (own : List ReadUserFault) (old : List (Option UserCode)) → is_local_warning f ≡ false
+    → old ++ pairs (warning_ordinals fs) own ≡ old ++ pairs (warning_ordinals (f ∷ fs)) own
 no_code_added f fs own old n = ap (λ b. old ++ pairs (cond b (f.ordinal ∷ warning_ordinals fs) (warning_ordinals fs)) own) (sym n)
 
 one_more : (n : ℕ) → suc n ≡ n + 1
@@ -401,5 +437,6 @@ drop_next (y ∷ ys) (suc i) x l e = drop_next ys i x (omega (arith, l)) e
 drop_item : {X : Type 0} (xs : List X) (i : ℕ) (x : X) → i < length xs → x ≡ get_or xs i x → drop i xs ≡ x ∷ drop (i + 1) xs
 drop_item xs i x l e = drop_next xs i x l e ∙ ap (λ (k : ℕ). x ∷ drop k xs) (one_more i)
 
-pub map-drop_item : {X Y : Type 0} (f : X → Y) (xs : List X) (i : ℕ) (x : X) → i < length xs → x ≡ get_or xs i x → map f (drop i xs) ≡ f x ∷ map f (drop (i + 1) xs)
+pub map-drop_item : {X Y : Type 0} (f : X → Y) (xs : List X) (i : ℕ) (x : X) → i < length xs → x ≡ get_or xs i x
+    → map f (drop i xs) ≡ f x ∷ map f (drop (i + 1) xs)
 map-drop_item f xs i x l e = ap (map f) (drop_item xs i x l e)

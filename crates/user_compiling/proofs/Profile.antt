@@ -1,5 +1,6 @@
 -- A source without user-defined names is as in the profile.
-use Rattle.std.proofs.Common.{◌≡◌, ℕ, zero, suc, ◌+◌, Bool, true, false, cond, List, [], ◌∷◌, ◌++◌, map, filter, length, Option, Some, None, option_and_then, slice_get, refl, sym, ap, ◌∙◌, subst}
+use Rattle.std.proofs.Common.{◌≡◌, ℕ, zero, suc, ◌+◌, Bool, true, false, cond, List, [], ◌∷◌, ◌++◌, map, filter, length, Option, Some, None}
+use Rattle.std.proofs.Common.{option_and_then, slice_get, refl, sym, ap, ◌∙◌, subst}
 use Rattle.std.specs.List.{AllZip, flat_map}
 use Rattle.std.proofs.lemmas.List.{map-append}
 use Rattle.std.proofs.lemmas.Option.{same_Some, none-some}
@@ -12,7 +13,8 @@ use Rattle.ti_layout.specs.Values.{Mention}
 use Rattle.ti_layout.specs.Laws.{without_cancel}
 use Rattle.base_meaning.specs.Owner.{owner, readings}
 use Rattle.base_meaning.specs.Expansion.{is_broken, expansion as expansion_there}
-use Rattle.base_meaning.specs.Compiled.{EntryState, unresolved, oversized, written, state_of, state_with as state_there, entry, entry_of, is_too_large, image_of, compiled}
+use Rattle.base_meaning.specs.Compiled.{EntryState, unresolved, oversized, written, state_of, state_with as state_there, entry, entry_of, is_too_large}
+use Rattle.base_meaning.specs.Compiled.{image_of, compiled}
 use Rattle.base_meaning.specs.Faults.{SourceFault, is_kept, item_faults, local_faults, name_faults, entry_faults, block_faults, faults_after, faults}
 use Rattle.base_meaning.specs.Laws.{numbered_faults, ItemFaultsAreInOrder}
 use Rattle.base_meaning.specs.Report.{report_line, report}
@@ -52,10 +54,13 @@ imports_from : (k : ℕ) (js : List (Option UserJudged)) → places_from k js �
 imports_from k [] e = tt
 imports_from k (None ∷ js) e = imports_from (k + 1) js e
 imports_from k (Some j ∷ js) e = of_verdict k j.line j.name j.verdict js e (imports_from (k + 1) js) where
-  of_verdict : (k line : ℕ) (name : List ℕ) (v : UserVerdict) (js : List (Option UserJudged)) → places_from k (Some (record { line = line; name = name; verdict = v }) ∷ js) ≡ []
-      → (places_from (k + 1) js ≡ [] → AreImports (items_from (k + 1) js)) → AreImports (items_from k (Some (record { line = line; name = name; verdict = v }) ∷ js))
+  of_verdict : (k line : ℕ) (name : List ℕ) (v : UserVerdict) (js : List (Option UserJudged))
+      → places_from k (Some (record { line = line; name = name; verdict = v }) ∷ js) ≡ []
+      → (places_from (k + 1) js ≡ [] → AreImports (items_from (k + 1) js))
+      → AreImports (items_from k (Some (record { line = line; name = name; verdict = v }) ∷ js))
   of_verdict k line name (user_accepted (imports n)) js e rest = (tt, rest e)
-  of_verdict k line name (user_accepted (says n c)) js e rest = absurd (nothing_there (record { ordinal = k; line = line; name = name }) (places_from (k + 1) js) e)
+  of_verdict k line name (user_accepted (says n c)) js e rest =
+      absurd (nothing_there (record { ordinal = k; line = line; name = name }) (places_from (k + 1) js) e)
   of_verdict k line name (user_odd s) js e rest = absurd (nothing_there (record { ordinal = k; line = line; name = name }) (places_from (k + 1) js) e)
   of_verdict k line name user_refused js e rest = absurd (nothing_there (record { ordinal = k; line = line; name = name }) (places_from (k + 1) js) e)
 
@@ -69,28 +74,34 @@ plain_imports law text e = subst AreImports (sym (items_of_text text)) (imports_
 abbrev Mentions : Type 0
 Mentions = Option (List UserMention)
 
-both_none : (a b : Mentions) (ms : List UserMention) → both_lists a b ≡ Some ms → ((xs : List UserMention) → a ≡ Some xs → xs ≡ []) → ((ys : List UserMention) → b ≡ Some ys → ys ≡ []) → ms ≡ []
+both_none : (a b : Mentions) (ms : List UserMention) → both_lists a b ≡ Some ms → ((xs : List UserMention) → a ≡ Some xs → xs ≡ [])
+    → ((ys : List UserMention) → b ≡ Some ys → ys ≡ []) → ms ≡ []
 both_none None b ms e f g = absurd (none-some ms e)
 both_none (Some xs) None ms e f g = absurd (none-some ms e)
 both_none (Some xs) (Some ys) ms e f g = sym (same_Some (xs ++ ys) ms e) ∙ ap (λ zs. zs ++ ys) (f xs refl) ∙ g ys refl
 
-of_said : (of_name : List ℕ → Mentions) (s : UserSaid) → IsImport s → ((name : List ℕ) (xs : List UserMention) → of_name name ≡ Some xs → xs ≡ []) → (xs : List UserMention) → mentions_of of_name s ≡ Some xs → xs ≡ []
+of_said : (of_name : List ℕ → Mentions) (s : UserSaid) → IsImport s → ((name : List ℕ) (xs : List UserMention) → of_name name ≡ Some xs → xs ≡ [])
+    → (xs : List UserMention) → mentions_of of_name s ≡ Some xs → xs ≡ []
 of_said of_name (says name content) b h xs f = absurd b
 of_said of_name (imports name) b h xs f = h name xs f
 
-no_items : (of_name : List ℕ → Mentions) (is : List ReadUserItem) (ms : List UserMention) → AreImports is → ((name : List ℕ) (xs : List UserMention) → of_name name ≡ Some xs → xs ≡ []) → expand_items of_name is ≡ Some ms → ms ≡ []
+no_items : (of_name : List ℕ → Mentions) (is : List ReadUserItem) (ms : List UserMention) → AreImports is
+    → ((name : List ℕ) (xs : List UserMention) → of_name name ≡ Some xs → xs ≡ []) → expand_items of_name is ≡ Some ms → ms ≡ []
 no_items of_name [] ms a h e = sym (same_Some [] ms e)
-no_items of_name (i ∷ is) ms a h e = both_none (mentions_of of_name i.said) (expand_items of_name is) ms e (of_said of_name i.said a.0 h) (λ ys f. no_items of_name is ys a.1 h f)
+no_items of_name (i ∷ is) ms a h e =
+    both_none (mentions_of of_name i.said) (expand_items of_name is) ms e (of_said of_name i.said a.0 h) (λ ys f. no_items of_name is ys a.1 h f)
 
 -- a block of the list mentions none, if blocks expanded to that depth do not
 abbrev MentionNone : List (List ℕ) → ℕ → Type 0
 MentionNone texts depth = (text : List ℕ) (ms : List UserMention) → Plain text → expand texts depth text ≡ Some ms → ms ≡ []
 
-at_place : (texts : List (List ℕ)) (depth at : ℕ) → DefineNoNames texts → MentionNone texts depth → (t : Option (List ℕ)) (ms : List UserMention) → slice_get texts at ≡ t → option_and_then (expand texts depth) t ≡ Some ms → ms ≡ []
+at_place : (texts : List (List ℕ)) (depth at : ℕ) → DefineNoNames texts → MentionNone texts depth → (t : Option (List ℕ)) (ms : List UserMention)
+    → slice_get texts at ≡ t → option_and_then (expand texts depth) t ≡ Some ms → ms ≡ []
 at_place texts depth at plain h None ms stands e = absurd (none-some ms e)
 at_place texts depth at plain h (Some text) ms stands e = h text ms (plain at text stands) e
 
-no_owner : (texts : List (List ℕ)) (depth : ℕ) → DefineNoNames texts → MentionNone texts depth → (o : Option ℕ) (ms : List UserMention) → option_and_then (expand texts depth) (option_and_then (slice_get texts) o) ≡ Some ms → ms ≡ []
+no_owner : (texts : List (List ℕ)) (depth : ℕ) → DefineNoNames texts → MentionNone texts depth → (o : Option ℕ) (ms : List UserMention)
+    → option_and_then (expand texts depth) (option_and_then (slice_get texts) o) ≡ Some ms → ms ≡ []
 no_owner texts depth plain h None ms e = absurd (none-some ms e)
 no_owner texts depth plain h (Some at) ms e = at_place texts depth at plain h (slice_get texts at) ms refl e
 
@@ -98,12 +109,14 @@ if_whole : (broken : Bool) (o : Mentions) (ms : List UserMention) → cond broke
 if_whole true o ms e = absurd (none-some ms e)
 if_whole false o ms e = e
 
-no_mentions : WarningsAreOfDefiningItems → (texts : List (List ℕ)) → DefineNoNames texts → (depth : ℕ) (text : List ℕ) (ms : List UserMention) → Plain text → expand texts depth text ≡ Some ms → ms ≡ []
+no_mentions : WarningsAreOfDefiningItems → (texts : List (List ℕ)) → DefineNoNames texts → (depth : ℕ) (text : List ℕ) (ms : List UserMention) → Plain text
+    → expand texts depth text ≡ Some ms → ms ≡ []
 no_mentions law texts plain zero text ms p e = absurd (none-some ms e)
 no_mentions law texts plain (suc depth) text ms p e =
     no_items (λ name. option_and_then (expand texts depth) (owner_text texts name)) (user_reading_of_text text).items ms (plain_imports law text p)
     (λ name xs f. no_owner texts depth plain (no_mentions law texts plain depth) (owner (readings texts) name) xs f)
-    (if_whole (is_broken (reading_of_text text)) (expand_items (λ name. option_and_then (expand texts depth) (owner_text texts name)) (user_reading_of_text text).items) ms e)
+    (if_whole (is_broken (reading_of_text text)) (expand_items (λ name. option_and_then (expand texts depth) (owner_text texts name))
+    (user_reading_of_text text).items) ms e)
 
 no_rows : (ms : List UserMention) (rows : List Row) → ms ≡ [] → AreRowsOf (first_said ms) rows → rows ≡ []
 no_rows ms [] e are = refl
@@ -111,14 +124,17 @@ no_rows ms (r ∷ rs) e are = absurd (none-some r.1 (sym (ap (λ xs. without_can
 
 -- ---- what becomes of the blocks
 
-one_state : WarningsAreOfDefiningItems → (texts : List (List ℕ)) → DefineNoNames texts → (text : List ℕ) (state : EntryState) → Plain text → IsStateOf texts text state → state ≡ state_of (readings texts) (reading_of_text text)
+one_state : WarningsAreOfDefiningItems → (texts : List (List ℕ)) → DefineNoNames texts → (text : List ℕ) (state : EntryState) → Plain text
+    → IsStateOf texts text state → state ≡ state_of (readings texts) (reading_of_text text)
 one_state law texts plain text _ p (does_not_resolve e) = sym (ap (state_there (reading_of_text text)) e)
 one_state law texts plain text _ p (does_resolve {state = state} h) =
     let none : h.user_mentions ≡ [] = no_mentions law texts plain (suc (length texts)) text h.user_mentions p h.user_expands in
     let rows : h.rows ≡ [] = no_rows h.user_mentions h.rows none h.are_rows in
-    h.is ∙ ap (state_with (reading_of_text text) h.mentions) rows ∙ bare_image (reading_of_text text) h.mentions ∙ sym (ap (state_there (reading_of_text text)) h.expands)
+    h.is ∙ ap (state_with (reading_of_text text) h.mentions) rows ∙ bare_image (reading_of_text text) h.mentions
+    ∙ sym (ap (state_there (reading_of_text text)) h.expands)
 
-all_states : WarningsAreOfDefiningItems → (texts : List (List ℕ)) → DefineNoNames texts → (xs : List (List ℕ)) (states : List EntryState) → ((at : ℕ) (text : List ℕ) → slice_get xs at ≡ Some text → Plain text)
+all_states : WarningsAreOfDefiningItems → (texts : List (List ℕ)) → DefineNoNames texts → (xs : List (List ℕ)) (states : List EntryState)
+    → ((at : ℕ) (text : List ℕ) → slice_get xs at ≡ Some text → Plain text)
     → AllZip (IsStateOf texts) xs states → states ≡ map (λ text. state_of (readings texts) (reading_of_text text)) xs
 all_states law texts plain [] [] h all = refl
 all_states law texts plain [] (s ∷ ss) h all = absurd all
@@ -134,17 +150,21 @@ entry_of_state b (Some ms) = chosen (is_too_large b ms) (image_of b ms) where
   chosen true i = refl
   chosen false i = refl
 
-same_entry : (texts : List (List ℕ)) (at : ℕ) (text : List ℕ) → slice_get texts at ≡ Some text → entry_in (state_of (readings texts) (reading_of_text text)) ≡ compiled texts at
+same_entry : (texts : List (List ℕ)) (at : ℕ) (text : List ℕ) → slice_get texts at ≡ Some text
+    → entry_in (state_of (readings texts) (reading_of_text text)) ≡ compiled texts at
 same_entry texts at text stands =
     let there : slice_get (readings texts) at ≡ Some (reading_of_text text) = read_text texts at text stands in
-    let here : compiled texts at ≡ option_and_then (entry_of (reading_of_text text)) (expansion_there (readings texts) (reading_of_text text)) = ap (option_and_then (entry (readings texts))) there in
+    let here : compiled texts at ≡ option_and_then (entry_of (reading_of_text text)) (expansion_there (readings texts) (reading_of_text text)) =
+    ap (option_and_then (entry (readings texts))) there in
     entry_of_state (reading_of_text text) (expansion_there (readings texts) (reading_of_text text)) ∙ sym here
 
 -- ---- the faults
 
-map_four : (h n i e : List SourceFault) → map of_profile h ++ (map of_profile n ++ (map of_profile i ++ map of_profile e)) ≡ map of_profile (h ++ (n ++ (i ++ e)))
+map_four : (h n i e : List SourceFault) → map of_profile h ++ (map of_profile n ++ (map of_profile i ++ map of_profile e))
+    ≡ map of_profile (h ++ (n ++ (i ++ e)))
 map_four h n i e =
-    sym (map-append of_profile h (n ++ (i ++ e)) ∙ ap (λ xs. map of_profile h ++ xs) (map-append of_profile n (i ++ e) ∙ ap (λ xs. map of_profile n ++ xs) (map-append of_profile i e)))
+    sym (map-append of_profile h (n ++ (i ++ e)) ∙ ap (λ xs. map of_profile h ++ xs) (map-append of_profile n (i ++ e)
+    ∙ ap (λ xs. map of_profile n ++ xs) (map-append of_profile i e)))
 
 same_block : WarningsAreOfDefiningItems → ItemFaultsAreInOrder → (blocks : List Reading) (at : ℕ) (text : List ℕ) → Plain text
     → extended_block_faults blocks at text (state_of blocks (reading_of_text text)) ≡ map of_profile (block_faults blocks at (reading_of_text text))
@@ -156,18 +176,22 @@ same_block law order blocks at text p =
     ap (λ xs. map of_profile h ++ (map of_profile n ++ (xs ++ map of_profile e))) (plain_items order blocks at text p)
     ∙ map_four h n (item_faults blocks at (filter (is_kept false) block.faults) block.items) e
 
-same_after : WarningsAreOfDefiningItems → ItemFaultsAreInOrder → (blocks : List Reading) (at : ℕ) (xs : List (List ℕ)) → ((k : ℕ) (text : List ℕ) → slice_get xs k ≡ Some text → Plain text)
-    → extended_faults_after blocks at xs (map (λ text. state_of blocks (reading_of_text text)) xs) ≡ map of_profile (faults_after blocks at (map reading_of_text xs))
+same_after : WarningsAreOfDefiningItems → ItemFaultsAreInOrder → (blocks : List Reading) (at : ℕ) (xs : List (List ℕ))
+    → ((k : ℕ) (text : List ℕ) → slice_get xs k ≡ Some text → Plain text)
+    → extended_faults_after blocks at xs (map (λ text. state_of blocks (reading_of_text text)) xs)
+    ≡ map of_profile (faults_after blocks at (map reading_of_text xs))
 same_after law order blocks at [] h = refl
 same_after law order blocks at (x ∷ xs) h =
     let rest = faults_after blocks (suc at) (map reading_of_text xs) in
-    ap (λ ys. ys ++ extended_faults_after blocks (suc at) xs (map (λ text. state_of blocks (reading_of_text text)) xs)) (same_block law order blocks at x (h 0 x refl))
+    ap (λ ys. ys ++ extended_faults_after blocks (suc at) xs (map (λ text. state_of blocks (reading_of_text text)) xs))
+    (same_block law order blocks at x (h 0 x refl))
     ∙ ap (λ ys. map of_profile (block_faults blocks at (reading_of_text x)) ++ ys) (same_after law order blocks (suc at) xs (λ k text e. h (suc k) text e))
     ∙ sym (map-append of_profile (block_faults blocks at (reading_of_text x)) rest)
 
 -- ---- the report
 
-same_lines : (texts : List (List ℕ)) (first : ℕ) (fs : List SourceFault) → flat_map (extended_line texts first) (map of_profile fs) ≡ flat_map (report_line texts first) fs
+same_lines : (texts : List (List ℕ)) (first : ℕ) (fs : List SourceFault) → flat_map (extended_line texts first) (map of_profile fs)
+    ≡ flat_map (report_line texts first) fs
 same_lines texts first [] = refl
 same_lines texts first (f ∷ fs) = ap (λ xs. report_line texts first f ++ xs) (same_lines texts first fs)
 
@@ -176,5 +200,6 @@ plain_sources law order = record {
   states = λ texts states plain are. all_states law texts plain texts states plain are;
   entries = same_entry;
   faults = λ texts plain. same_after law order (readings texts) 0 texts plain;
-  report = λ texts first plain. ap (flat_map (extended_line texts first)) (same_after law order (readings texts) 0 texts plain) ∙ same_lines texts first (faults (readings texts));
+  report = λ texts first plain. ap (flat_map (extended_line texts first)) (same_after law order (readings texts) 0 texts plain)
+      ∙ same_lines texts first (faults (readings texts));
 }

@@ -1,5 +1,6 @@
 -- The rows of a table, kind by kind, are those of a block, and there is only one such list.
-use Rattle.std.proofs.Common.{◌≡◌, ◌≢◌, ◌↔◌, ℕ, zero, suc, ◌+◌, ◌<◌, Bool, true, false, cond, List, [], ◌∷◌, ◌++◌, map, filter, length, get_or, Option, Some, None, refl, sym, ap, ◌∙◌, subst, arith, append_assoc, ◌⊎◌, inl, inr}
+use Rattle.std.proofs.Common.{◌≡◌, ◌≢◌, ◌↔◌, ℕ, zero, suc, ◌+◌, ◌<◌, Bool, true, false, cond, List, [], ◌∷◌, ◌++◌, map, filter, length, get_or, Option}
+use Rattle.std.proofs.Common.{Some, None, refl, sym, ap, ◌∙◌, subst, arith, append_assoc, ◌⊎◌, inl, inr}
 use Rattle.std.specs.Prelude.{IsTrue, ◌==◌, ◌&&◌, ◌||◌, nat_le, All}
 use Rattle.std.specs.List.{AllPairs, AllByRecursion, Contains}
 use Rattle.std.specs.List.Sorted.{IsStrictlySortedBy}
@@ -16,7 +17,8 @@ use Rattle.std.specs.declared.alloc.Global.{Global}
 use Rattle.std.proofs.lemmas.Bool.{cases_Bool, cases_lt, false≢true}
 use Rattle.std.proofs.lemmas.Cmp.{nat_list_cmp_total, tied_itself}
 use Rattle.std.proofs.lemmas.List.{map-append}
-use Rattle.std.proofs.lemmas.List.Elements.{All-nil, All-cons, All-append, All-contains, All-filter, filter-append, filter_passes, All-get_or, All-from_recursion, Contains-append_cases, Contains-append_left, Contains-append_right}
+use Rattle.std.proofs.lemmas.List.Elements.{All-nil, All-cons, All-append, All-contains, All-filter, filter-append, filter_passes, All-get_or}
+use Rattle.std.proofs.lemmas.List.Elements.{All-from_recursion, Contains-append_cases, Contains-append_left, Contains-append_right}
 use Rattle.std.proofs.lemmas.List.Kept.{AllPairs-cons, AllPairs-filter}
 use Rattle.std.proofs.lemmas.Option.{same_Some, none-some}
 use Rattle.ti_caps.specs.declared.capability.Kind.{Kind}
@@ -50,7 +52,8 @@ filter-contains p [] x c e = absurd (contains_none x c)
 filter-contains p (r ∷ rs) x c e = elim (contains_cases r rs x c) [
   | inl same ↦
       let passes : p r ≡ true = ap p same ∙ e in
-      subst (λ (b : Bool). Contains (cond b (r ∷ filter p rs) (filter p rs)) x) (sym passes) (subst (λ (y : Row). Contains (r ∷ filter p rs) y) same (contains_head r (filter p rs)))
+      subst (λ (b : Bool). Contains (cond b (r ∷ filter p rs) (filter p rs)) x) (sym passes)
+      (subst (λ (y : Row). Contains (r ∷ filter p rs) y) same (contains_head r (filter p rs)))
   | inr later ↦ elim (p r) as (λ b. Contains (cond b (r ∷ filter p rs) (filter p rs)) x) [
     | true ↦ contains_later r (filter p rs) x (filter-contains p rs x later e)
     | false ↦ filter-contains p rs x later e
@@ -76,7 +79,8 @@ pairs_tail R r rs h = λ i j d a b. h (suc i) (suc j) d (omega (arith, a)) (omeg
 pairs_head : (R : Row → Row → Type 0) (r : Row) (rs : List Row) → AllPairs R (r ∷ rs) → All (R r) rs
 pairs_head R r rs h = λ k d l. h 0 (suc k) d (omega arith) (omega (arith, l))
 
-pairs_append : (R : Row → Row → Type 0) (xs ys : List Row) → AllPairs R xs → AllPairs R ys → ((x y : Row) → Contains xs x → Contains ys y → R x y) → AllPairs R (xs ++ ys)
+pairs_append : (R : Row → Row → Type 0) (xs ys : List Row) → AllPairs R xs → AllPairs R ys → ((x y : Row) → Contains xs x → Contains ys y → R x y)
+    → AllPairs R (xs ++ ys)
 pairs_append R [] ys a b h = b
 pairs_append R (x ∷ xs) ys a b h =
     AllPairs-cons R x (xs ++ ys)
@@ -128,7 +132,8 @@ rows_apart u v e f = elim (cases_lt (kind_rank u.1) (kind_rank v.1)) [
     | inl lt ↦ false≢true (sym (not_after_rank (kind_rank u.1) (kind_rank v.1) (slice_cmp nat_cmp u.0 v.0) lt) ∙ e)
     | inr ge ↦
         let same : kind_rank u.1 ≡ kind_rank v.1 = omega (arith, le, ge) in
-        names_apart u.0 v.0 (by_name (kind_rank v.1) (slice_cmp nat_cmp u.0 v.0) (subst (λ (n : ℕ). before_with n (kind_rank v.1) (slice_cmp nat_cmp u.0 v.0) ≡ true) same e))
+        names_apart u.0 v.0 (by_name (kind_rank v.1) (slice_cmp nat_cmp u.0 v.0)
+        (subst (λ (n : ℕ). before_with n (kind_rank v.1) (slice_cmp nat_cmp u.0 v.0) ≡ true) same e))
         (by_name (kind_rank v.1) (slice_cmp nat_cmp v.0 u.0) (subst (λ (n : ℕ). before_with (kind_rank v.1) n (slice_cmp nat_cmp v.0 u.0) ≡ true) same f))
   ]
 ]
@@ -151,7 +156,8 @@ same_heads x xs y ys a b h = elim (contains_cases y ys x ((h x).0 (contains_head
 ]
 
 -- a row of the rest of one list is in the rest of the other
-in_rest : (x : Row) (xs : List Row) (y : Row) (ys : List Row) → AllPairs Before (x ∷ xs) → x ≡ y → (r : Row) → Contains xs r → Contains (y ∷ ys) r → Contains ys r
+in_rest : (x : Row) (xs : List Row) (y : Row) (ys : List Row) → AllPairs Before (x ∷ xs) → x ≡ y → (r : Row) → Contains xs r → Contains (y ∷ ys) r
+    → Contains ys r
 in_rest x xs y ys a same r c d = elim (contains_cases y ys r d) [
   | inl e ↦
       let here : Before x r = All-contains (Before x) xs r (pairs_head Before x xs a) c in
@@ -168,7 +174,11 @@ determined (x ∷ xs) (y ∷ ys) a b h =
     let same : x ≡ y = same_heads x xs y ys a b h in
     let rest : xs ≡ ys =
     determined xs ys (pairs_tail Before x xs a) (pairs_tail Before y ys b)
-    (λ r. (λ c. in_rest x xs y ys a same r c ((h r).0 (contains_later x xs r c)), λ c. in_rest y ys x xs b (sym same) r c ((h r).1 (contains_later y ys r c)))) in
+    (λ r. (
+      λ c. in_rest x xs y ys a same r c ((h r).0 (contains_later x xs r c)),
+      λ c. in_rest y ys x xs b (sym same) r c
+          ((h r).1 (contains_later y ys r c)),
+    )) in
     ap (λ z. z ∷ xs) same ∙ ap (λ zs. y ∷ zs) rest
 
 pub rows_are_determined : RowsAreDetermined
@@ -186,7 +196,8 @@ key_cmp x y = slice_cmp nat_cmp x.items y.items
 abbrev said_in : Entries → List ℕ → Option Content
 said_in es name = option_map content_of (lookup (is_at (λ key. slice_cmp nat_cmp name key.items)) es)
 
-later_names : (k : Vec ℕ Global) (es : Entries) → AllByRecursion (λ y. key_cmp k y ≡ Less) (keys_of es) → All (λ (r : Row). slice_cmp nat_cmp k.items r.0 ≡ Less) (map row_of_entry es)
+later_names : (k : Vec ℕ Global) (es : Entries) → AllByRecursion (λ y. key_cmp k y ≡ Less) (keys_of es)
+    → All (λ (r : Row). slice_cmp nat_cmp k.items r.0 ≡ Less) (map row_of_entry es)
 later_names k [] h = All-nil (λ (r : Row). slice_cmp nat_cmp k.items r.0 ≡ Less)
 later_names k (e ∷ es) h = All-cons (λ (r : Row). slice_cmp nat_cmp k.items r.0 ≡ Less) (row_of_entry e) (map row_of_entry es) h.0 (later_names k es h.1)
 
@@ -204,7 +215,8 @@ test_itself name = ap is_eq (tied_itself nat_list_cmp_total name)
 test_of_less : (x y : List ℕ) → slice_cmp nat_cmp x y ≡ Less → is_eq (slice_cmp nat_cmp y x) ≡ false
 test_of_less x y l = ap is_eq (nat_list_cmp_total.antisymm y x) ∙ ap (λ o. is_eq (ordering_reverse o)) l
 
-said_here : (e : Vec ℕ Global × Value) (es : Entries) (name : List ℕ) (content : Content) → row_of_entry e ≡ (name, content) → said_in (e ∷ es) name ≡ Some content
+said_here : (e : Vec ℕ Global × Value) (es : Entries) (name : List ℕ) (content : Content) → row_of_entry e ≡ (name, content)
+    → said_in (e ∷ es) name ≡ Some content
 said_here e es name content same =
     let named : e.0.items ≡ name = ap (λ (r : Row). r.0) same in
     let given : content_of e.1 ≡ content = ap (λ (r : Row). r.1) same in
@@ -214,21 +226,27 @@ said_here e es name content same =
 said_later : (e : Vec ℕ Global × Value) (es : Entries) (name : List ℕ) → slice_cmp nat_cmp e.0.items name ≡ Less → said_in (e ∷ es) name ≡ said_in es name
 said_later e es name l = rw (test_of_less e.0.items name l) refl
 
-said_of_row : (es : Entries) → IsStrictlySortedBy key_cmp (keys_of es) → (name : List ℕ) (content : Content) → Contains (map row_of_entry es) (name, content) → said_in es name ≡ Some content
+said_of_row : (es : Entries) → IsStrictlySortedBy key_cmp (keys_of es) → (name : List ℕ) (content : Content)
+    → Contains (map row_of_entry es) (name, content) → said_in es name ≡ Some content
 unfolding IsStrictlySortedBy
 said_of_row [] s name content c = absurd (contains_none (name, content) c)
 said_of_row (e ∷ es) s name content c = elim (contains_cases (row_of_entry e) (map row_of_entry es) (name, content) c) [
   | inl same ↦ said_here e es name content same
   | inr later ↦
-      let less : slice_cmp nat_cmp e.0.items name ≡ Less = All-contains (λ (r : Row). slice_cmp nat_cmp e.0.items r.0 ≡ Less) (map row_of_entry es) (name, content) (later_names e.0 es s.0) later in
+      let less : slice_cmp nat_cmp e.0.items name ≡ Less =
+      All-contains (λ (r : Row). slice_cmp nat_cmp e.0.items r.0 ≡ Less) (map row_of_entry es) (name, content) (later_names e.0 es s.0) later in
       said_later e es name less ∙ said_of_row es s.1 name content later
 ]
 
-found_said : (x : Vec ℕ Global × Value) (es : Entries) (name : List ℕ) → is_eq (slice_cmp nat_cmp name x.0.items) ≡ true → said_in (x ∷ es) name ≡ Some (content_of x.1)
-found_said x es name t = ap (λ (b : Bool). option_map content_of (cond b (Some x.1) (lookup (is_at (λ (key : Vec ℕ Global). slice_cmp nat_cmp name key.items)) es))) t
+found_said : (x : Vec ℕ Global × Value) (es : Entries) (name : List ℕ) → is_eq (slice_cmp nat_cmp name x.0.items) ≡ true
+    → said_in (x ∷ es) name ≡ Some (content_of x.1)
+found_said x es name t =
+    ap (λ (b : Bool). option_map content_of (cond b (Some x.1) (lookup (is_at (λ (key : Vec ℕ Global). slice_cmp nat_cmp name key.items)) es))) t
 
-passed_said : (x : Vec ℕ Global × Value) (es : Entries) (name : List ℕ) → is_eq (slice_cmp nat_cmp name x.0.items) ≡ false → said_in (x ∷ es) name ≡ said_in es name
-passed_said x es name f = ap (λ (b : Bool). option_map content_of (cond b (Some x.1) (lookup (is_at (λ (key : Vec ℕ Global). slice_cmp nat_cmp name key.items)) es))) f
+passed_said : (x : Vec ℕ Global × Value) (es : Entries) (name : List ℕ) → is_eq (slice_cmp nat_cmp name x.0.items) ≡ false
+    → said_in (x ∷ es) name ≡ said_in es name
+passed_said x es name f =
+    ap (λ (b : Bool). option_map content_of (cond b (Some x.1) (lookup (is_at (λ (key : Vec ℕ Global). slice_cmp nat_cmp name key.items)) es))) f
 
 row_same : (a b : List ℕ) (c d : Content) → a ≡ b → c ≡ d → ◌≡◌ {A = Row} (a, c) (b, d)
 row_same a b c d e f = rw (e, f) refl
@@ -239,7 +257,8 @@ row_of_said (x ∷ es) name content e = elim (cases_Bool (is_eq (slice_cmp nat_c
   | inl t ↦
       let same : name ≡ x.0.items = (bytes_decides name x.0.items).0 (sym (is_eq-slice_cmp name x.0.items) ∙ t) in
       let given : content_of x.1 ≡ content = same_Some (content_of x.1) content (sym (found_said x es name t) ∙ e) in
-      subst (λ (r : Row). Contains (map row_of_entry (x ∷ es)) r) (row_same x.0.items name (content_of x.1) content (sym same) given) (contains_head (row_of_entry x) (map row_of_entry es))
+      subst (λ (r : Row). Contains (map row_of_entry (x ∷ es)) r) (row_same x.0.items name (content_of x.1) content (sym same) given)
+      (contains_head (row_of_entry x) (map row_of_entry es))
   | inr f ↦ contains_later (row_of_entry x) (map row_of_entry es) (name, content) (row_of_said es name content (sym (passed_said x es name f) ∙ e))
 ]
 
@@ -289,12 +308,15 @@ all_kinds rows = (rows_of_kind kind.Flag rows ++ rows_of_kind kind.Number rows) 
 in_all : (rows : List Row) (name : List ℕ) (c : Content) → Contains rows (name, c) → without_cancel (Some c) ≡ Some c → Contains (all_kinds rows) (name, c)
 in_all rows name content_true h e =
     Contains-append_left (rows_of_kind kind.Flag rows ++ rows_of_kind kind.Number rows) (rows_of_kind kind.Text rows) (name, content_true)
-    (Contains-append_left (rows_of_kind kind.Flag rows) (rows_of_kind kind.Number rows) (name, content_true) (filter-contains (in_kind kind.Flag) rows (name, content_true) h refl))
+    (Contains-append_left (rows_of_kind kind.Flag rows) (rows_of_kind kind.Number rows) (name, content_true)
+    (filter-contains (in_kind kind.Flag) rows (name, content_true) h refl))
 in_all rows name (content_number n) h e =
     Contains-append_left (rows_of_kind kind.Flag rows ++ rows_of_kind kind.Number rows) (rows_of_kind kind.Text rows) (name, content_number n)
-    (Contains-append_right (rows_of_kind kind.Flag rows) (rows_of_kind kind.Number rows) (name, content_number n) (filter-contains (in_kind kind.Number) rows (name, content_number n) h refl))
+    (Contains-append_right (rows_of_kind kind.Flag rows) (rows_of_kind kind.Number rows) (name, content_number n)
+    (filter-contains (in_kind kind.Number) rows (name, content_number n) h refl))
 in_all rows name (content_text t) h e =
-    Contains-append_right (rows_of_kind kind.Flag rows ++ rows_of_kind kind.Number rows) (rows_of_kind kind.Text rows) (name, content_text t) (filter-contains (in_kind kind.Text) rows (name, content_text t) h refl)
+    Contains-append_right (rows_of_kind kind.Flag rows ++ rows_of_kind kind.Number rows) (rows_of_kind kind.Text rows) (name, content_text t)
+    (filter-contains (in_kind kind.Text) rows (name, content_text t) h refl)
 in_all rows name content_cancelled h e = absurd (none-some content_cancelled e)
 
 abbrev IsThere : List Row → Row → Type 0
@@ -322,7 +344,8 @@ kind_rises k rows h = λ i j d a b.
     let u = get_or kept i d in
     let v = get_or kept j d in
     let first : i < length kept = omega (arith, a, b) in
-    with_less (kind_rank u.1) (kind_rank v.1) (slice_cmp nat_cmp u.0 v.0) (rank_in_kind k u.1 (passes i d first) ∙ sym (rank_in_kind k v.1 (passes j d b))) (AllPairs-filter ByName (in_kind k) rows h i j d a b)
+    with_less (kind_rank u.1) (kind_rank v.1) (slice_cmp nat_cmp u.0 v.0) (rank_in_kind k u.1 (passes i d first) ∙ sym (rank_in_kind k v.1 (passes j d b)))
+    (AllPairs-filter ByName (in_kind k) rows h i j d a b)
 
 across : (u v : Row) (a b : ℕ) → kind_rank u.1 ≡ a → kind_rank v.1 ≡ b → a < b → Before u v
 across u v a b e f l = with_rank (kind_rank u.1) (kind_rank v.1) (slice_cmp nat_cmp u.0 v.0) (omega (arith, e, f, l))
@@ -360,25 +383,31 @@ rows_of_entries es s = record {
 pub kind_more : (k : Kind) (rows : List Row) (r : Row) → rows_of_kind k (rows ++ r ∷ []) ≡ rows_of_kind k rows ++ row_with r.0 (of_kind k r.1)
 kind_more k rows r =
     filter-append (in_kind k) rows (r ∷ [])
-    ∙ elim (is_of_kind k r.1) as (λ b. rows_of_kind k rows ++ cond b (r ∷ []) [] ≡ rows_of_kind k rows ++ row_with r.0 (cond b (Some r.1) None)) [ true ↦ refl | false ↦ refl ]
+    ∙ elim (is_of_kind k r.1) as (λ b. rows_of_kind k rows ++ cond b (r ∷ []) [] ≡ rows_of_kind k rows
+    ++ row_with r.0 (cond b (Some r.1) None)) [ true ↦ refl | false ↦ refl ]
 
 -- a row of one more entry was added
-pub row_more : (k : Kind) (es : Entries) (key : Vec ℕ Global) (v : Value) (start old new : List Row) → old ≡ start ++ rows_of_kind k (map row_of_entry es) → new ≡ old ++ row_with key.items (of_kind k (content_of v))
+pub row_more : (k : Kind) (es : Entries) (key : Vec ℕ Global) (v : Value) (start old new : List Row) → old ≡ start ++ rows_of_kind k (map row_of_entry es)
+    → new ≡ old ++ row_with key.items (of_kind k (content_of v))
     → new ≡ start ++ rows_of_kind k (map row_of_entry (es ++ (key, v) ∷ []))
 row_more k es key v start old new e n =
     n ∙ ap (λ xs. xs ++ row_with key.items (of_kind k (content_of v))) e
     ∙ append_assoc start (rows_of_kind k (map row_of_entry es)) (row_with key.items (of_kind k (content_of v)))
-    ∙ ap (λ xs. start ++ xs) (sym (kind_more k (map row_of_entry es) (key.items, content_of v)) ∙ ap (rows_of_kind k) (sym (map-append row_of_entry es ((key, v) ∷ []))))
+    ∙ ap (λ xs. start ++ xs) (sym (kind_more k (map row_of_entry es) (key.items, content_of v))
+    ∙ ap (rows_of_kind k) (sym (map-append row_of_entry es ((key, v) ∷ []))))
 
-pub rows_agree : (said other : List ℕ → Option Content) (rows : List Row) → ((name : List ℕ) → said name ≡ other name) → AreRowsOf said rows → AreRowsOf other rows
+pub rows_agree : (said other : List ℕ → Option Content) (rows : List Row) → ((name : List ℕ) → said name ≡ other name) → AreRowsOf said rows
+    → AreRowsOf other rows
 rows_agree said other rows h are = record {
   rise = are.rise;
   each = λ name content. (λ c. ap without_cancel (sym (h name)) ∙ (are.each name content).0 c, λ e. (are.each name content).1 (ap without_cancel (h name) ∙ e));
 }
 
 -- the rows of the three kinds, added in turn, are those of who says what the entries say
-pub rows_in_turn : (es : Entries) (said : List ℕ → Option Content) (none a b c : List Row) → IsStrictlySortedBy key_cmp (keys_of es) → ((name : List ℕ) → said_in es name ≡ said name) → none ≡ []
-    → a ≡ none ++ rows_of_kind kind.Flag (map row_of_entry es) → b ≡ a ++ rows_of_kind kind.Number (map row_of_entry es) → c ≡ b ++ rows_of_kind kind.Text (map row_of_entry es) → AreRowsOf said c
+pub rows_in_turn : (es : Entries) (said : List ℕ → Option Content) (none a b c : List Row) → IsStrictlySortedBy key_cmp (keys_of es)
+    → ((name : List ℕ) → said_in es name ≡ said name) → none ≡ []
+    → a ≡ none ++ rows_of_kind kind.Flag (map row_of_entry es) → b ≡ a ++ rows_of_kind kind.Number (map row_of_entry es)
+    → c ≡ b ++ rows_of_kind kind.Text (map row_of_entry es) → AreRowsOf said c
 rows_in_turn es said none a b c s h n e f g =
     let rows = map row_of_entry es in
     let flags : a ≡ rows_of_kind kind.Flag rows = e ∙ ap (λ xs. xs ++ rows_of_kind kind.Flag rows) n in

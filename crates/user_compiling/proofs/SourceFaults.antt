@@ -1,5 +1,6 @@
 -- The faults of a block and of a source, put together.
-use Rattle.std.proofs.Common.{◌≡◌, ◌≢◌, ℕ, zero, suc, ◌+◌, ◌-◌, ◌<◌, ◌≤◌, Bool, true, false, ◌&&◌, cond, nat_eq, List, [], ◌∷◌, ◌++◌, map, filter, length, length-append, take, drop, get_or, Option, Some, None, is_some, slice_get, refl, sym, ap, ◌∙◌, subst, arith, append_assoc}
+use Rattle.std.proofs.Common.{◌≡◌, ◌≢◌, ℕ, zero, suc, ◌+◌, ◌-◌, ◌<◌, ◌≤◌, Bool, true, false, ◌&&◌, cond, nat_eq, List, [], ◌∷◌, ◌++◌, map, filter, length}
+use Rattle.std.proofs.Common.{length-append, take, drop, get_or, Option, Some, None, is_some, slice_get, refl, sym, ap, ◌∙◌, subst, arith, append_assoc}
 use Rattle.std.specs.Prelude.{All, is_none, not, option_and_then}
 use Rattle.std.specs.List.{flat_map, take-map, drop-map}
 use Rattle.std.proofs.lemmas.Bool.{false≢true}
@@ -20,10 +21,12 @@ use Rattle.base_meaning.specs.Expansion.{expansion}
 use Rattle.base_meaning.specs.Usable.{IsPlaced}
 use Rattle.base_meaning.specs.ValueTables.{HasTable}
 use Rattle.base_meaning.specs.Compiled.{EntryState, unresolved, oversized, written, state_of, state_with, entry, entry_of, is_too_large, image_of, compiled}
-use Rattle.base_meaning.specs.Faults.{SourceFault, local_fault, local_faults, is_kept, name_fault, name_faults, is_owned_before, distinct, use_fault, fault_of_use, fault_of_item, faults_before, faults_from, item_faults, entry_faults, block_faults, faults_after}
+use Rattle.base_meaning.specs.Faults.{SourceFault, local_fault, local_faults, is_kept, name_fault, name_faults, is_owned_before, distinct, use_fault}
+use Rattle.base_meaning.specs.Faults.{fault_of_use, fault_of_item, faults_before, faults_from, item_faults, entry_faults, block_faults, faults_after}
 use Rattle.user_items.specs.declared.reading.UserCode.{UserCode}
 use Rattle.user_items.specs.declared.reading.UserCode.TheVariants as user
-use Rattle.user_compiling.specs.Faults.{ExtendedSourceFault, of_profile, bad_user_defined, with_code, in_place, bad_at, is_user_warning, extended_item_faults, extended_block_faults, extended_faults_after}
+use Rattle.user_compiling.specs.Faults.{ExtendedSourceFault, of_profile, bad_user_defined, with_code, in_place, bad_at, is_user_warning}
+use Rattle.user_compiling.specs.Faults.{extended_item_faults, extended_block_faults, extended_faults_after}
 use Rattle.user_compiling.specs.Report.{IsExtendedPlaced}
 use Rattle.user_compiling.specs.inside.Pairs.{replaced, head_code, tail_codes, front_faults, count_at}
 
@@ -45,14 +48,16 @@ drop_front [] ys = refl
 drop_front (x ∷ xs) ys = drop_front xs ys
 
 -- as many as come before the last
-pub front_taken : {X : Type 0} (f : X → SourceFault) (xs : List X) (front last : List SourceFault) (n : ℕ) → map f xs ≡ front ++ last → n + length last ≡ length xs → map f (take n xs) ≡ front
+pub front_taken : {X : Type 0} (f : X → SourceFault) (xs : List X) (front last : List SourceFault) (n : ℕ) → map f xs ≡ front ++ last
+    → n + length last ≡ length xs → map f (take n xs) ≡ front
 front_taken f xs front last n e l =
     let many : length xs ≡ length front + length last = sym (length-map xs f) ∙ ap (λ ys. length ys) e ∙ length-append front last in
     let same : n ≡ length front = omega (arith, l, many) in
     sym (take-map f n xs) ∙ ap (take n) e ∙ ap (λ k. take k (front ++ last)) same ∙ take_front front last
 
 -- all but the last one, where one follows
-pub front_but_one : {X : Type 0} (f : X → SourceFault) (xs : List X) (front last : List SourceFault) (n : ℕ) → map f xs ≡ front ++ last → length last ≡ 1 → n ≡ length xs - 1 → map f (take n xs) ≡ front
+pub front_but_one : {X : Type 0} (f : X → SourceFault) (xs : List X) (front last : List SourceFault) (n : ℕ) → map f xs ≡ front ++ last → length last ≡ 1
+    → n ≡ length xs - 1 → map f (take n xs) ≡ front
 front_but_one f xs front last n e one l =
     let many : length xs ≡ length front + length last = sym (length-map xs f) ∙ ap (λ ys. length ys) e ∙ length-append front last in
     front_taken f xs front last n e (omega (arith, l, many, one))
@@ -66,17 +71,21 @@ entry_count_by at names b (Some ms) some e = rw (← e) (chosen (is_too_large b 
   chosen true i = refl
   chosen false i = refl
 
-some_of_table : {T : Type 0} (f : T → Contents) (blocks : List Reading) (b : Reading) (t : Option T) → HasTable f blocks b t → is_some (expansion blocks b) ≡ is_some t
+some_of_table : {T : Type 0} (f : T → Contents) (blocks : List Reading) (b : Reading) (t : Option T) → HasTable f blocks b t
+    → is_some (expansion blocks b) ≡ is_some t
 some_of_table f blocks b None h = ap is_some h
 some_of_table f blocks b (Some t) h = ap is_some h.1
 
-pub entry_count : {T : Type 0} (f : T → Contents) (texts : List (List ℕ)) (at : ℕ) (text : List ℕ) (t : Option T) (o : Option (List ℕ)) → slice_get texts at ≡ Some text
+pub entry_count : {T : Type 0} (f : T → Contents) (texts : List (List ℕ)) (at : ℕ) (text : List ℕ) (t : Option T) (o : Option (List ℕ))
+    → slice_get texts at ≡ Some text
     → HasTable f (readings texts) (reading_of_text text) t → o ≡ compiled texts at
     → length (entry_faults at (reading_of_text text).names (state_of (readings texts) (reading_of_text text))) ≡ cond (is_some t && is_none o) 1 0
 entry_count f texts at text t o stands h e =
     let there : slice_get (readings texts) at ≡ Some (reading_of_text text) = read_text texts at text stands in
-    let here : compiled texts at ≡ option_and_then (entry_of (reading_of_text text)) (expansion (readings texts) (reading_of_text text)) = ap (option_and_then (entry (readings texts))) there in
-    entry_count_by at (reading_of_text text).names (reading_of_text text) (expansion (readings texts) (reading_of_text text)) (is_some t) (some_of_table f (readings texts) (reading_of_text text) t h)
+    let here : compiled texts at ≡ option_and_then (entry_of (reading_of_text text)) (expansion (readings texts) (reading_of_text text)) =
+    ap (option_and_then (entry (readings texts))) there in
+    entry_count_by at (reading_of_text text).names (reading_of_text text) (expansion (readings texts) (reading_of_text text)) (is_some t)
+    (some_of_table f (readings texts) (reading_of_text text) t h)
     ∙ ap (λ q. cond (is_some t && is_none q) 1 0) (sym (e ∙ here))
 
 -- a block that has an entry has no fault of it
@@ -93,7 +102,8 @@ entry_none texts at text bytes stands e =
       neither false = refl
 
 -- one that has none has a fault of it if it resolves
-pub entry_one : {T : Type 0} (f : T → Contents) (texts : List (List ℕ)) (at : ℕ) (text : List ℕ) (t : Option T) → slice_get texts at ≡ Some text → HasTable f (readings texts) (reading_of_text text) t → None ≡ compiled texts at
+pub entry_one : {T : Type 0} (f : T → Contents) (texts : List (List ℕ)) (at : ℕ) (text : List ℕ) (t : Option T) → slice_get texts at ≡ Some text
+    → HasTable f (readings texts) (reading_of_text text) t → None ≡ compiled texts at
     → length (entry_faults at (reading_of_text text).names (state_of (readings texts) (reading_of_text text))) ≡ cond (is_some t) 1 0
 entry_one f texts at text t stands h e = entry_count f texts at text t None stands h e ∙ both (is_some t) where
   both : (v : Bool) → ◌≡◌ {A = ℕ} (cond (v && true) 1 0) (cond v 1 0)
@@ -103,10 +113,12 @@ entry_one f texts at text t stands h e = entry_count f texts at text t None stan
 -- ---- the loop over the faults of the profile
 
 -- a warning is exchanged
-pub one_replaced : (f : SourceFault) (fs : List SourceFault) (cs : List (Option UserCode)) (c : Option UserCode) (old new whole : List ExtendedSourceFault) → is_user_warning f ≡ true → c ≡ head_code cs
+pub one_replaced : (f : SourceFault) (fs : List SourceFault) (cs : List (Option UserCode)) (c : Option UserCode) (old new whole : List ExtendedSourceFault)
+    → is_user_warning f ≡ true → c ≡ head_code cs
     → old ++ replaced (f ∷ fs) cs ≡ whole → new ≡ old ++ in_place f c → new ++ replaced fs (tail_codes cs) ≡ whole
 one_replaced f fs cs c old new whole t e h n =
-    ap (λ xs. xs ++ replaced fs (tail_codes cs)) (n ∙ ap (λ d. old ++ in_place f d) e) ∙ append_assoc old (in_place f (head_code cs)) (replaced fs (tail_codes cs))
+    ap (λ xs. xs ++ replaced fs (tail_codes cs)) (n ∙ ap (λ d. old ++ in_place f d) e)
+    ∙ append_assoc old (in_place f (head_code cs)) (replaced fs (tail_codes cs))
     ∙ ap (λ b. old ++ cond b (in_place f (head_code cs) ++ replaced fs (tail_codes cs)) (of_profile f ∷ replaced fs cs)) (sym t) ∙ h
 
 -- another fault stays
@@ -152,7 +164,8 @@ locals_at at fs = All-map (IsAt at) (local_fault at) fs (λ k d l. refl)
 items_at : (blocks : List Reading) (at : ℕ) (fs : List ReadFault) (items : List ReadItem) → All (IsAt at) (item_faults blocks at fs items)
 items_at blocks at fs [] = locals_at at fs
 items_at blocks at fs (item ∷ items) =
-    All-append (IsAt at) (map (local_fault at) (faults_before item.ordinal fs)) (fault_of_item blocks at item.line (used_name item.said) ++ item_faults blocks at (faults_from item.ordinal fs) items)
+    All-append (IsAt at) (map (local_fault at) (faults_before item.ordinal fs))
+    (fault_of_item blocks at item.line (used_name item.said) ++ item_faults blocks at (faults_from item.ordinal fs) items)
     (locals_at at (faults_before item.ordinal fs))
     (All-append (IsAt at) (fault_of_item blocks at item.line (used_name item.said)) (item_faults blocks at (faults_from item.ordinal fs) items)
     (item_use_at blocks at item.line (used_name item.said)) (items_at blocks at (faults_from item.ordinal fs) items))
@@ -167,7 +180,8 @@ block_at blocks at b =
     let items = item_faults blocks at (filter (is_kept false) b.faults) b.items in
     let last = entry_faults at b.names (state_of blocks b) in
     All-append (IsAt at) (local_faults true at b.faults) (name_faults blocks at b.names ++ (items ++ last)) (locals_at at (filter (is_kept true) b.faults))
-    (All-append (IsAt at) (name_faults blocks at b.names) (items ++ last) (All-map (IsAt at) (name_fault at) (filter (is_owned_before blocks at) (distinct b.names)) (λ k d l. refl))
+    (All-append (IsAt at) (name_faults blocks at b.names) (items ++ last)
+    (All-map (IsAt at) (name_fault at) (filter (is_owned_before blocks at) (distinct b.names)) (λ k d l. refl))
     (All-append (IsAt at) items last (items_at blocks at (filter (is_kept false) b.faults) b.items) (entry_at at b.names (state_of blocks b))))
 
 -- the faults of the blocks from a position on
@@ -199,8 +213,10 @@ count_front at (x ∷ xs) ys a b =
     ap (λ v. cond v (suc (count_at at (xs ++ ys))) 0) same ∙ ap suc (count_front at xs ys (All-tail (IsAt at) x xs a) b)
 
 -- the faults of a block are as many as stand at the front
-pub count_of_block : (blocks : List Reading) (at : ℕ) (b : Reading) (rest : List Reading) → count_at at (block_faults blocks at b ++ faults_after blocks (suc at) rest) ≡ length (block_faults blocks at b)
-count_of_block blocks at b rest = count_front at (block_faults blocks at b) (faults_after blocks (suc at) rest) (block_at blocks at b) (after_from blocks (suc at) rest)
+pub count_of_block : (blocks : List Reading) (at : ℕ) (b : Reading) (rest : List Reading)
+    → count_at at (block_faults blocks at b ++ faults_after blocks (suc at) rest) ≡ length (block_faults blocks at b)
+count_of_block blocks at b rest =
+    count_front at (block_faults blocks at b) (faults_after blocks (suc at) rest) (block_at blocks at b) (after_from blocks (suc at) rest)
 
 -- the part of a list that is mapped to the front of two, and what follows it
 pub part_front : {X : Type 0} (f : X → SourceFault) (xs : List X) (ys zs : List SourceFault) → map f xs ≡ ys ++ zs → map f (take (length ys) xs) ≡ ys
@@ -228,7 +244,8 @@ placed_bad n f (Some name) p = All-cons (IsExtendedPlaced n) (bad_user_defined f
 
 placed_in_place : (n : ℕ) (f : SourceFault) (c : Option UserCode) → IsPlaced n f → All (IsExtendedPlaced n) (in_place f c)
 placed_in_place n f None p = All-nil (IsExtendedPlaced n)
-placed_in_place n f (Some user.UnknownEscape) p = All-cons (IsExtendedPlaced n) (of_profile (with_code f code.UnknownEscape)) [] p (All-nil (IsExtendedPlaced n))
+placed_in_place n f (Some user.UnknownEscape) p =
+    All-cons (IsExtendedPlaced n) (of_profile (with_code f code.UnknownEscape)) [] p (All-nil (IsExtendedPlaced n))
 placed_in_place n f (Some user.BadUserDefined) p = placed_bad n f f.detail p
 
 pub placed_replaced : (n : ℕ) (fs : List SourceFault) (cs : List (Option UserCode)) → All (IsPlaced n) fs → All (IsExtendedPlaced n) (replaced fs cs)
@@ -236,15 +253,18 @@ placed_replaced n [] cs a = All-nil (IsExtendedPlaced n)
 placed_replaced n (f ∷ fs) cs a =
     let here = All-head (IsPlaced n) f fs a in
     let rest = All-tail (IsPlaced n) f fs a in
-    elim (is_user_warning f) as (λ b. All (IsExtendedPlaced n) (cond b (in_place f (head_code cs) ++ replaced fs (tail_codes cs)) (of_profile f ∷ replaced fs cs))) [
-      | true ↦ All-append (IsExtendedPlaced n) (in_place f (head_code cs)) (replaced fs (tail_codes cs)) (placed_in_place n f (head_code cs) here) (placed_replaced n fs (tail_codes cs) rest)
+    elim (is_user_warning f) as (λ b. All (IsExtendedPlaced n)
+    (cond b (in_place f (head_code cs) ++ replaced fs (tail_codes cs)) (of_profile f ∷ replaced fs cs))) [
+      | true ↦ All-append (IsExtendedPlaced n) (in_place f (head_code cs)) (replaced fs (tail_codes cs)) (placed_in_place n f (head_code cs) here)
+          (placed_replaced n fs (tail_codes cs) rest)
       | false ↦ All-cons (IsExtendedPlaced n) (of_profile f) (replaced fs cs) here (placed_replaced n fs cs rest)
     ]
 
 pub placed_entry : (n at : ℕ) (names : List (List ℕ)) (s : EntryState) → at < n → All (IsExtendedPlaced n) (map of_profile (entry_faults at names s))
 placed_entry n at names unresolved l = All-nil (IsExtendedPlaced n)
 placed_entry n at names oversized l =
-    All-cons (IsExtendedPlaced n) (of_profile (record { block = at; line = 1; code = code.TooLarge; detail = slice_get names 0 })) [] (l, (omega arith, omega arith)) (All-nil (IsExtendedPlaced n))
+    All-cons (IsExtendedPlaced n) (of_profile (record { block = at; line = 1; code = code.TooLarge; detail = slice_get names 0 })) []
+    (l, (omega arith, omega arith)) (All-nil (IsExtendedPlaced n))
 placed_entry n at names (written bytes) l = All-nil (IsExtendedPlaced n)
 
 -- ---- block by block
@@ -253,8 +273,10 @@ next_is : (at : ℕ) → at + 1 ≡ suc at
 next_is at = omega arith
 
 -- one more block has its faults
-pub one_block_more : (texts : List (List ℕ)) (states : List EntryState) (at : ℕ) (text : List ℕ) (state : EntryState) (old new whole : List ExtendedSourceFault) → slice_get texts at ≡ Some text → slice_get states at ≡ Some state
-    → old ++ extended_faults_after (readings texts) at (drop at texts) (drop at states) ≡ whole → new ≡ old ++ extended_block_faults (readings texts) at text state
+pub one_block_more : (texts : List (List ℕ)) (states : List EntryState) (at : ℕ) (text : List ℕ) (state : EntryState)
+    (old new whole : List ExtendedSourceFault) → slice_get texts at ≡ Some text → slice_get states at ≡ Some state
+    → old ++ extended_faults_after (readings texts) at (drop at texts) (drop at states) ≡ whole
+    → new ≡ old ++ extended_block_faults (readings texts) at text state
     → new ++ extended_faults_after (readings texts) (at + 1) (drop (at + 1) texts) (drop (at + 1) states) ≡ whole
 one_block_more texts states at text state old new whole s t h n =
     let blocks = readings texts in
@@ -266,17 +288,23 @@ one_block_more texts states at text state old new whole s t h n =
     ∙ ap (λ ss. old ++ extended_faults_after blocks at (drop at texts) ss) (sym (drop_get states at state t)) ∙ h
 
 -- the faults of the profile that are left, in those of the next block and the others
-pub left_in_two : (texts : List (List ℕ)) (at : ℕ) (text : List ℕ) (left : List SourceFault) → slice_get texts at ≡ Some text → left ≡ faults_after (readings texts) at (drop at (readings texts))
+pub left_in_two : (texts : List (List ℕ)) (at : ℕ) (text : List ℕ) (left : List SourceFault) → slice_get texts at ≡ Some text
+    → left ≡ faults_after (readings texts) at (drop at (readings texts))
     → left ≡ block_faults (readings texts) at (reading_of_text text) ++ faults_after (readings texts) (suc at) (drop (at + 1) (readings texts))
 left_in_two texts at text left s e = e ∙ ap (faults_after (readings texts) at) (drop_get (readings texts) at (reading_of_text text) (read_text texts at text s))
 
-pub left_more : (texts : List (List ℕ)) (at : ℕ) (left : List SourceFault) → left ≡ faults_after (readings texts) (suc at) (drop (at + 1) (readings texts)) → left ≡ faults_after (readings texts) (at + 1) (drop (at + 1) (readings texts))
+pub left_more : (texts : List (List ℕ)) (at : ℕ) (left : List SourceFault) → left ≡ faults_after (readings texts) (suc at) (drop (at + 1) (readings texts))
+    → left ≡ faults_after (readings texts) (at + 1) (drop (at + 1) (readings texts))
 left_more texts at left e = e ∙ ap (λ (k : ℕ). faults_after (readings texts) k (drop (at + 1) (readings texts))) (sym (next_is at))
 
-pub none_left : (blocks : List Reading) (at : ℕ) (texts : List (List ℕ)) (states : List EntryState) (all whole : List ExtendedSourceFault) → length texts ≤ at → all ++ extended_faults_after blocks at (drop at texts) (drop at states) ≡ whole → all ≡ whole
-none_left blocks at texts states all whole l e = sym (append-nil all) ∙ ap (λ xs. all ++ extended_faults_after blocks at xs (drop at states)) (sym (drop_all at texts l)) ∙ e
+pub none_left : (blocks : List Reading) (at : ℕ) (texts : List (List ℕ)) (states : List EntryState) (all whole : List ExtendedSourceFault)
+    → length texts ≤ at → all ++ extended_faults_after blocks at (drop at texts) (drop at states) ≡ whole → all ≡ whole
+none_left blocks at texts states all whole l e =
+    sym (append-nil all) ∙ ap (λ xs. all ++ extended_faults_after blocks at xs (drop at states)) (sym (drop_all at texts l)) ∙ e
 
 -- the fault of an entry was added
-pub entry_added : (at : ℕ) (names : List (List ℕ)) (d : Option (List ℕ)) (old new : List ExtendedSourceFault) → d ≡ slice_get names 0 → new ≡ old ++ of_profile (record { block = at; line = 1; code = code.TooLarge; detail = d }) ∷ []
+pub entry_added : (at : ℕ) (names : List (List ℕ)) (d : Option (List ℕ)) (old new : List ExtendedSourceFault) → d ≡ slice_get names 0
+    → new ≡ old ++ of_profile (record { block = at; line = 1; code = code.TooLarge; detail = d }) ∷ []
     → new ≡ old ++ map of_profile (entry_faults at names oversized)
-entry_added at names d old new e n = n ∙ ap (λ (o : Option (List ℕ)). old ++ of_profile (record { block = at; line = 1; code = code.TooLarge; detail = o }) ∷ []) e
+entry_added at names d old new e n =
+    n ∙ ap (λ (o : Option (List ℕ)). old ++ of_profile (record { block = at; line = 1; code = code.TooLarge; detail = o }) ∷ []) e

@@ -1,5 +1,6 @@
 -- What becomes of a block, by its table and its rows.
-use Rattle.std.proofs.Common.{◌≡◌, ◌≢◌, ◌↔◌, ℕ, ◌+◌, ◌<◌, ◌≤◌, zero, suc, Bool, true, false, cond, nat_lt, List, [], ◌∷◌, ◌++◌, map, length, take, get_or, Option, Some, None, is_some, option_and_then, slice_get, refl, sym, ap, ◌∙◌, subst, arith}
+use Rattle.std.proofs.Common.{◌≡◌, ◌≢◌, ◌↔◌, ℕ, ◌+◌, ◌<◌, ◌≤◌, zero, suc, Bool, true, false, cond, nat_lt, List, [], ◌∷◌, ◌++◌, map, length, take, get_or}
+use Rattle.std.proofs.Common.{Option, Some, None, is_some, option_and_then, slice_get, refl, sym, ap, ◌∙◌, subst, arith}
 use Rattle.std.specs.Prelude.{All}
 use Rattle.std.specs.List.{AllZip, Contains}
 use Rattle.std.proofs.lemmas.Bool.{lt-ltb, le-ltb, false≢true}
@@ -42,22 +43,28 @@ show_same : (t : Contents) (ms : List Mention) → IsTableOfMentions t ms → Sh
 show_same t ms h c valid = ap without_cancel (h c valid) ∙ sym (uncancelled-twice (contents ms c))
 
 -- an entry that was written is the state of its block
-pub state_written : (b : Reading) (t : Contents) (ms : List Mention) (rows : List Row) (bytes : List ℕ) → IsTableOfMentions t ms → bytes ≡ entry b.field t rows → length bytes ≤ entry_limit t rows
+pub state_written : (b : Reading) (t : Contents) (ms : List Mention) (rows : List Row) (bytes : List ℕ) → IsTableOfMentions t ms
+    → bytes ≡ entry b.field t rows → length bytes ≤ entry_limit t rows
     → written bytes ≡ state_with b ms rows
 state_written b t ms rows bytes h e l =
     let same : bytes ≡ entry_with b ms rows = e ∙ entries_are_of_values b.field t (values ms) rows (show_same t ms h) in
     let limit : entry_limit t rows ≡ entry_limit (values ms) rows = limits_are_of_values t (values ms) rows (show_same t ms h) in
-    let within : length (entry_with b ms rows) ≤ entry_limit (values ms) rows = subst (λ (n : ℕ). length (entry_with b ms rows) ≤ n) limit (subst (λ (xs : List ℕ). length xs ≤ entry_limit t rows) same l) in
-    let small : nat_lt (entry_limit (values ms) rows) (length (entry_with b ms rows)) ≡ false = le-ltb (entry_limit (values ms) rows) (length (entry_with b ms rows)) within in
+    let within : length (entry_with b ms rows) ≤ entry_limit (values ms) rows =
+    subst (λ (n : ℕ). length (entry_with b ms rows) ≤ n) limit (subst (λ (xs : List ℕ). length xs ≤ entry_limit t rows) same l) in
+    let small : nat_lt (entry_limit (values ms) rows) (length (entry_with b ms rows)) ≡ false =
+    le-ltb (entry_limit (values ms) rows) (length (entry_with b ms rows)) within in
     ap written same ∙ sym (ap (λ v. cond v oversized (written (entry_with b ms rows))) small)
 
 -- so is the refusal of one that is too large
-pub state_refused : (b : Reading) (t : Contents) (ms : List Mention) (rows : List Row) → IsTableOfMentions t ms → entry_limit t rows < length (entry b.field t rows) → oversized ≡ state_with b ms rows
+pub state_refused : (b : Reading) (t : Contents) (ms : List Mention) (rows : List Row) → IsTableOfMentions t ms
+    → entry_limit t rows < length (entry b.field t rows) → oversized ≡ state_with b ms rows
 state_refused b t ms rows h l =
     let same : entry b.field t rows ≡ entry_with b ms rows = entries_are_of_values b.field t (values ms) rows (show_same t ms h) in
     let limit : entry_limit t rows ≡ entry_limit (values ms) rows = limits_are_of_values t (values ms) rows (show_same t ms h) in
-    let over : entry_limit (values ms) rows < length (entry_with b ms rows) = subst (λ (n : ℕ). n < length (entry_with b ms rows)) limit (subst (λ (xs : List ℕ). entry_limit t rows < length xs) same l) in
-    let large : nat_lt (entry_limit (values ms) rows) (length (entry_with b ms rows)) ≡ true = lt-ltb (entry_limit (values ms) rows) (length (entry_with b ms rows)) over in
+    let over : entry_limit (values ms) rows < length (entry_with b ms rows) =
+    subst (λ (n : ℕ). n < length (entry_with b ms rows)) limit (subst (λ (xs : List ℕ). entry_limit t rows < length xs) same l) in
+    let large : nat_lt (entry_limit (values ms) rows) (length (entry_with b ms rows)) ≡ true =
+    lt-ltb (entry_limit (values ms) rows) (length (entry_with b ms rows)) over in
     sym (ap (λ v. cond v oversized (written (entry_with b ms rows))) large)
 
 -- without rows the state is that of the profile
@@ -74,13 +81,15 @@ bare_image b ms =
     let with_image : List ℕ → EntryState = λ i. cond (nat_lt (image_limit (values ms)) (length i)) oversized (written i) in
     ap with_image (entry_without b.field (values ms))
 
-entry_here : (texts : List (List ℕ)) (at : ℕ) (text : List ℕ) (ms : List Mention) → slice_get texts at ≡ Some text → expansion (readings texts) (reading_of_text text) ≡ Some ms → compiled texts at ≡ entry_of (reading_of_text text) ms
+entry_here : (texts : List (List ℕ)) (at : ℕ) (text : List ℕ) (ms : List Mention) → slice_get texts at ≡ Some text
+    → expansion (readings texts) (reading_of_text text) ≡ Some ms → compiled texts at ≡ entry_of (reading_of_text text) ms
 entry_here texts at text ms stands e =
     let there : slice_get (readings texts) at ≡ Some (reading_of_text text) = read_text texts at text stands in
     ap (option_and_then (entry_there (readings texts))) there ∙ ap (option_and_then (entry_of (reading_of_text text))) e
 
 -- a block that resolves and has these rows has its state by them
-has_state : (texts : List (List ℕ)) (text : List ℕ) (said : List ℕ → Option Content) (ms : List Mention) (rows : List Row) (state : EntryState) → IsUserTableOf texts text said → AreRowsOf said rows
+has_state : (texts : List (List ℕ)) (text : List ℕ) (said : List ℕ → Option Content) (ms : List Mention) (rows : List Row) (state : EntryState)
+    → IsUserTableOf texts text said → AreRowsOf said rows
     → expansion (readings texts) (reading_of_text text) ≡ Some ms → state ≡ state_with (reading_of_text text) ms rows → HasStateBy texts text state
 has_state texts text said ms rows state user are e h = record {
   mentions = ms;
@@ -93,22 +102,26 @@ has_state texts text said ms rows state user are e h = record {
 }
 
 -- that of a block without rows, by the entry that the profile gives
-pub state_of_profile : (texts : List (List ℕ)) (at : ℕ) (text : List ℕ) (said : List ℕ → Option Content) (t : Contents) (rows : List Row) (o : Option (List ℕ)) (state : EntryState) → slice_get texts at ≡ Some text
+pub state_of_profile : (texts : List (List ℕ)) (at : ℕ) (text : List ℕ) (said : List ℕ → Option Content) (t : Contents) (rows : List Row)
+    (o : Option (List ℕ)) (state : EntryState) → slice_get texts at ≡ Some text
     → IsUserTableOf texts text said → AreRowsOf said rows → rows ≡ []
-    → (table : (ms : List Mention) × (expansion (readings texts) (reading_of_text text) ≡ Some ms) × IsTableOfMentions t ms) → o ≡ compiled texts at → state ≡ state_of_entry o → HasStateBy texts text state
+    → (table : (ms : List Mention) × (expansion (readings texts) (reading_of_text text) ≡ Some ms) × IsTableOfMentions t ms) → o ≡ compiled texts at
+    → state ≡ state_of_entry o → HasStateBy texts text state
 state_of_profile texts at text said t rows o state stands user are none table e h =
     let ms = table.0 in
     has_state texts text said ms [] state user (subst (AreRowsOf said) none are) table.1
     (h ∙ ap state_of_entry (e ∙ entry_here texts at text ms stands table.1) ∙ bare_state (reading_of_text text) ms)
 
 -- that of a block with rows
-pub state_of_rows : (texts : List (List ℕ)) (text : List ℕ) (said : List ℕ → Option Content) (t : Contents) (rows : List Row) (state : EntryState) → IsUserTableOf texts text said → AreRowsOf said rows
+pub state_of_rows : (texts : List (List ℕ)) (text : List ℕ) (said : List ℕ → Option Content) (t : Contents) (rows : List Row) (state : EntryState)
+    → IsUserTableOf texts text said → AreRowsOf said rows
     → (table : (ms : List Mention) × (expansion (readings texts) (reading_of_text text) ≡ Some ms) × IsTableOfMentions t ms)
     → ((ms : List Mention) → IsTableOfMentions t ms → state ≡ state_with (reading_of_text text) ms rows) → HasStateBy texts text state
 state_of_rows texts text said t rows state user are table h = has_state texts text said table.0 rows state user are table.1 (h table.0 table.2)
 
 -- a block without user-defined values does not resolve
-pub none_without : ValuesAreWhereResolved → (texts : List (List ℕ)) (text : List ℕ) → user_expansion texts text ≡ None → expansion (readings texts) (reading_of_text text) ≡ None
+pub none_without : ValuesAreWhereResolved → (texts : List (List ℕ)) (text : List ℕ) → user_expansion texts text ≡ None
+    → expansion (readings texts) (reading_of_text text) ≡ None
 none_without law texts text e = nothing (expansion (readings texts) (reading_of_text text)) (sym (law texts text) ∙ ap is_some e) where
   nothing : {X : Type 0} (o : Option X) → is_some o ≡ false → o ≡ None
   nothing None f = refl
@@ -122,26 +135,31 @@ slice_get-from_get_or (y ∷ ys) zero x l e = ap (λ z. Some z) (sym e)
 slice_get-from_get_or (y ∷ ys) (suc i) x l e = slice_get-from_get_or ys i x (omega (arith, l)) e
 
 -- the table at a place is that of the block
-pub table_at : (texts : List (List ℕ)) (tables : List (Option UserTable)) (at : ℕ) (text : List ℕ) (table : Option UserTable) → AreUserTables texts tables → slice_get texts at ≡ Some text → at < length tables → table ≡ get_or tables at table
+pub table_at : (texts : List (List ℕ)) (tables : List (Option UserTable)) (at : ℕ) (text : List ℕ) (table : Option UserTable) → AreUserTables texts tables
+    → slice_get texts at ≡ Some text → at < length tables → table ≡ get_or tables at table
     → HasUserTable texts text table
 table_at texts tables at text table are stands l e = are.each at text table stands (slice_get-from_get_or tables at table l e)
 
-zip_push : (texts xs : List (List ℕ)) (x : List ℕ) (ss : List EntryState) (s : EntryState) → AllZip (IsStateOf texts) xs ss → IsStateOf texts x s → AllZip (IsStateOf texts) (xs ++ x ∷ []) (ss ++ s ∷ [])
+zip_push : (texts xs : List (List ℕ)) (x : List ℕ) (ss : List EntryState) (s : EntryState) → AllZip (IsStateOf texts) xs ss → IsStateOf texts x s
+    → AllZip (IsStateOf texts) (xs ++ x ∷ []) (ss ++ s ∷ [])
 zip_push texts [] x [] s all h = (h, all)
 zip_push texts [] x (t ∷ ts) s all h = absurd all
 zip_push texts (y ∷ ys) x [] s all h = absurd all
 zip_push texts (y ∷ ys) x (t ∷ ts) s all h = (all.0, zip_push texts ys x ts s all.1 h)
 
 -- one more block has its state
-pub one_more_state : (texts : List (List ℕ)) (at : ℕ) (old new : List EntryState) (state : EntryState) → at < length texts → AllZip (IsStateOf texts) (take at texts) old → ((text : List ℕ) → slice_get texts at ≡ Some text → IsStateOf texts text state)
+pub one_more_state : (texts : List (List ℕ)) (at : ℕ) (old new : List EntryState) (state : EntryState) → at < length texts
+    → AllZip (IsStateOf texts) (take at texts) old → ((text : List ℕ) → slice_get texts at ≡ Some text → IsStateOf texts text state)
     → new ≡ old ++ state ∷ [] → AllZip (IsStateOf texts) (take (at + 1) texts) new
 one_more_state texts at old new state l all h e =
     let text = item_at texts at l in
     let more : take (at + 1) texts ≡ take at texts ++ text.0 ∷ [] = take_item texts at text.0 l (sym (get_or_from_slice_get texts at text.0 text.0 text.1)) in
     subst (AllZip (IsStateOf texts) (take (at + 1) texts)) (sym e)
-    (subst (λ (xs : List (List ℕ)). AllZip (IsStateOf texts) xs (old ++ state ∷ [])) (sym more) (zip_push texts (take at texts) text.0 old state all (h text.0 text.1)))
+    (subst (λ (xs : List (List ℕ)). AllZip (IsStateOf texts) xs (old ++ state ∷ [])) (sym more)
+    (zip_push texts (take at texts) text.0 old state all (h text.0 text.1)))
 
-pub all_of_states : (texts : List (List ℕ)) (at : ℕ) (states : List EntryState) → length texts ≤ at → AllZip (IsStateOf texts) (take at texts) states → AllZip (IsStateOf texts) texts states
+pub all_of_states : (texts : List (List ℕ)) (at : ℕ) (states : List EntryState) → length texts ≤ at → AllZip (IsStateOf texts) (take at texts) states
+    → AllZip (IsStateOf texts) texts states
 all_of_states texts at states l all = subst (λ (xs : List (List ℕ)). AllZip (IsStateOf texts) xs states) (take_all at texts l) all
 
 pub no_rows_seen : (xs : List UserDefined) → length xs ≡ 0 → rows_of xs ≡ []

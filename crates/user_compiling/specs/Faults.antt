@@ -92,7 +92,8 @@ extended_block_faults blocks at text state =
 abbrev pub extended_faults_after : List Reading → ℕ → List (List ℕ) → List EntryState → List ExtendedSourceFault
 extended_faults_after blocks at [] states = []
 extended_faults_after blocks at (text ∷ texts) [] = []
-extended_faults_after blocks at (text ∷ texts) (state ∷ states) = extended_block_faults blocks at text state ++ extended_faults_after blocks (suc at) texts states
+extended_faults_after blocks at (text ∷ texts) (state ∷ states) =
+    extended_block_faults blocks at text state ++ extended_faults_after blocks (suc at) texts states
 
 -- the faults of a source, of whose blocks this becomes
 abbrev pub extended_faults : List (List ℕ) → List EntryState → List ExtendedSourceFault

@@ -24,6 +24,7 @@ profile_states texts = map (λ text. state_of (readings texts) (reading_of_text 
 -- faults and report
 pub record PlainSourcesAreAsInTheProfile : Type 0 where
   pub states : (texts : List (List ℕ)) (states : List EntryState) → DefineNoNames texts → AreStates texts states → states ≡ profile_states texts
-  pub entries : (texts : List (List ℕ)) (at : ℕ) (text : List ℕ) → slice_get texts at ≡ Some text → entry_in (state_of (readings texts) (reading_of_text text)) ≡ compiled texts at
+  pub entries : (texts : List (List ℕ)) (at : ℕ) (text : List ℕ) → slice_get texts at ≡ Some text
+      → entry_in (state_of (readings texts) (reading_of_text text)) ≡ compiled texts at
   pub faults : (texts : List (List ℕ)) → DefineNoNames texts → extended_faults texts (profile_states texts) ≡ map of_profile (faults (readings texts))
   pub report : (texts : List (List ℕ)) (first : ℕ) → DefineNoNames texts → extended_report texts (profile_states texts) first ≡ report texts first

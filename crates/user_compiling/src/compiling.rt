@@ -6,7 +6,7 @@ ghost use Rattle.ti_layout.specs.Values.{Mention, contents};
 ghost use Rattle.base_meaning.specs.Expansion.{is_broken};
 ghost use Rattle.base_meaning.specs.Owner.{readings};
 ghost use Rattle.base_meaning.specs.ValueTables.{HasTable, IsTableOfMentions};
-ghost use Rattle.std.specs.Prelude.{false, ◌↔◌, IsTrue};
+ghost use Rattle.std.specs.Prelude.{false};
 ghost use Rattle.user_extension.specs.UserDefined.{rows_of as rows_seen};
 ghost use Rattle.user_values.specs.Limit.{name_count, name_limit, IsOverLimitAt};
 ghost use Rattle.user_values.specs.Tables.{said_at, AreUserTables, HasUserTable, IsUserTableOf};
@@ -18,7 +18,7 @@ use crate::rows::rows_of;
 use std::alloc::{AllocError, Global};
 use ti_base::Database;
 use ti_layout::{Table, WriteError};
-use ti_source::{is_block, parse};
+use ti_source::parse;
 use user_extension::{UserDefined, write};
 use user_values::{UserTable, ValuesError, user_values};
 
@@ -134,19 +134,6 @@ fn compile_all(
     Ok(all)
 }
 
-/// Whether each text of a database is one block, which `compile` and `faults` ask for. No edit puts
-/// in another text, and who has the source knows it by the law `blocks_are_single` of `ti_source`.
-pub fn holds_blocks(database: &Database) -> bool
-    ensures { IsTrue result ↔ All OneBlock database.now }
-{
-    for at in 0..database.len() {
-        if !is_block(database.text(at)) {
-            return false;
-        }
-    }
-    true
-}
-
 /// What becomes of each block of a source whose user-defined capabilities are kept. A block without
 /// them has the entry that the profile gives it.
 ///
@@ -154,11 +141,11 @@ pub fn holds_blocks(database: &Database) -> bool
 /// `TooManyNames` for a source of more than 1,024 distinct user-defined names, with the position of
 /// the first block by which it has more; or `Memory`.
 pub fn compile(alloc: Global, database: &Database) -> Result<Vec<Compiled>, ValuesError>
-    requires { All OneBlock database.now }
     ensures states { IfOk result (λ all. AreStates database.now (map state_seen all.items)) }
     ensures few { OnOk result (name_count database.now (length database.now) ≤ name_limit) }
     ensures too_many { (at : ℕ) → IsErrOf result (ValuesError.TooManyNames at) → IsOverLimitAt database.now at }
 {
+    database.each_is_one_block();
     match user_values(alloc, database) {
         Ok(tables) => Ok(compile_all(alloc, database, &tables)?),
         Err(error) => Err(error),

@@ -9,8 +9,7 @@
 //!
 //! - `compiled`: what becomes of a block (`Compiled`): its entry, or why there is none
 //! - `rows`: the user-defined capabilities that an entry has
-//! - `compiling`: what becomes of each block of a source (`compile`), and whether a database holds
-//!   blocks (`holds_blocks`)
+//! - `compiling`: what becomes of each block of a source (`compile`)
 //! - `fault`: a fault of a source (`ExtendedFault`), one of the profile or W5; `own_codes`: what is
 //!   wrong with the items of a block that define names; `block_faults`: the faults of a block;
 //!   `source_faults`: those of a source (`faults`)
@@ -31,7 +30,7 @@ mod rows;
 mod source_faults;
 
 pub use compiled::Compiled;
-pub use compiling::{compile, holds_blocks};
+pub use compiling::compile;
 pub use fault::ExtendedFault;
 pub use report::report_of;
 pub use source_faults::faults;

@@ -67,11 +67,11 @@ pub fn faults(
     database: &Database,
     compiled: &[Compiled],
 ) -> Result<Vec<ExtendedFault>, AllocError>
-    requires one { All OneBlock database.now }
     requires as_many { length compiled.now ≡ length database.now }
     ensures all { IfOk result (λ all. map fault_seen all.items ≡ extended_faults database.now (map state_seen compiled.now)) }
     ensures placed { IfOk result (λ all. All (IsExtendedPlaced (length database.now)) (map fault_seen all.items)) }
 {
+    database.each_is_one_block();
     let profile = database.faults()?;
     let all = extend_all(alloc, database, &profile, compiled)?;
     Ok(all)

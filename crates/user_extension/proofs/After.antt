@@ -15,9 +15,11 @@ as_long bytes names c r =
     let f = found r.format r.sections r.sound in
     subst (λ (x : List ℕ). (12 ≤ length x) × (entry_end x ≤ length x)) (sym r.whole) (f.long, f.whole)
 
-pub after_is : (bytes : List ℕ) (m size : ℕ) → size ≡ entry_end bytes → m ≡ min (size + size % 2) (length bytes) → take (length bytes - m) (drop m bytes) ≡ after_entry bytes
+pub after_is : (bytes : List ℕ) (m size : ℕ) → size ≡ entry_end bytes → m ≡ min (size + size % 2) (length bytes)
+    → take (length bytes - m) (drop m bytes) ≡ after_entry bytes
 after_is bytes m size e i = rest_of m bytes ∙ ap (λ (k : ℕ). drop k bytes) i ∙ drop_min (size + size % 2) bytes ∙ ap (λ (n : ℕ). drop (n + n % 2) bytes) e
 
 -- the size by the header that was read
 pub by_header : (bytes : List ℕ) (h : Header) → IsHeaderAt bytes h → entry_size h.format h.names h.flags h.numbers h.texts h.strings ≡ entry_end bytes
-by_header bytes h is = let a = is.format in let b = is.names in let d = is.flags in let e = is.numbers in let f = is.texts in let g = is.strings in rw (a, b, d, e, f, g) refl
+by_header bytes h is =
+    let a = is.format in let b = is.names in let d = is.flags in let e = is.numbers in let f = is.texts in let g = is.strings in rw (a, b, d, e, f, g) refl

@@ -1,5 +1,6 @@
 -- What the writer has written when its walk has passed some of the rows.
-use Rattle.std.proofs.Common.{◌≡◌, ℕ, ◌+◌, ◌<◌, ◌≤◌, List, [], ◌∷◌, ◌++◌, length, get_or, take, drop, refl, sym, ap, ◌∙◌, arith, append-nil, append_assoc, length-append}
+use Rattle.std.proofs.Common.{◌≡◌, ℕ, ◌+◌, ◌<◌, ◌≤◌, List, [], ◌∷◌, ◌++◌, length, get_or, take, drop, refl, sym, ap, ◌∙◌, arith, append-nil, append_assoc}
+use Rattle.std.proofs.Common.{length-append}
 use Rattle.std.specs.List.{flat_map}
 use Rattle.std.proofs.lemmas.Grind.{flat_map-append}
 use Rattle.std.proofs.lemmas.List.{map-append, take_more, take_all, take-append-drop}
@@ -28,17 +29,22 @@ pub front_rest : (rows : List UserDefined) (n : ℕ) → rows_of rows ≡ front 
 front_rest rows n = sym (ap (λ (xs : List UserDefined). rows_of xs) (take-append-drop n rows)) ∙ map-append (λ u. row_of u) (take n rows) (drop n rows)
 
 -- what each row gives, one after another
-pub parts_more : {A : Type 0} (f : Row → List A) (rows : List UserDefined) (n : ℕ) (d : UserDefined) → n < length rows → flat_map f (front (n + 1) rows) ≡ flat_map f (front n rows) ++ f (row_of (get_or rows n d))
+pub parts_more : {A : Type 0} (f : Row → List A) (rows : List UserDefined) (n : ℕ) (d : UserDefined) → n < length rows
+    → flat_map f (front (n + 1) rows) ≡ flat_map f (front n rows) ++ f (row_of (get_or rows n d))
 parts_more f rows n d lt =
-    ap (λ xs. flat_map f xs) (front_more rows n d lt) ∙ flat_map-append f (front n rows) (row_of (get_or rows n d) ∷ []) ∙ ap (λ t. flat_map f (front n rows) ++ t) (append-nil (f (row_of (get_or rows n d))))
+    ap (λ xs. flat_map f xs) (front_more rows n d lt) ∙ flat_map-append f (front n rows) (row_of (get_or rows n d) ∷ [])
+    ∙ ap (λ t. flat_map f (front n rows) ++ t) (append-nil (f (row_of (get_or rows n d))))
 
-pub names_more : (rows : List UserDefined) (n : ℕ) (d : UserDefined) → n < length rows → names (front (n + 1) rows) ≡ names (front n rows) ++ (get_or rows n d).name.now ∷ []
-names_more rows n d lt = ap (λ (xs : List Row). names xs) (front_more rows n d lt) ∙ map-append (λ (v : Row). v.0) (front n rows) (row_of (get_or rows n d) ∷ [])
+pub names_more : (rows : List UserDefined) (n : ℕ) (d : UserDefined) → n < length rows → names (front (n + 1) rows) ≡ names (front n rows)
+    ++ (get_or rows n d).name.now ∷ []
+names_more rows n d lt =
+    ap (λ (xs : List Row). names xs) (front_more rows n d lt) ∙ map-append (λ (v : Row). v.0) (front n rows) (row_of (get_or rows n d) ∷ [])
 
 pub places_append : (at : ℕ) (ts : List (List ℕ)) (t : List ℕ) → places at (ts ++ t ∷ []) ≡ places at ts ++ (at + length (table ts)) ∷ []
 places_append at [] t = ap (λ (n : ℕ). n ∷ []) (omega arith)
 places_append at (s ∷ ts) t =
-    ap (λ (ns : List ℕ). at ∷ ns) (places_append (at + length (ended s)) ts t ∙ ap (λ (n : ℕ). places (at + length (ended s)) ts ++ n ∷ []) (omega (arith, length-append (ended s) (table ts))))
+    ap (λ (ns : List ℕ). at ∷ ns) (places_append (at + length (ended s)) ts t
+    ∙ ap (λ (n : ℕ). places (at + length (ended s)) ts ++ n ∷ []) (omega (arith, length-append (ended s) (table ts))))
 
 pub table_append : (ts : List (List ℕ)) (t : List ℕ) → table (ts ++ t ∷ []) ≡ table ts ++ ended t
 table_append ts t = flat_map-append (λ (x : List ℕ). ended x) ts (t ∷ []) ∙ ap (λ x. table ts ++ x) (append-nil (ended t))
@@ -54,15 +60,19 @@ pub begun : (w : Format) (image : List ℕ) → image ≡ image ++ number_sectio
 begun w image = sym (ap (λ t. image ++ t) (spelled-none w) ∙ append-nil image)
 
 -- one more number
-pub number_put : (w : Format) (start image new ns more : List ℕ) (n : ℕ) → image ≡ start ++ number_section w ns → new ≡ image ++ number_bytes w n → more ≡ ns ++ n ∷ [] → new ≡ start ++ number_section w more
+pub number_put : (w : Format) (start image new ns more : List ℕ) (n : ℕ) → image ≡ start ++ number_section w ns → new ≡ image ++ number_bytes w n
+    → more ≡ ns ++ n ∷ [] → new ≡ start ++ number_section w more
 number_put w start image new ns more n e f g =
-    f ∙ ap (λ t. t ++ number_bytes w n) e ∙ append_assoc start (number_section w ns) (number_bytes w n) ∙ ap (λ t. start ++ t) (sym (spelled_push w ns n)) ∙ ap (λ t. start ++ number_section w t) (sym g)
+    f ∙ ap (λ t. t ++ number_bytes w n) e ∙ append_assoc start (number_section w ns) (number_bytes w n) ∙ ap (λ t. start ++ t) (sym (spelled_push w ns n))
+    ∙ ap (λ t. start ++ number_section w t) (sym g)
 
 -- the texts so far and one more are no more than all
-pub within : (ts : List Row → List (List ℕ)) → ((a b : List Row) → ts (a ++ b) ≡ ts a ++ ts b) → (rows : List UserDefined) (n : ℕ) → length (table (ts (front n rows))) ≤ length (table (ts (rows_of rows)))
+pub within : (ts : List Row → List (List ℕ)) → ((a b : List Row) → ts (a ++ b) ≡ ts a ++ ts b) → (rows : List UserDefined) (n : ℕ)
+    → length (table (ts (front n rows))) ≤ length (table (ts (rows_of rows)))
 within ts splits rows n =
     let e : table (ts (rows_of rows)) ≡ table (ts (front n rows)) ++ table (ts (rows_of (drop n rows))) =
-    ap (λ (x : List Row). table (ts x)) (front_rest rows n) ∙ ap (λ x. table x) (splits (front n rows) (rows_of (drop n rows))) ∙ flat_map-append (λ (x : List ℕ). ended x) (ts (front n rows)) (ts (rows_of (drop n rows))) in
+    ap (λ (x : List Row). table (ts x)) (front_rest rows n) ∙ ap (λ x. table x) (splits (front n rows) (rows_of (drop n rows)))
+    ∙ flat_map-append (λ (x : List ℕ). ended x) (ts (front n rows)) (ts (rows_of (drop n rows))) in
     omega (arith, ap length e, length-append (table (ts (front n rows))) (table (ts (rows_of (drop n rows)))))
 
 names_split : (a b : List Row) → names (a ++ b) ≡ names a ++ names b
@@ -82,7 +92,8 @@ name_next rows n d lt =
     let more = names_more rows n d lt in
     let t = (get_or rows n d).name.now in
     let size : length (table (names (front (n + 1) rows))) ≡ length (table (names (front n rows))) + (length t + 1) =
-    ap (λ x. length (table x)) more ∙ ap length (table_append (names (front n rows)) t) ∙ length-append (table (names (front n rows))) (ended t) ∙ ap (λ (k : ℕ). length (table (names (front n rows))) + k) (length-ended t) in
+    ap (λ x. length (table x)) more ∙ ap length (table_append (names (front n rows)) t) ∙ length-append (table (names (front n rows))) (ended t)
+    ∙ ap (λ (k : ℕ). length (table (names (front n rows))) + k) (length-ended t) in
     record {
       places_are = ap (places 0) more ∙ places_append 0 (names (front n rows)) t ∙ ap (λ (k : ℕ). places 0 (names (front n rows)) ++ k ∷ []) (omega arith);
       size = size;
@@ -95,11 +106,14 @@ pub record TextNext (rows : List UserDefined) (n : ℕ) (t : List ℕ) : Type 0 
   pub size : length (table (texts (front (n + 1) rows))) ≡ length (table (texts (front n rows))) + (length t + 1)
   pub fits : length (table (texts (front n rows))) + (length t + 1) ≤ length (table (texts (rows_of rows)))
 
-pub text_next : (rows : List UserDefined) (n : ℕ) (d : UserDefined) (t : List ℕ) → n < length rows → text_part (row_of (get_or rows n d)).1 ≡ t ∷ [] → TextNext rows n t
+pub text_next : (rows : List UserDefined) (n : ℕ) (d : UserDefined) (t : List ℕ) → n < length rows → text_part (row_of (get_or rows n d)).1 ≡ t ∷ []
+    → TextNext rows n t
 text_next rows n d t lt is =
-    let more : texts (front (n + 1) rows) ≡ texts (front n rows) ++ t ∷ [] = parts_more (λ v. text_part v.1) rows n d lt ∙ ap (λ x. texts (front n rows) ++ x) is in
+    let more : texts (front (n + 1) rows) ≡ texts (front n rows) ++ t ∷ [] =
+    parts_more (λ v. text_part v.1) rows n d lt ∙ ap (λ x. texts (front n rows) ++ x) is in
     let size : length (table (texts (front (n + 1) rows))) ≡ length (table (texts (front n rows))) + (length t + 1) =
-    ap (λ x. length (table x)) more ∙ ap length (table_append (texts (front n rows)) t) ∙ length-append (table (texts (front n rows))) (ended t) ∙ ap (λ (k : ℕ). length (table (texts (front n rows))) + k) (length-ended t) in
+    ap (λ x. length (table x)) more ∙ ap length (table_append (texts (front n rows)) t) ∙ length-append (table (texts (front n rows))) (ended t)
+    ∙ ap (λ (k : ℕ). length (table (texts (front n rows))) + k) (length-ended t) in
     record {
       places_are = ap (places 0) more ∙ places_append 0 (texts (front n rows)) t ∙ ap (λ (k : ℕ). places 0 (texts (front n rows)) ++ k ∷ []) (omega arith);
       size = size;
@@ -107,7 +121,8 @@ text_next rows n d t lt is =
     }
 
 -- a row that gives nothing
-pub passed : {A : Type 0} (f : Row → List A) (rows : List UserDefined) (n : ℕ) (d : UserDefined) → n < length rows → f (row_of (get_or rows n d)) ≡ [] → flat_map f (front (n + 1) rows) ≡ flat_map f (front n rows)
+pub passed : {A : Type 0} (f : Row → List A) (rows : List UserDefined) (n : ℕ) (d : UserDefined) → n < length rows → f (row_of (get_or rows n d)) ≡ []
+    → flat_map f (front (n + 1) rows) ≡ flat_map f (front n rows)
 passed f rows n d lt none = parts_more f rows n d lt ∙ ap (λ t. flat_map f (front n rows) ++ t) none ∙ append-nil (flat_map f (front n rows))
 
 -- what the code reads past the end
@@ -126,8 +141,10 @@ no_text (seen.Number n) other = refl
 no_text (seen.Text t) other = absurd (other t refl)
 no_text seen.Cancelled other = refl
 
-pub number_here : (rows : List UserDefined) (k n : ℕ) (d : UserDefined) → k < length rows → (get_or rows k d).value ≡ seen.Number n → numbers (front (k + 1) rows) ≡ numbers (front k rows) ++ n ∷ []
+pub number_here : (rows : List UserDefined) (k n : ℕ) (d : UserDefined) → k < length rows → (get_or rows k d).value ≡ seen.Number n
+    → numbers (front (k + 1) rows) ≡ numbers (front k rows) ++ n ∷ []
 number_here rows k n d lt is = parts_more (λ v. number_part v.1) rows k d lt ∙ ap (λ v. numbers (front k rows) ++ number_part (content_seen v)) is
 
-pub text_here : (rows : List UserDefined) (k : ℕ) (t : Bor (List ℕ)) (d : UserDefined) → k < length rows → (get_or rows k d).value ≡ seen.Text t → TextNext rows k t.now
+pub text_here : (rows : List UserDefined) (k : ℕ) (t : Bor (List ℕ)) (d : UserDefined) → k < length rows → (get_or rows k d).value ≡ seen.Text t
+    → TextNext rows k t.now
 text_here rows k t d lt is = text_next rows k d t.now lt (ap (λ v. text_part (content_seen v)) is)

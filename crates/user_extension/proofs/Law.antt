@@ -1,5 +1,6 @@
 -- What is written of user-defined capabilities is read as these.
-use Rattle.std.proofs.Common.{◌≡◌, ◌≢◌, ℕ, zero, suc, ◌+◌, ◌-◌, ◌*◌, ◌/◌, ◌<◌, ◌≤◌, Bool, true, false, ltb, ◌&&◌, ◌||◌, ◌==◌, List, [], ◌∷◌, ◌++◌, length, get_or, Option, Some, None, refl, sym, ap, ◌∙◌, subst, arith, append-nil, length-append, inl, inr}
+use Rattle.std.proofs.Common.{◌≡◌, ◌≢◌, ℕ, zero, suc, ◌+◌, ◌-◌, ◌*◌, ◌/◌, ◌<◌, ◌≤◌, Bool, true, false, ltb, ◌&&◌, ◌||◌, ◌==◌, List, [], ◌∷◌, ◌++◌, length}
+use Rattle.std.proofs.Common.{get_or, Option, Some, None, refl, sym, ap, ◌∙◌, subst, arith, append-nil, length-append, inl, inr}
 use Rattle.std.specs.Prelude.{All, IsTrue, nat_le}
 use Rattle.std.specs.Ordering.{nat_cmp, is_lt}
 use Rattle.std.specs.Cmp.Lexicographic.{slice_cmp}
@@ -22,12 +23,14 @@ use Rattle.user_extension.proofs.Fronts.{length-ended}
 use Rattle.user_extension.specs.Extension.{ended, extension, flags, names, numbers, places, table, texts}
 use Rattle.user_extension.specs.Reading.{AreNames, IsExtension, Parts, ReadRow, flag_count, name_in, name_table, number_count, parts_in, rows_in, value_in}
 use Rattle.user_extension.specs.Laws.{ExtensionsAreRead, HoldsNumbers, as_read}
-use Rattle.user_extension.proofs.Again.{Clean, Cut, cut, SmallCounts, small_counts, spelled, names_are_rest, place_read, places_counted, sound_places, text_found, text_read}
+use Rattle.user_extension.proofs.Again.{Clean, Cut, cut, SmallCounts, small_counts, spelled, names_are_rest, place_read, places_counted, sound_places}
+use Rattle.user_extension.proofs.Again.{text_found, text_read}
 use Rattle.user_extension.proofs.ByKind as by_kind
 use Rattle.user_extension.proofs.ByKind.{Split, join, split}
 
 -- a text begins after the one before it
-places_next : (at : ℕ) (ts : List (List ℕ)) (k : ℕ) → suc k < length ts → get_or (places at ts) (suc k) 0 ≡ get_or (places at ts) k 0 + length (get_or ts k []) + 1
+places_next : (at : ℕ) (ts : List (List ℕ)) (k : ℕ) → suc k < length ts → get_or (places at ts) (suc k) 0
+    ≡ get_or (places at ts) k 0 + length (get_or ts k []) + 1
 places_next at [] k lt = absurd (omega (arith, lt))
 places_next at (t ∷ []) k lt = absurd (omega (arith, lt))
 places_next at (t ∷ s ∷ ts) zero lt = let e = length-ended t in omega (arith, e)
@@ -50,7 +53,8 @@ read_row a x = (a, x)
 pair : (a b : List ℕ) (x y : Option Content) → a ≡ b → x ≡ y → read_row a x ≡ read_row b y
 pair a b x y e f = rw (e, f) refl
 
-module _ (w : Format) (fs : List (List ℕ)) (ns : List (List ℕ × ℕ)) (ts : List (List ℕ × List ℕ)) (are : AreUserDefined (join fs ns ts)) (holds : HoldsNumbers w (join fs ns ts)) (within : length (extension w (join fs ns ts)) ≤ 32768) where
+module _ (w : Format) (fs : List (List ℕ)) (ns : List (List ℕ × ℕ)) (ts : List (List ℕ × List ℕ)) (are : AreUserDefined (join fs ns ts))
+    (holds : HoldsNumbers w (join fs ns ts)) (within : length (extension w (join fs ns ts)) ≤ 32768) where
   abbrev rows : List Row
   rows = join fs ns ts
 
@@ -143,10 +147,12 @@ module _ (w : Format) (fs : List (List ℕ)) (ns : List (List ℕ × ℕ)) (ts :
   name_read : (k : ℕ) → k < length rows → name_in (number_section Legacy (places 0 (names rows))) (table (names rows) ++ []) k ≡ (get_or rows k no_row).0
   name_read k lt = text_read (names rows) [] k small_names clean_names (omega (arith, lt, names_long)) ∙ name_is k lt
 
-  same_kind : (k : ℕ) → suc k < length rows → suc k ≢ length fs → suc k ≢ length fs + length ns → kind_rank (get_or rows k no_row).1 ≡ kind_rank (get_or rows (suc k) no_row).1
+  same_kind : (k : ℕ) → suc k < length rows → suc k ≢ length fs → suc k ≢ length fs + length ns
+      → kind_rank (get_or rows k no_row).1 ≡ kind_rank (get_or rows (suc k) no_row).1
   same_kind k lt a b = elim (cases_lt (suc k) (length fs)) [
     | inl f ↦
-        ap (λ (u : Row). kind_rank u.1) (by_kind.flag_at fs ns ts k no_row (omega (arith, f))) ∙ sym (ap (λ (u : Row). kind_rank u.1) (by_kind.flag_at fs ns ts (suc k) no_row f))
+        ap (λ (u : Row). kind_rank u.1) (by_kind.flag_at fs ns ts k no_row (omega (arith, f)))
+        ∙ sym (ap (λ (u : Row). kind_rank u.1) (by_kind.flag_at fs ns ts (suc k) no_row f))
     | inr le ↦ elim (cases_lt (suc k) (length fs + length ns)) [
       | inl n ↦
           ap (λ (u : Row). kind_rank u.1) (by_kind.number_at fs ns ts k no_row (omega (arith, le, a)) (omega (arith, n, le, a)))
@@ -181,8 +187,10 @@ module _ (w : Format) (fs : List (List ℕ)) (ns : List (List ℕ × ℕ)) (ts :
             omega (arith, here, next, name, places_next 0 (names rows) k l);
         rise = λ k lt a b.
             let l : suc k < length rows = omega (arith, lt, counted_names, names_long) in
-            let h = before_same _ _ (is_lt (slice_cmp nat_cmp (get_or rows k no_row).0 (get_or rows (suc k) no_row).0)) (same_kind k l a b) (are.rise k (suc k) no_row (omega arith) l) in
-            subst (λ n. IsTrue (is_lt (slice_cmp nat_cmp n (name_in (number_section Legacy (places 0 (names rows))) (table (names rows) ++ []) (suc k))))) (sym (name_read k (omega (arith, l))))
+            let h = before_same _ _ (is_lt (slice_cmp nat_cmp (get_or rows k no_row).0 (get_or rows (suc k) no_row).0)) (same_kind k l a b)
+            (are.rise k (suc k) no_row (omega arith) l) in
+            subst (λ n. IsTrue (is_lt (slice_cmp nat_cmp n (name_in (number_section Legacy (places 0 (names rows))) (table (names rows) ++ []) (suc k)))))
+            (sym (name_read k (omega (arith, l))))
             (subst (λ n. IsTrue (is_lt (slice_cmp nat_cmp (get_or rows k no_row).0 n))) (sym (name_read (suc k) l)) h);
       }
 
@@ -203,21 +211,28 @@ module _ (w : Format) (fs : List (List ℕ)) (ns : List (List ℕ × ℕ)) (ts :
         elim (cases_lt k (length fs + length ns)) [
           | inl n ↦
               let l : k - length fs < length ns = omega (arith, n, le) in
-              let test2 : ltb k (length (flags rows) + count_in w (number_section w (numbers rows))) ≡ true = lt-ltb _ _ (omega (arith, n, flags_long, numbers_counted)) in
+              let test2 : ltb k (length (flags rows) + count_in w (number_section w (numbers rows))) ≡ true =
+              lt-ltb _ _ (omega (arith, n, flags_long, numbers_counted)) in
               let place : k - length (flags rows) ≡ k - length fs = ap (λ (j : ℕ). k - j) flags_long in
-              let number = ap (λ (j : ℕ). number_at w (width w * j) (number_section w (numbers rows))) place ∙ number_again (k - length fs) l ∙ number_is (k - length fs) l in
-              let plain : ltb (get_or ns (k - length fs) ([], 0)).1 (first_negative w) ≡ true = lt-ltb _ _ (let p = number_plain (k - length fs) l in let e = number_is (k - length fs) l in omega (arith, p, e)) in
+              let number = ap (λ (j : ℕ). number_at w (width w * j) (number_section w (numbers rows))) place ∙ number_again (k - length fs) l
+              ∙ number_is (k - length fs) l in
+              let plain : ltb (get_or ns (k - length fs) ([], 0)).1 (first_negative w) ≡ true =
+              lt-ltb _ _ (let p = number_plain (k - length fs) l in let e = number_is (k - length fs) l in omega (arith, p, e)) in
               let u = by_kind.number_at fs ns ts k no_row le l in
               rw (test, test2, number, plain, u) refl
           | inr le2 ↦
               let l : k - (length fs + length ns) < length ts = omega (arith, lt, all_long, le2) in
-              let test2 : ltb k (length (flags rows) + count_in w (number_section w (numbers rows))) ≡ false = le-ltb _ _ (omega (arith, le2, flags_long, numbers_counted)) in
-              let place : k - (length (flags rows) + count_in w (number_section w (numbers rows))) ≡ k - (length fs + length ns) = omega (arith, flags_long, numbers_counted) in
+              let test2 : ltb k (length (flags rows) + count_in w (number_section w (numbers rows))) ≡ false =
+              le-ltb _ _ (omega (arith, le2, flags_long, numbers_counted)) in
+              let place : k - (length (flags rows) + count_in w (number_section w (numbers rows))) ≡ k - (length fs + length ns) =
+              omega (arith, flags_long, numbers_counted) in
               let lt2 : k - (length fs + length ns) < length (texts rows) = omega (arith, l, texts_long) in
               let f = text_found (texts rows) (k - (length fs + length ns)) (table (names rows)) lt2 (clean_texts (k - (length fs + length ns)) lt2) in
               let o = place_read (texts rows) (table (names rows)) (k - (length fs + length ns)) small_table clean_texts lt2 in
-              let plain : ltb (word_at (2 * (k - (length fs + length ns))) (number_section Legacy (places 0 (texts rows)))) 32768 ≡ true = lt-ltb _ _ (omega (arith, f.within, o, small_table)) in
-              let text = text_read (texts rows) (table (names rows)) (k - (length fs + length ns)) small_table clean_texts lt2 ∙ text_is (k - (length fs + length ns)) l in
+              let plain : ltb (word_at (2 * (k - (length fs + length ns))) (number_section Legacy (places 0 (texts rows)))) 32768 ≡ true =
+              lt-ltb _ _ (omega (arith, f.within, o, small_table)) in
+              let text = text_read (texts rows) (table (names rows)) (k - (length fs + length ns)) small_table clean_texts lt2
+              ∙ text_is (k - (length fs + length ns)) l in
               let u = by_kind.text_at fs ns ts k no_row le2 l in
               rw (test, test2, place, plain, text, u) refl
         ]
@@ -226,11 +241,13 @@ module _ (w : Format) (fs : List (List ℕ)) (ns : List (List ℕ × ℕ)) (ts :
   rows_read : rows_in w (spelled w rows) ≡ as_read rows
   rows_read =
       let counted_names = places_counted (names rows) in
-      sym (fill_by_all {X = ReadRow} (λ i. (name_in (spelled w rows).names (name_table (spelled w rows).values (spelled w rows).table) i, value_in w (spelled w rows) i)) (as_read rows)
+      sym (fill_by_all {X = ReadRow}
+      (λ i. (name_in (spelled w rows).names (name_table (spelled w rows).values (spelled w rows).table) i, value_in w (spelled w rows) i)) (as_read rows)
       (count_in Legacy (spelled w rows).names) ([], None) (length-map rows (λ (u : Row). (u.0, Some u.1)) ∙ omega (arith, counted_names, names_long))
       (λ k lt.
       let l : k < length rows = omega (arith, lt, counted_names, names_long) in
-      let name : name_in (spelled w rows).names (name_table (spelled w rows).values (spelled w rows).table) k ≡ (get_or rows k no_row).0 = ap (λ t. name_in (number_section Legacy (places 0 (names rows))) t k) rest_is ∙ name_read k l in
+      let name : name_in (spelled w rows).names (name_table (spelled w rows).values (spelled w rows).table) k ≡ (get_or rows k no_row).0 =
+      ap (λ t. name_in (number_section Legacy (places 0 (names rows))) t k) rest_is ∙ name_read k l in
       get_or-map (λ (u : Row). (u.0, Some u.1)) rows k no_row ([], None) l ∙ sym (pair _ _ _ _ name (value_read k l))))
 
   pub joined_read : (more : List ℕ) → IsExtension w (extension w rows ++ more) × (rows_in w (parts_in w (extension w rows ++ more)) ≡ as_read rows)
@@ -260,4 +277,5 @@ pub extensions_are_read : ExtensionsAreRead
 extensions_are_read w rows more are holds within =
     let s = split rows are.values (λ i j d lt in_range. ranks _ _ _ (are.rise i j d lt in_range)) in
     subst (λ (xs : List Row). IsExtension w (extension w xs ++ more) × (rows_in w (parts_in w (extension w xs ++ more)) ≡ as_read xs)) (sym s.whole)
-    (joined_read w s.fs s.ns s.ts (subst AreUserDefined s.whole are) (subst (HoldsNumbers w) s.whole holds) (subst (λ (xs : List Row). length (extension w xs) ≤ 32768) s.whole within) more)
+    (joined_read w s.fs s.ns s.ts (subst AreUserDefined s.whole are) (subst (HoldsNumbers w) s.whole holds)
+    (subst (λ (xs : List Row). length (extension w xs) ≤ 32768) s.whole within) more)

@@ -1,5 +1,6 @@
 -- What the rows of a kind have of a name, whose names rise.
-use Rattle.std.proofs.Common.{◌≡◌, ◌≢◌, ℕ, zero, suc, ◌+◌, ◌-◌, ◌<◌, ◌≤◌, true, false, cond, List, [], ◌∷◌, ◌++◌, length, get_or, take, drop, Option, Some, None, refl, sym, ap, ◌∙◌, subst, arith, inl, inr}
+use Rattle.std.proofs.Common.{◌≡◌, ◌≢◌, ℕ, zero, suc, ◌+◌, ◌-◌, ◌<◌, ◌≤◌, true, false, cond, List, [], ◌∷◌, ◌++◌, length, get_or, take, drop, Option, Some}
+use Rattle.std.proofs.Common.{None, refl, sym, ap, ◌∙◌, subst, arith, inl, inr}
 use Rattle.std.specs.Prelude.{bytes_eq, IsTrue}
 use Rattle.std.specs.Ordering.{nat_cmp, is_lt}
 use Rattle.std.specs.declared.cmp.Ordering.TheVariants.{Less, Equal, Greater}
@@ -35,19 +36,23 @@ said-append (x ∷ xs) ys name =
 
 -- the rows in three parts
 pub said_in_three : (rs : List ReadRow) (name : List ℕ) (second third end : ℕ) → second ≤ third → third ≤ end → length rs ≤ end
-    → said rs name ≡ option_or (said (take (second - 0) (drop 0 rs)) name) (option_or (said (take (third - second) (drop second rs)) name) (said (take (end - third) (drop third rs)) name))
+    → said rs name ≡ option_or (said (take (second - 0) (drop 0 rs)) name)
+    (option_or (said (take (third - second) (drop second rs)) name) (said (take (end - third) (drop third rs)) name))
 said_in_three rs name second third end a b c =
     let later : drop second rs ≡ take (third - second) (drop second rs) ++ drop third rs =
-    sym (take-append-drop (third - second) (drop second rs)) ∙ ap (λ xs. take (third - second) (drop second rs) ++ xs) (drop-drop (third - second) second rs ∙ ap (λ (k : ℕ). drop k rs) (omega arith)) in
+    sym (take-append-drop (third - second) (drop second rs)) ∙ ap (λ xs. take (third - second) (drop second rs) ++ xs)
+    (drop-drop (third - second) second rs ∙ ap (λ (k : ℕ). drop k rs) (omega arith)) in
     let last : drop third rs ≡ take (end - third) (drop third rs) = sym (take_all (end - third) (drop third rs) (omega (arith, c, length-drop third rs))) in
     let front : said (take second rs) name ≡ said (take (second - 0) (drop 0 rs)) name = ap (λ (k : ℕ). said (take k rs) name) (omega arith) in
     ap (λ xs. said xs name) (sym (take-append-drop second rs)) ∙ said-append (take second rs) (drop second rs) name
     ∙ ap (λ o. option_or o (said (drop second rs) name)) front
-    ∙ ap (option_or (said (take (second - 0) (drop 0 rs)) name)) (ap (λ xs. said xs name) later ∙ said-append (take (third - second) (drop second rs)) (drop third rs) name
+    ∙ ap (option_or (said (take (second - 0) (drop 0 rs)) name)) (ap (λ xs. said xs name) later
+    ∙ said-append (take (third - second) (drop second rs)) (drop third rs) name
     ∙ ap (λ xs. option_or (said (take (third - second) (drop second rs)) name) (said xs name)) last)
 
 -- the part that is the first to have something
-pub found_first : (rs : List ReadRow) (name : List ℕ) (x : Content) (a rest : Option Content) → Some x ≡ a → said rs name ≡ option_or a rest → Some x ≡ said rs name
+pub found_first : (rs : List ReadRow) (name : List ℕ) (x : Content) (a rest : Option Content) → Some x ≡ a → said rs name ≡ option_or a rest
+    → Some x ≡ said rs name
 found_first rs name x a rest e f = ap (λ (o : Option Content). option_or o rest) e ∙ sym f
 
 pub found_second : (x : Content) (a b c q : Option Content) → None ≡ a → Some x ≡ b → q ≡ option_or a (option_or b c) → Some x ≡ q
@@ -95,7 +100,8 @@ rises_on f low high i (suc n) j rises l e lt =
     let m : ℕ = suc (i + n) in
     let one : suc m ≡ j = omega (arith, e) in
     let before = rises_on f low high i n m rises l refl (omega (arith, lt, e)) in
-    let here = subst (λ (k : ℕ). slice_cmp nat_cmp (f m) (f k) ≡ Less) one (less_from_test (f m) (f (suc m)) (rises m (omega (arith, l)) (omega (arith, lt, e)))) in
+    let here = subst (λ (k : ℕ). slice_cmp nat_cmp (f m) (f k) ≡ Less) one
+    (less_from_test (f m) (f (suc m)) (rises m (omega (arith, l)) (omega (arith, lt, e)))) in
     nat_list_cmp_total.trans (f i) (f m) (f j) before here
 
 pub rising : (f : ℕ → List ℕ) (low high i j : ℕ) → Rises f low high → low ≤ i → i < j → j < high → slice_cmp nat_cmp (f i) (f j) ≡ Less
@@ -109,17 +115,20 @@ apart f low high i k name rises li hi e lk hk n same = elim (cases_lt i k) [
 ]
 
 -- those up to one that comes before a name are not it
-pub not_before : (f : ℕ → List ℕ) (low high middle k : ℕ) (name : List ℕ) → Rises f low high → middle < high → slice_cmp nat_cmp (f middle) name ≡ Less → low ≤ k → k < middle + 1 → f k ≢ name
+pub not_before : (f : ℕ → List ℕ) (low high middle k : ℕ) (name : List ℕ) → Rises f low high → middle < high → slice_cmp nat_cmp (f middle) name ≡ Less
+    → low ≤ k → k < middle + 1 → f k ≢ name
 not_before f low high middle k name rises m less l lt = elim (cases_lt k middle) [
   | inl before ↦ unequal_from_less (f k) name (nat_list_cmp_total.trans (f k) (f middle) name (rising f low high k middle rises l before m) less)
   | inr at ↦ let same : middle ≡ k = omega (arith, at, lt) in subst (λ (j : ℕ). f j ≢ name) same (unequal_from_less (f middle) name less)
 ]
 
 -- those from one on that comes after a name are not it
-pub not_after : (f : ℕ → List ℕ) (low high middle k : ℕ) (name : List ℕ) → Rises f low high → low ≤ middle → slice_cmp nat_cmp (f middle) name ≡ Greater → middle ≤ k → k < high → f k ≢ name
+pub not_after : (f : ℕ → List ℕ) (low high middle k : ℕ) (name : List ℕ) → Rises f low high → low ≤ middle → slice_cmp nat_cmp (f middle) name ≡ Greater
+    → middle ≤ k → k < high → f k ≢ name
 not_after f low high middle k name rises m greater le lt = elim (cases_lt middle k) [
   | inl after ↦ λ same.
-      let less : slice_cmp nat_cmp (f middle) name ≡ Less = subst (λ (n : List ℕ). slice_cmp nat_cmp (f middle) n ≡ Less) same (rising f low high middle k rises m after lt) in
+      let less : slice_cmp nat_cmp (f middle) name ≡ Less =
+      subst (λ (n : List ℕ). slice_cmp nat_cmp (f middle) n ≡ Less) same (rising f low high middle k rises m after lt) in
       absurd cc
   | inr at ↦ let same : middle ≡ k = omega (arith, at, le) in subst (λ (j : ℕ). f j ≢ name) same (unequal_from_greater (f middle) name greater)
 ]

@@ -14,8 +14,11 @@ module _ (w : Format) (p : Parts) where
   pub rows_long : length (rows_in w p) ≡ count_in Legacy p.names
   rows_long = length-map-range_with_len {X = ReadRow} (λ i. (name_in p.names (name_table p.values p.table) i, value_in w p i)) 0 (count_in Legacy p.names)
 
-  pub row_at : (i : ℕ) (d : ReadRow) → i < count_in Legacy p.names → get_or (rows_in w p) i d ≡ (name_in p.names (name_table p.values p.table) i, value_in w p i)
-  row_at i d lt = get_or-map-range_with_len {X = ReadRow} (λ i. (name_in p.names (name_table p.values p.table) i, value_in w p i)) 0 (count_in Legacy p.names) i i d lt (omega arith)
+  pub row_at : (i : ℕ) (d : ReadRow) → i < count_in Legacy p.names → get_or (rows_in w p) i d
+      ≡ (name_in p.names (name_table p.values p.table) i, value_in w p i)
+  row_at i d lt = get_or-map-range_with_len {X = ReadRow} (λ i. (name_in p.names (name_table p.values p.table) i, value_in w p i)) 0
+      (count_in Legacy p.names) i i d lt (omega arith)
 
   pub row_stands : (i : ℕ) → i < count_in Legacy p.names → slice_get (rows_in w p) i ≡ Some (name_in p.names (name_table p.values p.table) i, value_in w p i)
-  row_stands i lt = let d : ReadRow = ([], None) in let long = rows_long in slice_get-get_or (rows_in w p) i d (omega arith) ∙ ap (λ (r : ReadRow). Some r) (row_at i d lt)
+  row_stands i lt = let d : ReadRow = ([], None) in let long = rows_long in slice_get-get_or (rows_in w p) i d (omega arith)
+      ∙ ap (λ (r : ReadRow). Some r) (row_at i d lt)

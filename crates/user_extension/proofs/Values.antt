@@ -1,5 +1,6 @@
 -- The values that an extension shows can be written again.
-use Rattle.std.proofs.Common.{◌≡◌, ℕ, ◌+◌, ◌-◌, ◌*◌, ◌<◌, Bool, true, false, cond, eqb, ltb, nat_lt, ◌==◌, List, length, drop, get_or, Option, Some, None, refl, sym, ap, ◌∙◌, subst, arith}
+use Rattle.std.proofs.Common.{◌≡◌, ℕ, ◌+◌, ◌-◌, ◌*◌, ◌<◌, Bool, true, false, cond, eqb, ltb, nat_lt, ◌==◌, List, length, drop, get_or, Option, Some, None}
+use Rattle.std.proofs.Common.{refl, sym, ap, ◌∙◌, subst, arith}
 use Rattle.std.specs.Prelude.{IfSome, slice_index}
 use Rattle.std.specs.List.{before_first, position_or_len}
 use Rattle.std.specs.Option.{option_map}
@@ -48,7 +49,8 @@ pub value_sound : (w : Format) (p : Parts) (i : ℕ) → IfSome (value_in w p i)
 value_sound w p i =
     let number = number_at w (width w * (i - length p.flags)) p.numbers in
     one_sound (nat_lt i (length p.flags)) (stored_flag (slice_index p.flags i)) _ (flag_sound (slice_index p.flags i))
-    (one_sound (nat_lt i (length p.flags + count_in w p.numbers)) (stored_number w number) (stored_text p.table (word_at (2 * (i - (length p.flags + count_in w p.numbers))) p.values))
+    (one_sound (nat_lt i (length p.flags + count_in w p.numbers)) (stored_number w number)
+    (stored_text p.table (word_at (2 * (i - (length p.flags + count_in w p.numbers))) p.values))
     (number_under w number (nat_lt number (first_negative w)) refl) (text_sound p.table (word_at (2 * (i - (length p.flags + count_in w p.numbers))) p.values)))
 
 -- so can what is lent of one

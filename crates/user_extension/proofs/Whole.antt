@@ -10,7 +10,8 @@ use Rattle.ti_layout.specs.Sections.{AreFlags, AreOffsets, AreStoredNumbers}
 use Rattle.ti_layout.proofs.Spelled.{counted}
 use Rattle.ti_layout.proofs.ViewLemmas.{rest_of}
 use Rattle.user_extension.specs.declared.checks.Sections.{Sections}
-use Rattle.user_extension.specs.Reading.{AreNames, IsExtension, Parts, flag_count, name_count, name_table, number_count, parts_in, table_end, table_size, text_count}
+use Rattle.user_extension.specs.Reading.{AreNames, IsExtension, Parts, flag_count, name_count, name_table, number_count, parts_in, table_end, table_size}
+use Rattle.user_extension.specs.Reading.{text_count}
 use Rattle.user_extension.specs.inside.Sections.{IsCut, parts_cut}
 
 -- how long the sections are
@@ -62,14 +63,16 @@ tail_is table size m e = rest_of m table ∙ ap (λ (k : ℕ). drop k table) e �
 pub leads : (table : List ℕ) (n : ℕ) → HasEnd table n → n < length table
 leads table n h = let a = h.1 in let b = h.2 in omega arith
 
-module _ (w : Format) (rest : List ℕ) (s : Sections) (cut : IsCut w rest s) (second third : ℕ) (second_is : second ≡ length s.flags.now) (third_is : third ≡ second + count_in w s.numbers.now) where
+module _ (w : Format) (rest : List ℕ) (s : Sections) (cut : IsCut w rest s) (second third : ℕ) (second_is : second ≡ length s.flags.now)
+    (third_is : third ≡ second + count_in w s.numbers.now) where
   second_place : second ≡ flag_count rest
   second_place = second_is ∙ (lengths_cut w rest s cut).flags_long
 
   third_place : third ≡ flag_count rest + number_count rest
   third_place = let a = second_place in let b = (counts w rest (parts_cut s) (lengths_cut w rest s cut)).numbers_are in omega arith
 
-  pub is_extension : AreFlags s.flags.now → AreStoredNumbers w s.numbers.now → AreOffsets s.values.now s.table.now → AreNames second third s.names.now (name_table s.values.now s.table.now) → IsExtension w rest
+  pub is_extension : AreFlags s.flags.now → AreStoredNumbers w s.numbers.now → AreOffsets s.values.now s.table.now
+      → AreNames second third s.names.now (name_table s.values.now s.table.now) → IsExtension w rest
   is_extension flags numbers values names = record {
     long = cut.long;
     few_names = cut.few_names;
@@ -87,7 +90,8 @@ module _ (w : Format) (rest : List ℕ) (s : Sections) (cut : IsCut w rest s) (s
   names_of e =
       subst (λ (p : Parts). AreNames second third p.names (name_table p.values p.table)) (sym cut.cut)
       (subst (λ (k : ℕ). AreNames k third (parts_in w rest).names (name_table (parts_in w rest).values (parts_in w rest).table)) (sym second_place)
-      (subst (λ (k : ℕ). AreNames (flag_count rest) k (parts_in w rest).names (name_table (parts_in w rest).values (parts_in w rest).table)) (sym third_place) e.names))
+      (subst (λ (k : ℕ). AreNames (flag_count rest) k (parts_in w rest).names (name_table (parts_in w rest).values (parts_in w rest).table))
+      (sym third_place) e.names))
 
   pub bad_flag : IsExtension w rest → HasBadFlag s.flags.now → ⊥
   bad_flag e bad =

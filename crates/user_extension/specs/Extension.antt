@@ -59,13 +59,15 @@ places at (t ∷ ts) = at ∷ places (at + length (ended t)) ts
 -- how many booleans, numbers and strings; how many strings and names the table has; the bytes of the table
 abbrev pub extension_header : List Row → List ℕ
 extension_header rows =
-    number_section Legacy (length (flags rows) ∷ length (numbers rows) ∷ length (texts rows) ∷ (length (texts rows) + length (names rows)) ∷ length (table (texts rows) ++ table (names rows)) ∷ [])
+    number_section Legacy (length (flags rows) ∷ length (numbers rows) ∷ length (texts rows) ∷ (length (texts rows) + length (names rows))
+    ∷ length (table (texts rows) ++ table (names rows)) ∷ [])
 
 -- Five numbers; the booleans, and a zero byte if they are odd; the numbers; the offsets of the
 -- values; those of the names, from the end of the last value; the values and the names.
 unfoldable pub extension : Format → List Row → List ℕ
 extension format rows =
-    extension_header rows ++ flags rows ++ replicate (length (flags rows) % 2) ascii.nul ++ number_section format (numbers rows) ++ number_section Legacy (places 0 (texts rows)) ++ number_section Legacy (places 0 (names rows))
+    extension_header rows ++ flags rows ++ replicate (length (flags rows) % 2) ascii.nul ++ number_section format (numbers rows)
+    ++ number_section Legacy (places 0 (texts rows)) ++ number_section Legacy (places 0 (names rows))
     ++ table (texts rows) ++ table (names rows)
 
 -- the extension after so many bytes: nothing if there is no user-defined capability, else after a
@@ -85,7 +87,8 @@ entry_format contents rows = if some_wide rows then Extended else format_of cont
 -- The compiled entry of a names field, of what the capabilities have, and of user-defined ones.
 unfoldable pub entry : List ℕ → Contents → List Row → List ℕ
 entry field contents rows =
-    image_in (entry_format contents rows) field contents ++ extension_after (length (image_in (entry_format contents rows) field contents)) (entry_format contents rows) rows
+    image_in (entry_format contents rows) field contents ++ extension_after (length (image_in (entry_format contents rows) field contents))
+    (entry_format contents rows) rows
 
 -- the most bytes that the entry may have
 abbrev pub entry_limit : Contents → List Row → ℕ

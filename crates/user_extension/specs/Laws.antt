@@ -31,6 +31,7 @@ ExtensionsAreRead =
 -- absent.
 abbrev pub EntriesAreRead : Type 0
 EntriesAreRead =
-    (field : List ℕ) (contents : Contents) (rows : List Row) → 0 < length field → length field ≤ names_max → HasNoNul field → ((c : Capability) → IsCapability c → AgreesIfSome c (contents c)) → AreUserDefined rows → Fits field contents rows
+    (field : List ℕ) (contents : Contents) (rows : List Row) → 0 < length field → length field ≤ names_max → HasNoNul field
+    → ((c : Capability) → IsCapability c → AgreesIfSome c (contents c)) → AreUserDefined rows → Fits field contents rows
     → (read : Contents) × Reads (entry field contents rows) field read × ((c : Capability) → IsCapability c → read c ≡ without_cancel (contents c))
     × EndsWell (entry field contents rows) × (rows_after (entry field contents rows) ≡ as_read rows)

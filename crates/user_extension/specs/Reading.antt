@@ -1,6 +1,7 @@
 -- What the bytes after a compiled entry say of user-defined capabilities (term(5), "Extended storage
 -- format"), and which bytes do.
-use Rattle.std.specs.Prelude.{◌≡◌, ◌≢◌, ℕ, zero, suc, ◌+◌, ◌*◌, ◌-◌, ◌%◌, ◌<◌, ◌≤◌, nat_lt, bytes_eq, if◌then◌else◌, IsTrue, List, [], ◌∷◌, map, length, drop, slice_index, slice_range, Option, None}
+use Rattle.std.specs.Prelude.{◌≡◌, ◌≢◌, ℕ, zero, suc, ◌+◌, ◌*◌, ◌-◌, ◌%◌, ◌<◌, ◌≤◌, nat_lt, bytes_eq, if◌then◌else◌, IsTrue, List, [], ◌∷◌, map, length}
+use Rattle.std.specs.Prelude.{drop, slice_index, slice_range, Option, None}
 use Rattle.std.specs.List.{range_with_len}
 use Rattle.std.specs.Option.{option_or}
 use Rattle.std.specs.Ordering.{nat_cmp, is_lt}
@@ -129,7 +130,8 @@ pub record AreNames (second third : ℕ) (names table : List ℕ) : Type 0 where
   pub ended : (k : ℕ) → k < count_in Legacy names → HasEnd table (word_at (2 * k) names)
   pub user_defined : (k : ℕ) → k < count_in Legacy names → IsTrue (is_user_defined_name (name_in names table k))
   pub adjoin : (k : ℕ) → suc k < count_in Legacy names → word_at (2 * suc k) names ≡ word_at (2 * k) names + length (name_in names table k) + 1
-  pub rise : (k : ℕ) → suc k < count_in Legacy names → suc k ≢ second → suc k ≢ third → IsTrue (is_lt (slice_cmp nat_cmp (name_in names table k) (name_in names table (suc k))))
+  pub rise : (k : ℕ) → suc k < count_in Legacy names → suc k ≢ second → suc k ≢ third
+      → IsTrue (is_lt (slice_cmp nat_cmp (name_in names table k) (name_in names table (suc k))))
 
 -- the bytes after an entry are an extension: as long as its header says, with sound sections
 pub record IsExtension (format : Format) (rest : List ℕ) : Type 0 where
@@ -140,7 +142,8 @@ pub record IsExtension (format : Format) (rest : List ℕ) : Type 0 where
   pub flags : AreFlags (parts_in format rest).flags
   pub numbers : AreStoredNumbers format (parts_in format rest).numbers
   pub values : AreOffsets (parts_in format rest).values (parts_in format rest).table
-  pub names : AreNames (flag_count rest) (flag_count rest + number_count rest) (parts_in format rest).names (name_table (parts_in format rest).values (parts_in format rest).table)
+  pub names : AreNames (flag_count rest) (flag_count rest + number_count rest) (parts_in format rest).names
+      (name_table (parts_in format rest).values (parts_in format rest).table)
 
 -- ---- after an entry
 

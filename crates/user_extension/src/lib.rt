@@ -12,7 +12,8 @@
 //! - `writing`: an entry with user-defined capabilities (`write`)
 //! - `reading`: such an entry, read in place (`read`, which gives a `View` and an `Extension`);
 //!   `fault`: why bytes are none (`ExtensionError`)
-//! - `view`: what an extension shows (`Extension`): its rows, and the value of a name
+//! - `view`: what an extension shows (`Extension`): its rows, and the value of a name;
+//!   `extension_parts`: its sections, for who holds them in another struct (`ExtensionParts`)
 //! - `checks`: its sections, cut by its header and looked through; `texts`: texts ended by a NUL
 //! - `laws`: what is written is read again
 //!
@@ -20,6 +21,7 @@
 #![tactic(auto)]
 
 mod checks;
+mod extension_parts;
 mod fault;
 pub mod laws;
 mod reading;
@@ -28,6 +30,7 @@ mod user_defined;
 mod view;
 mod writing;
 
+pub use extension_parts::ExtensionParts;
 pub use fault::ExtensionError;
 pub use reading::read;
 pub use user_defined::UserDefined;

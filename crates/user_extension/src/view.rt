@@ -9,6 +9,7 @@ ghost use Rattle.user_extension.specs.Reading.{IsExtension, name_table, name_in,
 ghost use Rattle.user_extension.specs.inside.View.{LeadInto, EachIsNamed, AreUserDefinedNames, RiseByKind};
 
 use crate::checks::{NEGATIVE_WORD, are_names, cut, values_size};
+use crate::extension_parts::ExtensionParts;
 use crate::texts::text;
 use std::cmp::Ordering;
 use ti_layout::{Content, Format, are_flags, are_numbers, are_offsets, number, word};
@@ -47,6 +48,7 @@ impl<'a> Extension<'a> {
     ghost use Rattle.std.specs.Option.{option_copied};
     ghost use Rattle.user_extension.specs.UserDefined.{IsValue};
     ghost use Rattle.user_extension.specs.View.{parts_of, read_rows};
+    ghost use Rattle.user_extension.specs.ExtensionParts.{parts_rows};
     ghost use Rattle.user_extension.specs.inside.View.{IsOfOneKind};
     ghost use Rattle.user_items.specs.Names.{is_user_defined_name};
 
@@ -141,6 +143,36 @@ impl<'a> Extension<'a> {
             return Some(number);
         }
         self.get_between(name, third, self.len())
+    }
+
+    /// The extension as its sections.
+    pub fn parts(&self) -> ExtensionParts<'a>
+        ensures { parts_rows result ≡ read_rows self.now }
+    {
+        ExtensionParts {
+            format: self.format,
+            flags: self.flags,
+            numbers: self.numbers,
+            values: self.values,
+            names: self.names,
+            table: self.table,
+            tail: self.tail,
+        }
+    }
+
+    /// The extension with such sections.
+    pub fn of_parts(parts: ExtensionParts<'a>) -> Extension<'a>
+        ensures { read_rows result ≡ parts_rows parts.entry }
+    {
+        Extension {
+            format: parts.format,
+            flags: parts.flags,
+            numbers: parts.numbers,
+            values: parts.values,
+            names: parts.names,
+            table: parts.table,
+            tail: parts.tail,
+        }
     }
 
     // The name at a place.

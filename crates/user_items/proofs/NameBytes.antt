@@ -19,7 +19,8 @@ and_right false b e = absurd (cc)
 each_byte : (name : List ℕ) → list_all is_user_defined_byte name ≡ true → AllByRecursion (λ (b : ℕ). b ≢ 0) name
 each_byte [] e = tt
 each_byte (b ∷ bs) e = (
-  λ z. let never : false ≡ true = subst (λ (x : ℕ). is_user_defined_byte x ≡ true) z (and_left (is_user_defined_byte b) (list_all is_user_defined_byte bs) e) in absurd cc,
+  λ z. let never : false ≡ true =
+      subst (λ (x : ℕ). is_user_defined_byte x ≡ true) z (and_left (is_user_defined_byte b) (list_all is_user_defined_byte bs) e) in absurd cc,
   each_byte bs (and_right (is_user_defined_byte b) (list_all is_user_defined_byte bs) e),
 )
 

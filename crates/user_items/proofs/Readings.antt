@@ -15,7 +15,8 @@ use Rattle.ti_text.specs.WhiteSpace.{is_white_space}
 use Rattle.std.proofs.lemmas.Bool.{cases_Bool}
 use Rattle.ti_source.proofs.ItemLaws.{has_field, one_field, has_items, one_items, BeginsVisible, has_statement, one_statement}
 use Rattle.user_items.specs.Verdicts.{UserVerdict, UserJudges, verdict_on}
-use Rattle.user_items.specs.Reading.{UserBlock, ReadUserItem, ReadUserFault, UserJudged, IsUserJudged, states_nothing, states_another, states_user, AreUserJudged, no_item, item_and_rest, reading_by, items_at, faults_at, items_from, faults_from}
+use Rattle.user_items.specs.Reading.{UserBlock, ReadUserItem, ReadUserFault, UserJudged, IsUserJudged, states_nothing, states_another, states_user}
+use Rattle.user_items.specs.Reading.{AreUserJudged, no_item, item_and_rest, reading_by, items_at, faults_at, items_from, faults_from}
 use Rattle.user_items.specs.Parsing.{ReadsUserItems, user_reading_of_text}
 use Rattle.user_items.specs.inside.Computed.{verdict_of, judged_with, judged_as, judged_of, AddsItem}
 use Rattle.user_items.specs.Laws.{BlocksHaveOneUserReading}
@@ -55,9 +56,11 @@ one_user_verdict name claim v j = j.is ∙ ap (verdict_on name claim) (one_claim
 one_judgement : (item : List PlacedByte) (o : Option UserJudged) → IsUserJudged item o → o ≡ judged_of item
 one_judgement _ _ (states_nothing item states) = ap (judged_as (piece_of item).line) (one_statement (piece_of item).text None states)
 one_judgement _ _ (states_another item s states judges) =
-    ap (judged_with (piece_of item).line s.name) (one_user_verdict s.name s.claim None judges) ∙ ap (judged_as (piece_of item).line) (one_statement (piece_of item).text (Some s) states)
+    ap (judged_with (piece_of item).line s.name) (one_user_verdict s.name s.claim None judges)
+    ∙ ap (judged_as (piece_of item).line) (one_statement (piece_of item).text (Some s) states)
 one_judgement _ _ (states_user item s v states judges) =
-    ap (judged_with (piece_of item).line s.name) (one_user_verdict s.name s.claim (Some v) judges) ∙ ap (judged_as (piece_of item).line) (one_statement (piece_of item).text (Some s) states)
+    ap (judged_with (piece_of item).line s.name) (one_user_verdict s.name s.claim (Some v) judges)
+    ∙ ap (judged_as (piece_of item).line) (one_statement (piece_of item).text (Some s) states)
 
 one_judging : (items : List (List PlacedByte)) (outcomes : List (Option UserJudged)) → AreUserJudged items outcomes → outcomes ≡ map judged_of items
 one_judging _ _ no_item = refl
@@ -127,14 +130,18 @@ append_none : {X : Type 0} (xs : List X) → xs ≡ xs ++ []
 append_none [] = refl
 append_none (x ∷ xs) = ap (λ ys. x ∷ ys) (append_none xs)
 
-pub all_read : (block : List ℕ) (ordinal : ℕ) (walk : List (List PlacedByte)) (now : UserBlock) → ReadSoFar block ordinal walk now → walk ≡ [] → now ≡ user_reading_of_text block
+pub all_read : (block : List ℕ) (ordinal : ℕ) (walk : List (List PlacedByte)) (now : UserBlock) → ReadSoFar block ordinal walk now → walk ≡ []
+    → now ≡ user_reading_of_text block
 unfolding user_reading_of_text
 all_read block ordinal walk now h w =
-    let i : now.items ≡ items_from 0 (map judged_of (block_items block)) = append_none now.items ∙ ap (λ ws. now.items ++ items_from ordinal (map judged_of ws)) (sym w) ∙ h.items in
-    let f : now.faults ≡ faults_from 0 (map judged_of (block_items block)) = append_none now.faults ∙ ap (λ ws. now.faults ++ faults_from ordinal (map judged_of ws)) (sym w) ∙ h.faults in
+    let i : now.items ≡ items_from 0 (map judged_of (block_items block)) =
+    append_none now.items ∙ ap (λ ws. now.items ++ items_from ordinal (map judged_of ws)) (sym w) ∙ h.items in
+    let f : now.faults ≡ faults_from 0 (map judged_of (block_items block)) =
+    append_none now.faults ∙ ap (λ ws. now.faults ++ faults_from ordinal (map judged_of ws)) (sym w) ∙ h.faults in
     same_block now (user_reading_of_text block) i f
 
-pub none_read : (block : List ℕ) (walk : List (List PlacedByte)) (now : UserBlock) → walk ≡ block_items block → length walk ≤ length block + 1 → now.items ≡ [] → now.faults ≡ [] → ReadSoFar block 0 walk now
+pub none_read : (block : List ℕ) (walk : List (List PlacedByte)) (now : UserBlock) → walk ≡ block_items block → length walk ≤ length block + 1
+    → now.items ≡ [] → now.faults ≡ [] → ReadSoFar block 0 walk now
 none_read block walk now w few i f = record {
   items = ap (λ xs. xs ++ items_from 0 (map judged_of walk)) i ∙ ap (λ ws. items_from 0 (map judged_of ws)) w;
   faults = ap (λ xs. xs ++ faults_from 0 (map judged_of walk)) f ∙ ap (λ ws. faults_from 0 (map judged_of ws)) w;

@@ -13,7 +13,8 @@ use Rattle.ti_source.specs.Numbers.{ReadsAs}
 use Rattle.ti_source.specs.Parsing.{reading_of_text}
 use Rattle.ti_source.specs.Reading.{ReadItem, ReadFault}
 use Rattle.ti_source.specs.Sound.{EachIsWellRead, IsLineOf}
-use Rattle.ti_source.specs.Verdicts.{Verdict, accepted, accepted_odd, refused, items_by as items_by_there, faults_by as faults_by_there, claimed_text, is_import, ReadClaim, IsReadAs, flag_read, number_read_as, text_read_as, cancel_read}
+use Rattle.ti_source.specs.Verdicts.{Verdict, accepted, accepted_odd, refused, items_by as items_by_there, faults_by as faults_by_there, claimed_text}
+use Rattle.ti_source.specs.Verdicts.{is_import, ReadClaim, IsReadAs, flag_read, number_read_as, text_read_as, cancel_read}
 use Rattle.ti_source.specs.inside.Header.{header_names}
 use Rattle.ti_source.specs.inside.Parsing.{block_field, judged_as as judged_as_there, judged_of as judged_there}
 use Rattle.ti_source.specs.Walking.{block_items}
@@ -21,7 +22,8 @@ use Rattle.ti_source.specs.inside.Verdicts.{read_claim, verdict_of as verdict_th
 use Rattle.ti_source.proofs.JudgingLaws.{is_read}
 use Rattle.user_items.specs.Names.{is_user_defined_name}
 use Rattle.user_items.specs.Verdicts.{UserVerdict, user_accepted, user_odd, user_refused, imports, number_verdict, text_verdict, defining_verdict}
-use Rattle.user_items.specs.Reading.{ReadUserItem, ReadUserFault, UserJudged, items_at as user_items_at, faults_at as user_faults_at, items_from as user_items_from, faults_from as user_faults_from, items_by, faults_by}
+use Rattle.user_items.specs.Reading.{ReadUserItem, ReadUserFault, UserJudged, items_at as user_items_at, faults_at as user_faults_at}
+use Rattle.user_items.specs.Reading.{items_from as user_items_from, faults_from as user_faults_from, items_by, faults_by}
 use Rattle.user_items.specs.Sound.{IsSoundItem, EachUserReadingIsSound}
 use Rattle.user_items.specs.inside.Computed.{judged_with, judged_as, judged_of}
 use Rattle.user_items.specs.Parsing.{user_reading_of_text}
@@ -33,16 +35,19 @@ IsSoundVerdict (user_accepted said) = IsSoundItem said
 IsSoundVerdict (user_odd said) = IsSoundItem said
 IsSoundVerdict user_refused = Unit {0}
 
-sound_number : (name text : List ℕ) (read : Result ℕ NumberError) → is_user_defined_name name ≡ true → ReadsAs text read → IsSoundVerdict (number_verdict name read)
+sound_number : (name text : List ℕ) (read : Result ℕ NumberError) → is_user_defined_name name ≡ true → ReadsAs text read
+    → IsSoundVerdict (number_verdict name read)
 sound_number name text (Ok n) u read = (u, read.1)
 sound_number name text (Err cause) u read = tt
 
-sound_text : ValuesAreSound → (name raw : List ℕ) (found : Result (List ℕ × Bool) UnescapeError) → is_user_defined_name name ≡ true → SpellsAs raw found → IsSoundVerdict (text_verdict name found)
+sound_text : ValuesAreSound → (name raw : List ℕ) (found : Result (List ℕ × Bool) UnescapeError) → is_user_defined_name name ≡ true → SpellsAs raw found
+    → IsSoundVerdict (text_verdict name found)
 sound_text sound name raw (Ok (text, true)) u spells = (u, (sound raw text true spells).no_nul)
 sound_text sound name raw (Ok (text, false)) u spells = (u, (sound raw text false spells).no_nul)
 sound_text sound name raw (Err cause) u spells = tt
 
-sound_claim : ValuesAreSound → (name : List ℕ) (claim : Claim) (read : ReadClaim) → is_user_defined_name name ≡ true → IsReadAs claim read → IsSoundVerdict (defining_verdict name read)
+sound_claim : ValuesAreSound → (name : List ℕ) (claim : Claim) (read : ReadClaim) → is_user_defined_name name ≡ true → IsReadAs claim read
+    → IsSoundVerdict (defining_verdict name read)
 sound_claim sound name _ _ u flag_read = (u, tt)
 sound_claim sound name _ _ u (number_read_as {text = text} {read = read} reads) = sound_number name text read u reads
 sound_claim sound name _ _ u (text_read_as {value = value} {found = found} spells) = sound_text sound name value found u spells
@@ -145,14 +150,18 @@ sound_readings sound well block one =
     let there = faults_from 0 (map judged_there items) in
     let read : AllByRecursion (λ (i : ReadItem). Q i.line) (items_from 0 (map judged_there items)) =
     recursion_from_All (λ (i : ReadItem). Q i.line) (items_from 0 (map judged_there items)) (well block one).item_lines in
-    let faults = AllByRecursion-parts (λ (f : ReadFault). Q f.line) header there (recursion_from_All (λ (f : ReadFault). Q f.line) (header ++ there) (well block one).fault_lines) in
+    let faults = AllByRecursion-parts (λ (f : ReadFault). Q f.line) header there
+    (recursion_from_All (λ (f : ReadFault). Q f.line) (header ++ there) (well block one).fault_lines) in
     let all = all_sound sound Q 0 items (all_lines Q 0 items read faults.1) in
     let i = user_items_from 0 (map judged_of items) in
     let f = user_faults_from 0 (map judged_of items) in
     record {
-      items = All-from_recursion (λ (i : ReadUserItem). IsSoundItem i.said) i (AllByRecursion-weaker (IsSoundAt Q) (λ (i : ReadUserItem). IsSoundItem i.said) (λ i h. h.0) i all.0);
+      items = All-from_recursion (λ (i : ReadUserItem). IsSoundItem i.said) i
+          (AllByRecursion-weaker (IsSoundAt Q) (λ (i : ReadUserItem). IsSoundItem i.said) (λ i h. h.0) i all.0);
       faults = All-from_recursion (λ (f : ReadUserFault). is_user_defined_name f.name ≡ true) f
           (AllByRecursion-weaker (IsFaultAt Q) (λ (f : ReadUserFault). is_user_defined_name f.name ≡ true) (λ f h. h.0) f all.1);
-      item_lines = All-from_recursion (λ (i : ReadUserItem). Q i.line) i (AllByRecursion-weaker (IsSoundAt Q) (λ (i : ReadUserItem). Q i.line) (λ i h. h.1) i all.0);
-      fault_lines = All-from_recursion (λ (f : ReadUserFault). Q f.line) f (AllByRecursion-weaker (IsFaultAt Q) (λ (f : ReadUserFault). Q f.line) (λ f h. h.1) f all.1);
+      item_lines =
+          All-from_recursion (λ (i : ReadUserItem). Q i.line) i (AllByRecursion-weaker (IsSoundAt Q) (λ (i : ReadUserItem). Q i.line) (λ i h. h.1) i all.0);
+      fault_lines = All-from_recursion (λ (f : ReadUserFault). Q f.line) f
+          (AllByRecursion-weaker (IsFaultAt Q) (λ (f : ReadUserFault). Q f.line) (λ f h. h.1) f all.1);
     }

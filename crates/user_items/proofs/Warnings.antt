@@ -1,5 +1,6 @@
 -- Where reading finds a user-defined name unknown, an item defines it.
-use Rattle.std.proofs.Common.{◌≡◌, ℕ, ◌+◌, Bool, true, false, not, ◌==◌, ◌&&◌, List, [], ◌∷◌, ◌++◌, map, length, Option, Some, None, refl, sym, ap, ◌∙◌, inl, inr, cond, append_assoc}
+use Rattle.std.proofs.Common.{◌≡◌, ℕ, ◌+◌, Bool, true, false, not, ◌==◌, ◌&&◌, List, [], ◌∷◌, ◌++◌, map, length, Option, Some, None, refl, sym, ap, ◌∙◌}
+use Rattle.std.proofs.Common.{inl, inr, cond, append_assoc}
 use Rattle.std.specs.List.{flat_map, list_all}
 use Rattle.std.specs.Prelude.{codes, is_none}
 use Rattle.std.specs.Str.{bytes_eq}
@@ -12,7 +13,8 @@ use Rattle.ti_source.specs.Stating.{statement_of}
 use Rattle.ti_source.specs.Reading.{ReadFault}
 use Rattle.ti_source.specs.Parsing.{reading_of_text}
 use Rattle.ti_source.specs.Judging.{faults_at, faults_from, header_faults}
-use Rattle.ti_source.specs.Verdicts.{Verdict, accepted, accepted_odd, refused, faults_by, is_import, named_verdict, verdict_on as verdict_there, ReadClaim, reads_flag, reads_number, reads_text, reads_cancel}
+use Rattle.ti_source.specs.Verdicts.{Verdict, accepted, accepted_odd, refused, faults_by, is_import, named_verdict, verdict_on as verdict_there, ReadClaim}
+use Rattle.ti_source.specs.Verdicts.{reads_flag, reads_number, reads_text, reads_cancel}
 use Rattle.ti_source.specs.inside.Header.{header_names}
 use Rattle.ti_source.specs.inside.Parsing.{block_field, judged_as as judged_as_there, judged_of as judged_there}
 use Rattle.ti_source.specs.Walking.{block_items}
@@ -65,18 +67,22 @@ all_define : (name : List ℕ) (read : ReadClaim) → defines (defining_verdict 
 all_define name reads_flag = refl
 all_define name (reads_number (Ok n)) = refl
 all_define name (reads_number (Err cause)) = refl
-all_define name (reads_text value (Ok found)) = elim found.1 as (λ b. defines (defining_verdict name (reads_text value (Ok (found.0, b)))) ≡ true) [ true ↦ refl | false ↦ refl ]
+all_define name (reads_text value (Ok found)) =
+    elim found.1 as (λ b. defines (defining_verdict name (reads_text value (Ok (found.0, b)))) ≡ true) [ true ↦ refl | false ↦ refl ]
 all_define name (reads_text value (Err cause)) = refl
 all_define name reads_cancel = refl
 
-warned : (o line : ℕ) (name : List ℕ) → is_user_defined_name name ≡ true → flat_map user_warning (faults_by o line name (refused code.UnknownCapability)) ≡ place o line name
+warned : (o line : ℕ) (name : List ℕ) → is_user_defined_name name ≡ true → flat_map user_warning (faults_by o line name (refused code.UnknownCapability))
+    ≡ place o line name
 warned o line name u = rw u refl
 
-placed : (o line : ℕ) (name : List ℕ) (read : ReadClaim) (b : Bool) → b ≡ true → place o line name ≡ places_at o (judged_with line name (cond b (Some (defining_verdict name read)) None))
+placed : (o line : ℕ) (name : List ℕ) (read : ReadClaim) (b : Bool) → b ≡ true → place o line name
+    ≡ places_at o (judged_with line name (cond b (Some (defining_verdict name read)) None))
 placed o line name read true e = rw (all_define name read) refl
 placed o line name read false e = absurd (cc)
 
-not_placed : (o line : ℕ) (name : List ℕ) (read : ReadClaim) (b : Bool) → b ≡ false → places_at o (judged_with line name (cond b (Some (defining_verdict name read)) None)) ≡ []
+not_placed : (o line : ℕ) (name : List ℕ) (read : ReadClaim) (b : Bool) → b ≡ false
+    → places_at o (judged_with line name (cond b (Some (defining_verdict name read)) None)) ≡ []
 not_placed o line name read true e = absurd (cc)
 not_placed o line name read false e = refl
 
@@ -102,7 +108,8 @@ stated o line (Some s) = one_warning o line s.name s.claim (read_claim s.claim)
 
 flat_map-append : (xs ys : List ReadFault) → flat_map user_warning (xs ++ ys) ≡ flat_map user_warning xs ++ flat_map user_warning ys
 flat_map-append [] ys = refl
-flat_map-append (x ∷ xs) ys = ap (λ zs. user_warning x ++ zs) (flat_map-append xs ys) ∙ sym (append_assoc (user_warning x) (flat_map user_warning xs) (flat_map user_warning ys))
+flat_map-append (x ∷ xs) ys =
+    ap (λ zs. user_warning x ++ zs) (flat_map-append xs ys) ∙ sym (append_assoc (user_warning x) (flat_map user_warning xs) (flat_map user_warning ys))
 
 all_warnings : (o : ℕ) (items : List (List PlacedByte)) → flat_map user_warning (faults_from o (map judged_there items)) ≡ places_from o (map judged_of items)
 all_warnings o [] = refl
@@ -114,7 +121,8 @@ all_warnings o (item ∷ items) =
 no_header_warning : (field : List ℕ) (names : Option (List (List ℕ))) → flat_map user_warning (header_faults field names) ≡ []
 no_header_warning field None = refl
 no_header_warning field (Some names) =
-    elim (nat_lt names_max (length field)) as (λ b. flat_map user_warning (cond b (record { ordinal = 0; line = 1; code = code.NamesTooLong; detail = None } ∷ []) []) ≡ []) [ true ↦ refl | false ↦ refl ]
+    elim (nat_lt names_max (length field)) as (λ b. flat_map user_warning
+    (cond b (record { ordinal = 0; line = 1; code = code.NamesTooLong; detail = None } ∷ []) []) ≡ []) [ true ↦ refl | false ↦ refl ]
 
 pub warnings : WarningsAreOfDefiningItems
 unfolding reading_of_text
@@ -122,4 +130,5 @@ warnings block =
     let field = block_field block in
     let header = header_faults field (header_names field) in
     let rest = faults_from 0 (map judged_there (block_items block)) in
-    flat_map-append header rest ∙ ap (λ xs. xs ++ flat_map user_warning rest) (no_header_warning field (header_names field)) ∙ all_warnings 0 (block_items block)
+    flat_map-append header rest ∙ ap (λ xs. xs ++ flat_map user_warning rest) (no_header_warning field (header_names field))
+    ∙ all_warnings 0 (block_items block)

@@ -35,7 +35,8 @@ is_unknown _ = false
 -- the place of a fault of a block, if it is that of an unknown name which is user-defined
 abbrev pub warning_of : ReadFault → Option (List ℕ) → List NamedPlace
 warning_of fault None = []
-warning_of fault (Some name) = if is_unknown fault.code && is_user_defined_name name then record { ordinal = fault.ordinal; line = fault.line; name = name } ∷ [] else []
+warning_of fault (Some name) =
+    if is_unknown fault.code && is_user_defined_name name then record { ordinal = fault.ordinal; line = fault.line; name = name } ∷ [] else []
 
 -- the place of a fault, as `warning_of` its detail
 abbrev pub user_warning : ReadFault → List NamedPlace

@@ -17,4 +17,5 @@ is_user_defined_byte b =
 
 -- a user-defined name: one or more such bytes, neither `use` nor the name of a capability
 unfoldable pub is_user_defined_name : List ℕ → Bool
-is_user_defined_name name = not (length name == 0) && (list_all is_user_defined_byte name && (not (bytes_eq name (codes "use")) && is_none (capability_named name)))
+is_user_defined_name name =
+    not (length name == 0) && (list_all is_user_defined_byte name && (not (bytes_eq name (codes "use")) && is_none (capability_named name)))

@@ -36,8 +36,10 @@ names-alone kind rows (name ∷ names) = rw (said-alone kind (said rows name), n
 
 kind-alone : (layout : Layout) (entry : Extended) (kind : Kind) → differing_kind layout entry [] kind ≡ listed_kind layout entry kind
 kind-alone layout entry kind =
-    ap (λ (items : List (List ℕ)). kind_lines layout (items ++ differing_items kind entry [])) (ap (map item_text) (items-alone entry.entry.contents (in_order layout.order kind)))
-    ∙ ap (λ (items : List (List ℕ)). kind_lines layout (table_items layout entry.entry.contents kind ++ items)) (names-alone kind entry.rows (names_of_kind kind entry.rows))
+    ap (λ (items : List (List ℕ)). kind_lines layout (items ++ differing_items kind entry []))
+    (ap (map item_text) (items-alone entry.entry.contents (in_order layout.order kind)))
+    ∙ ap (λ (items : List (List ℕ)). kind_lines layout (table_items layout entry.entry.contents kind ++ items))
+    (names-alone kind entry.rows (names_of_kind kind entry.rows))
 
 pub relative-alone : (entry : Extended) (layout : Layout) → extended_relative entry [] layout ≡ extended_listing entry layout
 relative-alone entry layout =

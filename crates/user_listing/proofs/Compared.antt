@@ -29,7 +29,8 @@ row-named Neither c None (Some other) = refl
 row-named Neither c (Some one) other = refl
 
 -- after the row of a capability was written by its name, what is still to come is as it was
-pub table-row : (mode : Mode) (one other : Contents) (caps : List Capability) (place : ℕ) (c : Capability) (kind : Kind) (name : List ℕ) (x y : Option Content) (before after all : List ℕ)
+pub table-row : (mode : Mode) (one other : Contents) (caps : List Capability) (place : ℕ) (c : Capability) (kind : Kind) (name : List ℕ)
+    (x y : Option Content) (before after all : List ℕ)
     → slice_get caps place ≡ Some c → kind ≡ c.kind → name ≡ name_of c → x ≡ one c → y ≡ other c → after ≡ before ++ named_row mode kind name x y
     → before ++ rows mode one other (drop place caps) ≡ all → after ++ rows mode one other (drop (place + 1) caps) ≡ all
 table-row mode one other caps place c kind name x y before after all at of_kind of_name of_one of_other writes invariant =

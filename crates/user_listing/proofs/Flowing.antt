@@ -45,7 +45,8 @@ table-some layout line taken before after all table caps place c x later at some
     ∙ ap (λ (items : List (List ℕ)). before ++ flow layout line (items ++ later)) (sym (table-at table caps place c x at some)) ∙ invariant
 
 -- if a capability has no item, what is still to come is as it was
-pub table-none : (layout : Layout) (line : Option ℕ) (before all : List ℕ) (table : Contents) (caps : List Capability) (place : ℕ) (c : Capability) (later : List (List ℕ))
+pub table-none : (layout : Layout) (line : Option ℕ) (before all : List ℕ) (table : Contents) (caps : List Capability) (place : ℕ) (c : Capability)
+    (later : List (List ℕ))
     → slice_get caps place ≡ Some c → table c ≡ None
     → before ++ flow layout line (table_from table caps place ++ later) ≡ all
     → before ++ flow layout line (table_from table caps (place + 1) ++ later) ≡ all
@@ -53,7 +54,8 @@ table-none layout line before all table caps place c later at none invariant =
     ap (λ items. before ++ flow layout line (map item_text items ++ later)) (sym (items-none table caps place c at none)) ∙ invariant
 
 -- after the last capability what is later is still to come
-pub table-end : (layout : Layout) (line : Option ℕ) (before : List ℕ) (table : Contents) (caps : List Capability) (place : ℕ) (later : List (List ℕ)) → length caps ≤ place
+pub table-end : (layout : Layout) (line : Option ℕ) (before : List ℕ) (table : Contents) (caps : List Capability) (place : ℕ) (later : List (List ℕ))
+    → length caps ≤ place
     → before ++ flow layout line later ≡ before ++ flow layout line (table_from table caps place ++ later)
 table-end layout line before table caps place later past =
     ap (λ (cs : List Capability). before ++ flow layout line (map item_text (items_for table cs) ++ later)) (sym (drop_all place caps past))
@@ -63,7 +65,8 @@ abbrev pub said_items : (List ℕ → Option Content) → List (List ℕ) → Li
 said_items say names = flat_map (λ (name : List ℕ). item_if_said name (say name)) names
 
 -- after the item of a name was written, what is still to come is as it was
-pub name-some : (layout : Layout) (line taken : Option ℕ) (before after all : List ℕ) (say : List ℕ → Option Content) (names names_then : List (List ℕ)) (name : List ℕ) (x : Content)
+pub name-some : (layout : Layout) (line taken : Option ℕ) (before after all : List ℕ) (say : List ℕ → Option Content) (names names_then : List (List ℕ))
+    (name : List ℕ) (x : Content)
     → names ≡ name ∷ names_then → say name ≡ Some x
     → ((items : List (List ℕ)) → after ++ flow layout taken items ≡ before ++ flow layout line (named_item name x ∷ items))
     → before ++ flow layout line (said_items say names) ≡ all

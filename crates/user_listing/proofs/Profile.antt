@@ -44,7 +44,8 @@ none-of-kind Text = refl
 -- no name has a value of any kind
 no-names : (kind : Kind) (rows : List ReadRow) → All (λ (row : ReadRow). row.1 ≡ None) rows → names_of_kind kind rows ≡ []
 no-names kind [] all = refl
-no-names kind (row ∷ rows) all = rw (All-head (λ (r : ReadRow). r.1 ≡ None) row rows all, none-of-kind kind) (no-names kind rows (All-tail (λ (r : ReadRow). r.1 ≡ None) row rows all))
+no-names kind (row ∷ rows) all =
+    rw (All-head (λ (r : ReadRow). r.1 ≡ None) row rows all, none-of-kind kind) (no-names kind rows (All-tail (λ (r : ReadRow). r.1 ≡ None) row rows all))
 
 no-more-names : (kind : Kind) (others : List Extended) → All HasNoUserDefined others → with_names_of kind [] others ≡ []
 no-more-names kind [] all = refl
@@ -52,12 +53,15 @@ no-more-names kind (other ∷ others) all =
     ap (λ (names : List (List ℕ)). with_names_of kind names others) (no-names kind other.rows (All-head HasNoUserDefined other others all))
     ∙ no-more-names kind others (All-tail HasNoUserDefined other others all)
 
-none-among : (kind : Kind) (entry : Extended) (others : List Extended) → HasNoUserDefined entry → All HasNoUserDefined others → names_among kind entry others ≡ []
-none-among kind entry others none all = ap (λ (names : List (List ℕ)). with_names_of kind names others) (no-names kind entry.rows none) ∙ no-more-names kind others all
+none-among : (kind : Kind) (entry : Extended) (others : List Extended) → HasNoUserDefined entry → All HasNoUserDefined others
+    → names_among kind entry others ≡ []
+none-among kind entry others none all =
+    ap (λ (names : List (List ℕ)). with_names_of kind names others) (no-names kind entry.rows none) ∙ no-more-names kind others all
 
 -- ---- listings
 
-listed-same : (layout : Layout) (entry : Extended) (kind : Kind) → HasNoUserDefined entry → listed_kind layout entry kind ≡ lines_of layout (kind_items layout entry.entry.contents kind)
+listed-same : (layout : Layout) (entry : Extended) (kind : Kind) → HasNoUserDefined entry → listed_kind layout entry kind
+    ≡ lines_of layout (kind_items layout entry.entry.contents kind)
 listed-same layout entry kind none =
     let items : user_items kind entry.rows ≡ [] = rw (no-names kind entry.rows none) refl in
     ap (λ (more : List (List ℕ)). kind_lines layout (table_items layout entry.entry.contents kind ++ more)) items
@@ -92,7 +96,8 @@ relatives-same entry others layout none all =
 compared-same : (one other : Extended) (mode : Mode) (order : Order) (kind : Kind) → HasNoUserDefined one → HasNoUserDefined other
     → compared_kind one other mode order kind ≡ profile.compared_kind one.entry other.entry mode order kind
 compared-same one other mode order kind none also =
-    let rows : user_rows mode kind one other ≡ [] = rw (none-among kind one (other ∷ []) none (All-cons HasNoUserDefined other [] also (All-nil HasNoUserDefined))) refl in
+    let rows : user_rows mode kind one other ≡ [] =
+    rw (none-among kind one (other ∷ []) none (All-cons HasNoUserDefined other [] also (All-nil HasNoUserDefined))) refl in
     let all : List ℕ = profile.kind_heading kind ++ profile.rows mode one.entry.contents other.entry.contents (in_order order kind) in
     ap (λ (more : List ℕ). all ++ more) rows ∙ append-nil all
 

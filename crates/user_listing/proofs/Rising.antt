@@ -1,5 +1,6 @@
 -- The user-defined names of a kind rise.
-use Rattle.std.proofs.Common.{◌≡◌, ℕ, suc, ◌<◌, Bool, true, false, ◌||◌, ◌&&◌, ◌==◌, cond, List, [], ◌∷◌, ◌++◌, length, get_or, Some, refl, sym, ap, subst, ◌∙◌, arith}
+use Rattle.std.proofs.Common.{◌≡◌, ℕ, suc, ◌<◌, Bool, true, false, ◌||◌, ◌&&◌, ◌==◌, cond, List, [], ◌∷◌, ◌++◌, length, get_or, Some, refl, sym, ap, subst}
+use Rattle.std.proofs.Common.{◌∙◌, arith}
 use Rattle.std.specs.Prelude.{IsTrue, nat_le}
 use Rattle.std.specs.List.{AllByRecursion}
 use Rattle.std.specs.List.Sorted.{IsStrictlySortedBy}
@@ -46,9 +47,11 @@ before_same r s true e h = refl
 before_same r s false e h = grind (arith, nat_tests)
 
 -- of two rows of a kind the name of the first one is less
-name-less : (kind : Kind) (u v : Row) → is_of_kind kind (Some u.1) ≡ true → is_of_kind kind (Some v.1) ≡ true → IsTrue (comes_before u v) → slice_cmp nat_cmp u.0 v.0 ≡ Less
+name-less : (kind : Kind) (u v : Row) → is_of_kind kind (Some u.1) ≡ true → is_of_kind kind (Some v.1) ≡ true → IsTrue (comes_before u v)
+    → slice_cmp nat_cmp u.0 v.0 ≡ Less
 name-less kind u v one other h =
-    less (slice_cmp nat_cmp u.0 v.0) (before_same (kind_rank u.1) (kind_rank v.1) (is_lt (slice_cmp nat_cmp u.0 v.0)) (ranked kind u.1 one ∙ sym (ranked kind v.1 other)) h)
+    less (slice_cmp nat_cmp u.0 v.0) (before_same (kind_rank u.1) (kind_rank v.1) (is_lt (slice_cmp nat_cmp u.0 v.0))
+    (ranked kind u.1 one ∙ sym (ranked kind v.1 other)) h)
 
 -- rows that come after one
 abbrev AreAfter : Row → List Row → Type 0
@@ -58,17 +61,21 @@ after-some : (u : Row) (vs : List Row) → ((k : ℕ) (d : Row) → k < length v
 after-some u [] all = tt
 after-some u (v ∷ vs) all = (all 0 v (omega arith), after-some u vs (λ k d lt. all (suc k) d (omega (arith, lt))))
 
-add-name : (kind : Kind) (u v : Row) (names : List (List ℕ)) (b : Bool) → is_of_kind kind (Some v.1) ≡ b → is_of_kind kind (Some u.1) ≡ true → IsTrue (comes_before u v)
-    → AllByRecursion (λ (m : List ℕ). slice_cmp nat_cmp u.0 m ≡ Less) names → AllByRecursion (λ (m : List ℕ). slice_cmp nat_cmp u.0 m ≡ Less) (cond b (v.0 ∷ []) [] ++ names)
+add-name : (kind : Kind) (u v : Row) (names : List (List ℕ)) (b : Bool) → is_of_kind kind (Some v.1) ≡ b → is_of_kind kind (Some u.1) ≡ true
+    → IsTrue (comes_before u v)
+    → AllByRecursion (λ (m : List ℕ). slice_cmp nat_cmp u.0 m ≡ Less) names
+    → AllByRecursion (λ (m : List ℕ). slice_cmp nat_cmp u.0 m ≡ Less) (cond b (v.0 ∷ []) [] ++ names)
 add-name kind u v names true other one h all = (name-less kind u v one other h, all)
 add-name kind u v names false other one h all = all
 
 names-after : (kind : Kind) (u : Row) (vs : List Row) → is_of_kind kind (Some u.1) ≡ true → AreAfter u vs
     → AllByRecursion (λ (m : List ℕ). slice_cmp nat_cmp u.0 m ≡ Less) (names_of_kind kind (as_read vs))
 names-after kind u [] one all = tt
-names-after kind u (v ∷ vs) one all = add-name kind u v (names_of_kind kind (as_read vs)) (is_of_kind kind (Some v.1)) refl one all.0 (names-after kind u vs one all.1)
+names-after kind u (v ∷ vs) one all =
+    add-name kind u v (names_of_kind kind (as_read vs)) (is_of_kind kind (Some v.1)) refl one all.0 (names-after kind u vs one all.1)
 
-add-row : (kind : Kind) (u : Row) (vs : List Row) (b : Bool) → is_of_kind kind (Some u.1) ≡ b → AreAfter u vs → IsStrictlySortedBy (slice_cmp nat_cmp) (names_of_kind kind (as_read vs))
+add-row : (kind : Kind) (u : Row) (vs : List Row) (b : Bool) → is_of_kind kind (Some u.1) ≡ b → AreAfter u vs
+    → IsStrictlySortedBy (slice_cmp nat_cmp) (names_of_kind kind (as_read vs))
     → IsStrictlySortedBy (slice_cmp nat_cmp) (cond b (u.0 ∷ []) [] ++ names_of_kind kind (as_read vs))
 unfolding IsStrictlySortedBy
 add-row kind u vs true one all rise = (names-after kind u vs one all, rise)
@@ -100,7 +107,8 @@ below-by z x v xs vs Greater e one other less equal greater = subst (Below z) (s
 below-at : (z x : List ℕ) (xs : List (List ℕ)) → Below z (x ∷ xs) → ((ys : List (List ℕ)) → Below z ys → Below z (names_of_both xs ys))
     → (vs : List (List ℕ)) → Below z vs → Below z (names_of_both (x ∷ xs) vs)
 below-at z x xs one on [] other = one
-below-at z x xs one on (v ∷ vs) other = below-by z x v xs vs (slice_cmp nat_cmp x v) refl one.0 other.0 (on (v ∷ vs) other) (on vs other.1) (below-at z x xs one on vs other.1)
+below-at z x xs one on (v ∷ vs) other =
+    below-by z x v xs vs (slice_cmp nat_cmp x v) refl one.0 other.0 (on (v ∷ vs) other) (on vs other.1) (below-at z x xs one on vs other.1)
 
 both-below : (z : List ℕ) (xs ys : List (List ℕ)) → Below z xs → Below z ys → Below z (names_of_both xs ys)
 both-below z [] ys one other = other
@@ -134,7 +142,8 @@ rise-at : (x : List ℕ) (xs : List (List ℕ)) → Rises (x ∷ xs) → ((ys : 
     → Rises (names_of_both (x ∷ xs) vs)
 unfolding IsStrictlySortedBy
 rise-at x xs one on [] other = one
-rise-at x xs one on (v ∷ vs) other = rise-by x v xs vs (slice_cmp nat_cmp x v) refl one other (on (v ∷ vs) other) (on vs other.1) (rise-at x xs one on vs other.1)
+rise-at x xs one on (v ∷ vs) other =
+    rise-by x v xs vs (slice_cmp nat_cmp x v) refl one other (on (v ∷ vs) other) (on vs other.1) (rise-at x xs one on vs other.1)
 
 pub both-rise : NamesOfBothRise
 unfolding IsStrictlySortedBy

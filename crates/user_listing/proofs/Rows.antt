@@ -70,7 +70,8 @@ module _ {X : Type 0} (f : X → List ℕ) (one other : List X) (left right : �
       → names ++ names_of_both (map f (drop left one)) (map f (drop right other)) ≡ all → (names ++ map f (drop left one)) ++ map f (drop right other) ≡ all
   both-ended names all (inl past) invariant =
       let none : drop left one ≡ [] = drop_all left one past in
-      let here : names_of_both (map f (drop left one)) (map f (drop right other)) ≡ map f (drop right other) = ap (λ (xs : List X). names_of_both (map f xs) (map f
+      let here : names_of_both (map f (drop left one)) (map f (drop right other)) ≡ map f (drop right other) =
+      ap (λ (xs : List X). names_of_both (map f xs) (map f
       (drop right other))) none in
       let front : names ++ map f (drop left one) ≡ names = ap (λ (xs : List X). names ++ map f xs) none ∙ append-nil names in
       ap (λ (ns : List (List ℕ)). ns ++ map f (drop right other)) front ∙ ap (λ (ns : List (List ℕ)). names ++ ns) (sym here) ∙ invariant
@@ -78,4 +79,5 @@ module _ {X : Type 0} (f : X → List ℕ) (one other : List X) (left right : �
       let none : drop right other ≡ [] = drop_all right other past in
       let here : names_of_both (map f (drop left one)) (map f (drop right other)) ≡ map f (drop left one) =
       ap (λ (xs : List X). names_of_both (map f (drop left one)) (map f xs)) none ∙ both-left (map f (drop left one)) in
-      ap (λ (xs : List X). (names ++ map f (drop left one)) ++ map f xs) none ∙ append-nil (names ++ map f (drop left one)) ∙ ap (λ (ns : List (List ℕ)). names ++ ns) (sym here) ∙ invariant
+      ap (λ (xs : List X). (names ++ map f (drop left one)) ++ map f xs) none ∙ append-nil (names ++ map f (drop left one))
+      ∙ ap (λ (ns : List (List ℕ)). names ++ ns) (sym here) ∙ invariant

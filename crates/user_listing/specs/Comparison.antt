@@ -42,7 +42,8 @@ named_row Neither kind name (Some one) other = []
 -- nothing of it
 abbrev pub user_rows : Mode → Kind → Extended → Extended → List ℕ
 user_rows mode kind one other =
-    flat_map (λ (name : List ℕ). named_row mode kind name (of_kind kind (said one.rows name)) (of_kind kind (said other.rows name))) (names_among kind one (other ∷ []))
+    flat_map (λ (name : List ℕ). named_row mode kind name (of_kind kind (said one.rows name)) (of_kind kind (said other.rows name)))
+    (names_among kind one (other ∷ []))
 
 -- the heading of a kind, the rows of the tables and those of user-defined names
 abbrev pub compared_kind : Extended → Extended → Mode → Order → Kind → List ℕ

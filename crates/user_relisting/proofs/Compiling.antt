@@ -1,5 +1,6 @@
 -- The listing of an entry compiles without user-defined capabilities to the image of its tables.
-use Rattle.std.proofs.Common.{◌≡◌, ℕ, suc, false, List, [], ◌∷◌, map, length, Option, Some, None, option_map, option_and_then, slice_get, refl, subst, ap, sym, ◌∙◌}
+use Rattle.std.proofs.Common.{◌≡◌, ℕ, suc, false, List, [], ◌∷◌, map, length, Option, Some, None, option_map, option_and_then, slice_get, refl, subst, ap}
+use Rattle.std.proofs.Common.{sym, ◌∙◌}
 use Rattle.std.specs.List.{AllByRecursion, list_any}
 use Rattle.std.specs.Option.{option_or}
 use Rattle.std.proofs.lemmas.List.{append-nil}
@@ -52,16 +53,19 @@ or-nothing (Some x) = refl
 
 module _ (ordered : EachKindIsInOrder) (read : ItemsAreReadByTheProfile) where
   -- what the profile reads of the listing of an entry
-  pub listing-read : (entry : Extended) (names : List (List ℕ)) (rows : List Row) (layout : Layout) → IsListable entry.entry.names names → CanHaveAll entry.entry.contents
+  pub listing-read : (entry : Extended) (names : List (List ℕ)) (rows : List Row) (layout : Layout) → IsListable entry.entry.names names
+      → CanHaveAll entry.entry.contents
       → entry.rows ≡ as_read rows → AreOfSource rows
       → IsProfileReadAs entry.entry.names names (items_for entry.entry.contents (all_in layout.order)) (reading_of_text (extended_listing entry layout))
   listing-read entry names rows layout good has is are =
       let laid = laid_out ordered entry rows layout has is are in
-      subst (λ items. IsProfileReadAs entry.entry.names names items (reading_of_text (extended_listing entry layout))) (laid.keeps ∙ entry_items-all layout entry.entry.contents)
+      subst (λ items. IsProfileReadAs entry.entry.names names items (reading_of_text (extended_listing entry layout)))
+      (laid.keeps ∙ entry_items-all layout entry.entry.contents)
       (read entry.entry.names names laid.items (extended_listing entry layout) good laid.can laid.source)
 
   -- and its expansion
-  listing-expands : (entry : Extended) (names : List (List ℕ)) (rows : List Row) (layout : Layout) → IsListable entry.entry.names names → CanHaveAll entry.entry.contents
+  listing-expands : (entry : Extended) (names : List (List ℕ)) (rows : List Row) (layout : Layout) → IsListable entry.entry.names names
+      → CanHaveAll entry.entry.contents
       → entry.rows ≡ as_read rows → AreOfSource rows → (texts : List (List ℕ))
       → expansion (readings texts) (reading_of_text (extended_listing entry layout)) ≡ Some (mentions_for entry.entry.contents (all_in layout.order))
   listing-expands entry names rows layout good has is are texts =
@@ -70,15 +74,19 @@ module _ (ordered : EachKindIsInOrder) (read : ItemsAreReadByTheProfile) where
       expands (owner_block (readings texts)) (length (readings texts)) block entry.entry.contents (all_in layout.order)
       (not-broken block.faults (recursion_from_All (λ (fault : ReadFault). fault.code ≡ code.UnknownCapability) block.faults readable.warned)) readable.says
 
-  listing-tells : (entry : Extended) (layout : Layout) (c : Capability) → IsCapability c → contents (mentions_for entry.entry.contents (all_in layout.order)) c ≡ entry.entry.contents c
+  listing-tells : (entry : Extended) (layout : Layout) (c : Capability) → IsCapability c
+      → contents (mentions_for entry.entry.contents (all_in layout.order)) c ≡ entry.entry.contents c
   unfolding contents
   listing-tells entry layout c cap =
       let table = entry.entry.contents in
       ap (λ l. contents l c) (sym (append-nil (mentions_for table (all_in layout.order)))) ∙ all-contents ordered table layout [] c cap ∙ or-nothing (table c)
 
   pub tables_say : ListingsSayTheTables
-  tables_say entry layout texts can =
-      (mentions_for entry.entry.contents (all_in layout.order), listing-expands entry can.names can.rows layout can.listable can.holds can.are_rows can.of_source texts, listing-tells entry layout)
+  tables_say entry layout texts can = (
+    mentions_for entry.entry.contents (all_in layout.order),
+    listing-expands entry can.names can.rows layout can.listable can.holds can.are_rows can.of_source texts,
+    listing-tells entry layout,
+  )
 
 pub listings_compile : EachKindIsInOrder → ItemsAreReadByTheProfile → ImagesAreOfValues → LimitsAreOfValues → ListingsCompileByTheProfile
 listings_compile ordered read images limits entry names rows layout good has is are within texts at stands =

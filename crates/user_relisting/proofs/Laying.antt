@@ -1,5 +1,6 @@
 -- How items stand on lines, and the items of the tables among them.
-use Rattle.std.proofs.Common.{◌≡◌, ℕ, ◌+◌, ◌||◌, nat_lt, true, false, List, [], ◌∷◌, ◌++◌, map, cond, Option, Some, None, refl, ap, sym, ◌∙◌, subst, append_assoc}
+use Rattle.std.proofs.Common.{◌≡◌, ℕ, ◌+◌, ◌||◌, nat_lt, true, false, List, [], ◌∷◌, ◌++◌, map, cond, Option, Some, None, refl, ap, sym, ◌∙◌, subst}
+use Rattle.std.proofs.Common.{append_assoc}
 use Rattle.std.specs.List.{All, AllByRecursion, filter_map}
 use Rattle.std.proofs.lemmas.List.{map-append}
 use Rattle.std.proofs.lemmas.List.Elements.{All-nil, All-cons, All-append, recursion_from_All}
@@ -36,7 +37,8 @@ further-tail layout column (item ∷ items) more rest laid =
       | false ↦ subst (λ t. IsTail (item ∷ (items ++ more)) (32 ∷ t)) (item-then item beside rest) same
     ]
 
-pub lines-tail : (layout : Layout) (items more : List Item) (rest : List ℕ) → IsTail more rest → IsTail (items ++ more) (kind_lines layout (map item_text items) ++ rest)
+pub lines-tail : (layout : Layout) (items more : List Item) (rest : List ℕ) → IsTail more rest
+    → IsTail (items ++ more) (kind_lines layout (map item_text items) ++ rest)
 lines-tail layout [] more rest laid = laid
 lines-tail layout (item ∷ items) more rest laid =
     let below = further_lines layout (8 + columns_of (item_text item)) (map item_text items) in
@@ -55,7 +57,8 @@ three-kinds layout field one two three more rest laid =
       tail = first ++ (second ++ (third ++ rest));
       whole = append_assoc ((field ++ 44 ∷ first) ++ second) third rest ∙ append_assoc (field ++ 44 ∷ first) second (third ++ rest)
           ∙ append_assoc field (44 ∷ first) (second ++ (third ++ rest));
-      is_tail = lines-tail layout one (two ++ (three ++ more)) (second ++ (third ++ rest)) (lines-tail layout two (three ++ more) (third ++ rest) (lines-tail layout three more rest laid));
+      is_tail = lines-tail layout one (two ++ (three ++ more)) (second ++ (third ++ rest))
+          (lines-tail layout two (three ++ more) (third ++ rest) (lines-tail layout three more rest laid));
     }
 
 pub left-part : {X : Type 0} (P : X → Type 0) (xs ys : List X) → AllByRecursion P (xs ++ ys) → AllByRecursion P xs
@@ -75,11 +78,13 @@ table-can c (Some (content_number n)) is has = All-cons CanBeWritten (of_tables 
 table-can c (Some (content_text t)) is has = All-cons CanBeWritten (of_tables (said_text c t)) [] (is, has.0.0, has.1, has.0.1) (All-nil CanBeWritten)
 table-can c (Some content_cancelled) is has = All-cons CanBeWritten (of_tables (said_cancel c)) [] is (All-nil CanBeWritten)
 
-pub tables-can : (table : Contents) (cs : List Capability) → AllByRecursion IsCapability cs → CanHaveAll table → All CanBeWritten (map of_tables (items_for table cs))
+pub tables-can : (table : Contents) (cs : List Capability) → AllByRecursion IsCapability cs → CanHaveAll table
+    → All CanBeWritten (map of_tables (items_for table cs))
 tables-can table [] valid has = All-nil CanBeWritten
 tables-can table (c ∷ cs) valid has =
     subst (All CanBeWritten) (sym (map-append of_tables (item_for c (table c)) (items_for table cs)))
-    (All-append CanBeWritten (map of_tables (item_for c (table c))) (map of_tables (items_for table cs)) (table-can c (table c) valid.0 (has c valid.0)) (tables-can table cs valid.1 has))
+    (All-append CanBeWritten (map of_tables (item_for c (table c))) (map of_tables (items_for table cs)) (table-can c (table c) valid.0 (has c valid.0))
+    (tables-can table cs valid.1 has))
 
 pub texts-map : (says : List Said) → map item_text (map of_tables says) ≡ map tables.item_text says
 texts-map [] = refl
@@ -87,14 +92,16 @@ texts-map (s ∷ ss) = ap (λ (items : List (List ℕ)). tables.item_text s ∷ 
 
 -- ---- what they give to user-defined capabilities: nothing
 
-table-gives : (c : Capability) (o : Option Content) (items : List Item) → filter_map user_said (map of_tables (item_for c o) ++ items) ≡ filter_map user_said items
+table-gives : (c : Capability) (o : Option Content) (items : List Item) → filter_map user_said (map of_tables (item_for c o) ++ items)
+    ≡ filter_map user_said items
 table-gives c None items = refl
 table-gives c (Some content_true) items = refl
 table-gives c (Some (content_number n)) items = refl
 table-gives c (Some (content_text t)) items = refl
 table-gives c (Some content_cancelled) items = refl
 
-pub tables-give : (table : Contents) (cs : List Capability) (items : List Item) → filter_map user_said (map of_tables (items_for table cs) ++ items) ≡ filter_map user_said items
+pub tables-give : (table : Contents) (cs : List Capability) (items : List Item) → filter_map user_said (map of_tables (items_for table cs) ++ items)
+    ≡ filter_map user_said items
 tables-give table [] items = refl
 tables-give table (c ∷ cs) items =
     ap (λ (xs : List Item). filter_map user_said (xs ++ items)) (map-append of_tables (item_for c (table c)) (items_for table cs))
@@ -102,7 +109,8 @@ tables-give table (c ∷ cs) items =
     ∙ table-gives c (table c) (map of_tables (items_for table cs) ++ items) ∙ tables-give table cs items
 
 pub kind-valid : EachKindIsInOrder → (layout : Layout)
-    → (AllByRecursion IsCapability (in_order layout.order Flag)) × (AllByRecursion IsCapability (in_order layout.order Number)) × AllByRecursion IsCapability (in_order layout.order Text)
+    → (AllByRecursion IsCapability (in_order layout.order Flag)) × (AllByRecursion IsCapability (in_order layout.order Number))
+    × AllByRecursion IsCapability (in_order layout.order Text)
 kind-valid ordered layout =
     let all = recursion_from_All IsCapability (all_in layout.order) (all_in-all ordered layout.order).valid in
     let rest = right-part IsCapability (in_order layout.order Flag) (in_order layout.order Number ++ in_order layout.order Text) all in (

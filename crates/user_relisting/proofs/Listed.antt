@@ -32,7 +32,8 @@ use Rattle.user_listing.specs.Entries.{Extended}
 use Rattle.user_listing.specs.Names.{is_of_kind, names_of_kind, of_kind}
 use Rattle.user_listing.specs.Items.{item_if_said, kind_lines, named_item, table_items}
 use Rattle.user_listing.specs.Listing.{extended_listing, listed_kind, user_items}
-use Rattle.user_relisting.specs.Items.{Item, of_tables, of_user, item_text, user_said, table_said, no_more, IsSource, CanBeWritten, IsWritable, IsUserReadAs, ItemsAreRead}
+use Rattle.user_relisting.specs.Items.{Item, of_tables, of_user, item_text, user_said, table_said, no_more, IsSource, CanBeWritten, IsWritable}
+use Rattle.user_relisting.specs.Items.{IsUserReadAs, ItemsAreRead}
 use Rattle.user_relisting.specs.ReadingBack.{AreOfSource, ListingsAreRead}
 use Rattle.user_relisting.proofs.Laying.{three-kinds, tables-can, texts-map, tables-give, kind-valid, left-part, right-part}
 
@@ -75,7 +76,8 @@ items-own kind all (u ∷ us) kinds are =
     rw own (ap (λ (items : List (List ℕ)). named_item u.0 u.1 ∷ items) (items-own kind all us kinds.1 are.1))
 
 -- the user-defined items of a kind are those of its rows, among rows of the others
-items-among : (kind : Kind) (before us after : List Row) → AreOfOthers kind before → AreOfKind kind us → AreOfOthers kind after → AreSaid (as_read (before ++ (us ++ after))) us
+items-among : (kind : Kind) (before us after : List Row) → AreOfOthers kind before → AreOfKind kind us → AreOfOthers kind after
+    → AreSaid (as_read (before ++ (us ++ after))) us
     → user_items kind (as_read (before ++ (us ++ after))) ≡ map item_text (map of_row us)
 items-among kind before us after one own other are =
     let all : List ReadRow = as_read (before ++ (us ++ after)) in
@@ -88,7 +90,8 @@ items-among kind before us after one own other are =
 -- ---- what is said of the names
 
 -- what is said of later names is said of all, if the first name is another
-said-lifted : (u : Row) (us vs : List Row) → ((k : ℕ) (d : Row) → k < length vs → u.0 ≢ (get_or vs k d).0) → AreSaid (as_read us) vs → AreSaid (as_read (u ∷ us)) vs
+said-lifted : (u : Row) (us vs : List Row) → ((k : ℕ) (d : Row) → k < length vs → u.0 ≢ (get_or vs k d).0) → AreSaid (as_read us) vs
+    → AreSaid (as_read (u ∷ us)) vs
 said-lifted u us [] apart are = tt
 said-lifted u us (v ∷ vs) apart are =
     let other : bytes_eq u.0 v.0 ≡ false = false_from_ne_true (bytes_eq u.0 v.0) (λ t. apart 0 v (omega arith) ((bytes_decides u.0 v.0).0 t)) in
@@ -124,7 +127,8 @@ rows-can : (us : List Row) → AllByRecursion (λ (u : Row). CanBeWritten (of_ro
 rows-can [] all = All-nil CanBeWritten
 rows-can (u ∷ us) all = All-cons CanBeWritten (of_row u) (map of_row us) all.0 (rows-can us all.1)
 
-rows-give : (us : List Row) (items : List Item) → filter_map user_said (map of_row us ++ items) ≡ map (λ (u : Row). says u.0 u.1) us ++ filter_map user_said items
+rows-give : (us : List Row) (items : List Item) → filter_map user_said (map of_row us ++ items) ≡ map (λ (u : Row). says u.0 u.1) us
+    ++ filter_map user_said items
 rows-give [] items = refl
 rows-give (u ∷ us) items = ap (λ (ss : List UserSaid). says u.0 u.1 ∷ ss) (rows-give us items)
 
@@ -163,7 +167,8 @@ kind-keeps layout table kind us more =
 kind-can : (layout : Layout) (table : Contents) (kind : Kind) (us : List Row) → AllByRecursion IsCapability (in_order layout.order kind) → CanHaveAll table
     → AllByRecursion (λ (u : Row). CanBeWritten (of_row u)) us → All CanBeWritten (kind_list layout table kind us)
 kind-can layout table kind us valid has can =
-    All-append CanBeWritten (map of_tables (kind_items layout table kind)) (map of_row us) (tables-can table (in_order layout.order kind) valid has) (rows-can us can)
+    All-append CanBeWritten (map of_tables (kind_items layout table kind)) (map of_row us) (tables-can table (in_order layout.order kind) valid has)
+    (rows-can us can)
 
 -- ---- the whole
 
@@ -200,15 +205,18 @@ laid-by-kind ordered entry layout F N T kinds has is are can =
     let can_rest = right-part (λ (u : Row). CanBeWritten (of_row u)) F (N ++ T) can in
     let are_rest = right-part (λ (u : Row). said (as_read (F ++ (N ++ T))) u.0 ≡ Some u.1) F (N ++ T) are in
     let each : All CanBeWritten (flags ++ (numbers ++ (texts ++ []))) =
-    All-append CanBeWritten flags (numbers ++ (texts ++ [])) (kind-can layout table Flag F valid.0 has (left-part (λ (u : Row). CanBeWritten (of_row u)) F (N ++ T) can))
+    All-append CanBeWritten flags (numbers ++ (texts ++ [])) (kind-can layout table Flag F valid.0 has
+    (left-part (λ (u : Row). CanBeWritten (of_row u)) F (N ++ T) can))
     (All-append CanBeWritten numbers (texts ++ []) (kind-can layout table Number N valid.1 has (left-part (λ (u : Row). CanBeWritten (of_row u)) N T can_rest))
-    (All-append CanBeWritten texts [] (kind-can layout table Text T valid.2 has (right-part (λ (u : Row). CanBeWritten (of_row u)) N T can_rest)) (All-nil CanBeWritten))) in
+    (All-append CanBeWritten texts [] (kind-can layout table Text T valid.2 has (right-part (λ (u : Row). CanBeWritten (of_row u)) N T can_rest))
+    (All-nil CanBeWritten))) in
     let last : (F ++ N) ++ (T ++ []) ≡ F ++ (N ++ T) = ap (λ t. (F ++ N) ++ t) (append-nil T) ∙ append_assoc F N T in
     let of_flags : user_items Flag (as_read (F ++ (N ++ T))) ≡ map item_text (map of_row F) =
     items-among Flag [] F (N ++ T) tt kinds.flags.0 (both-others Flag N T kinds.numbers.0 kinds.texts.0) (left-part (λ (u : Row). said (as_read (F ++
     (N ++ T))) u.0 ≡ Some u.1) F (N ++ T) are) in
     let of_numbers : user_items Number (as_read (F ++ (N ++ T))) ≡ map item_text (map of_row N) =
-    items-among Number F N T kinds.flags.1 kinds.numbers.1 kinds.texts.1 (left-part (λ (u : Row). said (as_read (F ++ (N ++ T))) u.0 ≡ Some u.1) N T are_rest) in
+    items-among Number F N T kinds.flags.1 kinds.numbers.1 kinds.texts.1
+    (left-part (λ (u : Row). said (as_read (F ++ (N ++ T))) u.0 ≡ Some u.1) N T are_rest) in
     let of_texts : user_items Text (as_read (F ++ (N ++ T))) ≡ map item_text (map of_row T) =
     ap (λ us. user_items Text (as_read us)) (sym last)
     ∙ items-among Text (F ++ N) T [] (both-others Text F N kinds.flags.2 kinds.numbers.2) kinds.texts.2 tt
@@ -223,12 +231,14 @@ laid-by-kind ordered entry layout F N T kinds has is are can =
     rw (lines Flag F of_flags, lines Number N of_numbers, lines Text T of_texts) at source in
     let gives : filter_map user_said (flags ++ (numbers ++ (texts ++ []))) ≡ says_of (F ++ (N ++ T)) =
     kind-gives layout table Flag F (numbers ++ (texts ++ []))
-    ∙ ap (λ ss. says_of F ++ ss) (kind-gives layout table Number N (texts ++ []) ∙ ap (λ ss. says_of N ++ ss) (kind-gives layout table Text T [] ∙ append-nil (says_of T)))
+    ∙ ap (λ ss. says_of F ++ ss) (kind-gives layout table Number N (texts ++ [])
+    ∙ ap (λ ss. says_of N ++ ss) (kind-gives layout table Text T [] ∙ append-nil (says_of T)))
     ∙ sym (map-append (λ (u : Row). says u.0 u.1) F (N ++ T) ∙ ap (λ ss. says_of F ++ ss) (map-append (λ (u : Row). says u.0 u.1) N T)) in
     let keeps : filter_map table_said (flags ++ (numbers ++ (texts ++ []))) ≡ entry_items layout table =
     kind-keeps layout table Flag F (numbers ++ (texts ++ []))
     ∙ ap (λ ss. kind_items layout table Flag ++ ss)
-    (kind-keeps layout table Number N (texts ++ []) ∙ ap (λ ss. kind_items layout table Number ++ ss) (kind-keeps layout table Text T [] ∙ append-nil (kind_items layout table Text))) in
+    (kind-keeps layout table Number N (texts ++ []) ∙ ap (λ ss. kind_items layout table Number ++ ss)
+    (kind-keeps layout table Text T [] ∙ append-nil (kind_items layout table Text))) in
     record { items = flags ++ (numbers ++ (texts ++ [])); can = each; source = whole; gives = gives; keeps = keeps }
 
 can-be-written : (us : List Row) → AllByRecursion (λ (u : Row). is_user_defined_name u.0 ≡ true) us → AllByRecursion (λ (u : Row). IsWritable u.1) us
@@ -237,14 +247,17 @@ can-be-written [] names values = tt
 can-be-written (u ∷ us) names values = ((names.0, values.0), can-be-written us names.1 values.1)
 
 -- the listing of an entry that has these user-defined capabilities
-pub laid_out : EachKindIsInOrder → (entry : Extended) (rows : List Row) (layout : Layout) → CanHaveAll entry.entry.contents → entry.rows ≡ as_read rows → AreOfSource rows
+pub laid_out : EachKindIsInOrder → (entry : Extended) (rows : List Row) (layout : Layout) → CanHaveAll entry.entry.contents → entry.rows ≡ as_read rows
+    → AreOfSource rows
     → IsLaidOut entry layout rows
 laid_out ordered entry rows layout has is are =
     let user = are.user_defined in
     let s = split rows user.values (λ i j d lt within. ranks (kind_rank (get_or rows i d).1) (kind_rank (get_or rows j d).1) (is_lt (slice_cmp nat_cmp
     (get_or rows i d).0 (get_or rows j d).0)) (user.rise i j d lt within)) in
-    let kinds : ByKind (map as_flag s.fs) (map as_number s.ns) (map as_text s.ts) = record { flags = flags-kind s.fs; numbers = numbers-kind s.ns; texts = texts-kind s.ts } in
-    let can = can-be-written rows (recursion_from_All (λ (u : Row). is_user_defined_name u.0 ≡ true) rows user.names) (recursion_from_All (λ (u : Row). IsWritable u.1) rows are.writable) in
+    let kinds : ByKind (map as_flag s.fs) (map as_number s.ns) (map as_text s.ts) =
+    record { flags = flags-kind s.fs; numbers = numbers-kind s.ns; texts = texts-kind s.ts } in
+    let can = can-be-written rows (recursion_from_All (λ (u : Row). is_user_defined_name u.0 ≡ true) rows user.names)
+    (recursion_from_All (λ (u : Row). IsWritable u.1) rows are.writable) in
     subst (IsLaidOut entry layout) (sym s.whole)
     (laid-by-kind ordered entry layout (map as_flag s.fs) (map as_number s.ns) (map as_text s.ts) kinds has (is
     ∙ ap as_read s.whole) (subst (λ us. AreSaid (as_read us) us) s.whole (all-said rows user.once))

@@ -22,7 +22,8 @@ use Rattle.ti_spelling.specs.Spelling.{WrittenSpells}
 use Rattle.ti_list.specs.Items.{IsListable}
 use Rattle.tools_relisting.proofs.Bytes.{uncommented, unbroken, bytes-folded, bytes-without_front}
 use Rattle.tools_relisting.proofs.Cutting.{is_whole, whole-cons, whole-cut}
-use Rattle.tools_relisting.proofs.Unfolding.{is_dark, is_inline, unbroken-inline, unbroken-dark, is_calm, uncommented-calm, calm-inline, split-bytes, split-byte}
+use Rattle.tools_relisting.proofs.Unfolding.{is_dark, is_inline, unbroken-inline, unbroken-dark, is_calm, uncommented-calm, calm-inline, split-bytes}
+use Rattle.tools_relisting.proofs.Unfolding.{split-byte}
 use Rattle.user_items.specs.Laws.{BlocksHaveOneUserReading}
 use Rattle.user_items.specs.Parsing.{ReadsUserItems}
 use Rattle.user_items.specs.Reading.{ReadUserItem, UserBlock, UserJudged, IsUserJudged, states_nothing, states_another, states_user, AreUserJudged}
@@ -62,7 +63,8 @@ dark-front (x ∷ xs) h = rw (or_parts (x == 10) (is_white_space x) (not-true (x
 
 -- ---- one item more
 
-user-judged : (front : List PlacedByte) (s : Statement) (said : Option UserSaid) → States (piece_of front).text (Some s) → UserJudges s.name s.claim (option_map user_accepted said)
+user-judged : (front : List PlacedByte) (s : Statement) (said : Option UserSaid) → States (piece_of front).text (Some s)
+    → UserJudges s.name s.claim (option_map user_accepted said)
     → IsUserJudged front (outcome (piece_of front).line s.name said)
 user-judged front s None states judges = states_another front s states judges
 user-judged front s (Some said) states judges = states_user front s (user_accepted said) states judges
@@ -86,7 +88,8 @@ table-is ordinal line name (Some said) later says e = ap (λ l. said ∷ l) e
 
 table-warned : (ordinal line : ℕ) (name : List ℕ) (said : Option Said) (later : List (Option Judged)) → All IsUnknown (profile.faults_from (ordinal + 1) later)
     → All IsUnknown (profile.faults_from ordinal (judged line name said ∷ later))
-table-warned ordinal line name None later all = All-cons IsUnknown (item_fault ordinal line name code.UnknownCapability) (profile.faults_from (ordinal + 1) later) refl all
+table-warned ordinal line name None later all =
+    All-cons IsUnknown (item_fault ordinal line name code.UnknownCapability) (profile.faults_from (ordinal + 1) later) refl all
 table-warned ordinal line name (Some said) later all = all
 
 -- the text after the first comma is read in its turn
@@ -111,7 +114,8 @@ item-read item items u w rest s e whole front readable more =
       is = λ ordinal. user-is ordinal line name (user_said item) next.outcomes (filter_map user_said items) (next.is (ordinal + 1));
       faultless = λ ordinal. user-faultless ordinal line name (user_said item) next.outcomes (next.faultless (ordinal + 1));
       table_outcomes = judged line name (table_said item) ∷ next.table_outcomes;
-      table_judged = profile.item_and_rest (item_judged parts.front readable.said_by (table_verdict (table_said item)) states readable.table_judges) next.table_judged;
+      table_judged =
+          profile.item_and_rest (item_judged parts.front readable.said_by (table_verdict (table_said item)) states readable.table_judges) next.table_judged;
       table_is = λ ordinal. table-is ordinal line name (table_said item) next.table_outcomes (filter_map table_said items) (next.table_is (ordinal + 1));
       warned = λ ordinal. table-warned ordinal line name (table_said item) next.table_outcomes (next.warned (ordinal + 1));
     }
@@ -138,12 +142,14 @@ tail-read found spells _ _ can (same_line item items tail laid) s e =
     let w = item_text item in
     let readable = item-readable found spells item (All-head CanBeWritten item items can) in
     let bare : unbroken false (w ++ 44 ∷ tail) ≡ w ++ 44 ∷ unbroken false tail = unbroken-inline w (44 ∷ tail) readable.stated.inline in
-    item-read item items (32 ∷ w) w (unbroken false tail) s (e ∙ ap (λ t. 32 ∷ t) bare) (whole-cons 44 32 w refl (readable.stated.whole 32)) (dark-front w readable.stated.dark) readable
+    item-read item items (32 ∷ w) w (unbroken false tail) s (e ∙ ap (λ t. 32 ∷ t) bare) (whole-cons 44 32 w refl (readable.stated.whole 32))
+    (dark-front w readable.stated.dark) readable
     (λ later is. tail-read found spells items tail (All-tail CanBeWritten item items can) laid later is)
 tail-read found spells _ _ can (new_line item items tail laid) s e =
     let w = item_text item in
     let readable = item-readable found spells item (All-head CanBeWritten item items can) in
-    let bare : unbroken true (w ++ 44 ∷ tail) ≡ w ++ 44 ∷ unbroken false tail = unbroken-dark w (44 ∷ tail) readable.stated.dark ∙ unbroken-inline w (44 ∷ tail) readable.stated.inline in
+    let bare : unbroken true (w ++ 44 ∷ tail) ≡ w ++ 44 ∷ unbroken false tail =
+    unbroken-dark w (44 ∷ tail) readable.stated.dark ∙ unbroken-inline w (44 ∷ tail) readable.stated.inline in
     item-read item items w w (unbroken false tail) s (e ∙ bare) (readable.stated.whole 44) (dark-front w readable.stated.dark) readable
     (λ later is. tail-read found spells items tail (All-tail CanBeWritten item items can) laid later is)
 
@@ -165,7 +171,8 @@ text-calm (x ∷ xs) tail plain inline calm =
 
 no_comma-of : (p : List PlacedByte) → list_all (λ b. not (b == 44)) (bytes p) ≡ true → HasNoComma p
 no_comma-of [] h = tt
-no_comma-of (x ∷ xs) h = let parts = and_parts (not (x.0 == 44)) (list_all (λ b. not (b == 44)) (bytes xs)) h in (not-true (x.0 == 44) parts.0, no_comma-of xs parts.1)
+no_comma-of (x ∷ xs) h =
+    let parts = and_parts (not (x.0 == 44)) (list_all (λ b. not (b == 44)) (bytes xs)) h in (not-true (x.0 == 44) parts.0, no_comma-of xs parts.1)
 
 begins-at : (s field rest : List PlacedByte) (line : ℕ) → s ≡ field ++ (44, line) ∷ rest → HasNoComma field → Begins s field rest
 begins-at s field rest line e none = subst (λ t. Begins t field rest) (sym e) (field_and_rest field rest line none)
@@ -185,7 +192,8 @@ source-reads : EveryNameIsFound → WrittenSpells → (field : List ℕ) (names 
 source-reads found spells field names items text good can is =
     let calm = text-calm field is.tail good.plain good.inline (tail-calm found spells items is.tail can is.is_tail) in
     let bare : unbroken false (uncommented false 10 text) ≡ field ++ 44 ∷ unbroken false is.tail =
-    ap (λ t. unbroken false (uncommented false 10 t)) is.whole ∙ ap (unbroken false) (uncommented-calm 10 (field ++ 44 ∷ is.tail) calm) ∙ unbroken-inline field (44 ∷ is.tail) good.inline in
+    ap (λ t. unbroken false (uncommented false 10 t)) is.whole ∙ ap (unbroken false) (uncommented-calm 10 (field ++ 44 ∷ is.tail) calm)
+    ∙ unbroken-inline field (44 ∷ is.tail) good.inline in
     let parts = split-bytes (folding_of text) field (44 ∷ unbroken false is.tail) (bytes-folded text ∙ bare) in
     let comma = split-byte parts.rest 44 (unbroken false is.tail) parts.is_rest in
     let is_folded : folding_of text ≡ parts.front ++ (44, comma.line) ∷ comma.rest = parts.whole ∙ ap (λ t. parts.front ++ t) comma.whole in

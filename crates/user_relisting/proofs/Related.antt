@@ -52,11 +52,14 @@ item-texts : (name : List ℕ) (o : Option Content) (items : List Item) → map 
 item-texts name None items = refl
 item-texts name (Some content) items = refl
 
-items-texts : (say : List ℕ → Option Content) (names : List (List ℕ)) → map item_text (items_of say names) ≡ flat_map (λ (name : List ℕ). item_if_said name (say name)) names
+items-texts : (say : List ℕ → Option Content) (names : List (List ℕ)) → map item_text (items_of say names)
+    ≡ flat_map (λ (name : List ℕ). item_if_said name (say name)) names
 items-texts say [] = refl
-items-texts say (name ∷ names) = item-texts name (say name) (items_of say names) ∙ ap (λ (ts : List (List ℕ)). item_if_said name (say name) ++ ts) (items-texts say names)
+items-texts say (name ∷ names) =
+    item-texts name (say name) (items_of say names) ∙ ap (λ (ts : List (List ℕ)). item_if_said name (say name) ++ ts) (items-texts say names)
 
-item-gives : (name : List ℕ) (o : Option Content) (items : List Item) → filter_map user_said (item_if name o ++ items) ≡ said_if name o ++ filter_map user_said items
+item-gives : (name : List ℕ) (o : Option Content) (items : List Item) → filter_map user_said (item_if name o ++ items) ≡ said_if name o
+    ++ filter_map user_said items
 item-gives name None items = refl
 item-gives name (Some content) items = refl
 
@@ -76,23 +79,27 @@ item-can name (Some content) user can = All-cons CanBeWritten (of_user name cont
 abbrev AreUserNames : List (List ℕ) → Type 0
 AreUserNames names = AllByRecursion (λ (name : List ℕ). is_user_defined_name name ≡ true) names
 
-items-can : (say : List ℕ → Option Content) (names : List (List ℕ)) → AreUserNames names → ((name : List ℕ) → IsWritableIfSome (say name)) → All CanBeWritten (items_of say names)
+items-can : (say : List ℕ → Option Content) (names : List (List ℕ)) → AreUserNames names → ((name : List ℕ) → IsWritableIfSome (say name))
+    → All CanBeWritten (items_of say names)
 items-can say [] users can = All-nil CanBeWritten
 items-can say (name ∷ names) users can =
     All-append CanBeWritten (item_if name (say name)) (items_of say names) (item-can name (say name) users.0 (can name)) (items-can say names users.1 can)
 
 -- ---- names
 
-kind-user : (b : Bool) (name : List ℕ) (names : List (List ℕ)) → is_user_defined_name name ≡ true → AreUserNames names → AreUserNames (cond b (name ∷ []) [] ++ names)
+kind-user : (b : Bool) (name : List ℕ) (names : List (List ℕ)) → is_user_defined_name name ≡ true → AreUserNames names
+    → AreUserNames (cond b (name ∷ []) [] ++ names)
 kind-user true name names user users = (user, users)
 kind-user false name names user users = users
 
-kind-users : (kind : Kind) (rows : List ReadRow) → AllByRecursion (λ (row : ReadRow). is_user_defined_name row.0 ≡ true) rows → AreUserNames (names_of_kind kind rows)
+kind-users : (kind : Kind) (rows : List ReadRow) → AllByRecursion (λ (row : ReadRow). is_user_defined_name row.0 ≡ true) rows
+    → AreUserNames (names_of_kind kind rows)
 kind-users kind [] all = tt
 kind-users kind (row ∷ rows) all = kind-user (is_of_kind kind row.1) row.0 (names_of_kind kind rows) all.0 (kind-users kind rows all.1)
 
 both-by : (x v : List ℕ) (xs vs : List (List ℕ)) (o : Ordering) → slice_cmp nat_cmp x v ≡ o → is_user_defined_name x ≡ true → is_user_defined_name v ≡ true
-    → AreUserNames (names_of_both xs (v ∷ vs)) → AreUserNames (names_of_both xs vs) → AreUserNames (names_of_both (x ∷ xs) vs) → AreUserNames (names_of_both (x ∷ xs) (v ∷ vs))
+    → AreUserNames (names_of_both xs (v ∷ vs)) → AreUserNames (names_of_both xs vs) → AreUserNames (names_of_both (x ∷ xs) vs)
+    → AreUserNames (names_of_both (x ∷ xs) (v ∷ vs))
 both-by x v xs vs Less e one other less equal greater = subst AreUserNames (sym (both-less x v xs vs e)) (one, less)
 both-by x v xs vs Equal e one other less equal greater = subst AreUserNames (sym (both-equal x v xs vs e)) (one, equal)
 both-by x v xs vs Greater e one other less equal greater = subst AreUserNames (sym (both-greater x v xs vs e)) (other, greater)
@@ -100,13 +107,15 @@ both-by x v xs vs Greater e one other less equal greater = subst AreUserNames (s
 both-at : (x : List ℕ) (xs : List (List ℕ)) → AreUserNames (x ∷ xs) → ((ys : List (List ℕ)) → AreUserNames ys → AreUserNames (names_of_both xs ys))
     → (vs : List (List ℕ)) → AreUserNames vs → AreUserNames (names_of_both (x ∷ xs) vs)
 both-at x xs one on [] users = one
-both-at x xs one on (v ∷ vs) users = both-by x v xs vs (slice_cmp nat_cmp x v) refl one.0 users.0 (on (v ∷ vs) users) (on vs users.1) (both-at x xs one on vs users.1)
+both-at x xs one on (v ∷ vs) users =
+    both-by x v xs vs (slice_cmp nat_cmp x v) refl one.0 users.0 (on (v ∷ vs) users) (on vs users.1) (both-at x xs one on vs users.1)
 
 both-users : (xs ys : List (List ℕ)) → AreUserNames xs → AreUserNames ys → AreUserNames (names_of_both xs ys)
 both-users [] ys one other = other
 both-users (x ∷ xs) ys one other = both-at x xs one (λ vs users. both-users xs vs one.1 users) ys other
 
-with-users : (kind : Kind) (names : List (List ℕ)) (others : List Extended) → AreUserNames names → All CanBeUsed others → AreUserNames (with_names_of kind names others)
+with-users : (kind : Kind) (names : List (List ℕ)) (others : List Extended) → AreUserNames names → All CanBeUsed others
+    → AreUserNames (with_names_of kind names others)
 with-users kind names [] users can = users
 with-users kind names (other ∷ others) users can =
     let used = All-head CanBeUsed other others can in
@@ -120,10 +129,12 @@ own-users : (rows : List ReadRow) → AllByRecursion (λ (row : ReadRow). (is_us
 own-users [] all = tt
 own-users (row ∷ rows) all = (all.0.0, own-users rows all.1)
 
-among-users : (kind : Kind) (entry : Extended) (others : List Extended) → AreWritable entry.rows → All CanBeUsed others → AreUserNames (names_among kind entry others)
+among-users : (kind : Kind) (entry : Extended) (others : List Extended) → AreWritable entry.rows → All CanBeUsed others
+    → AreUserNames (names_among kind entry others)
 among-users kind entry others own can =
     with-users kind (names_of_kind kind entry.rows) others
-    (kind-users kind entry.rows (own-users entry.rows (recursion_from_All (λ (row : ReadRow). (is_user_defined_name row.0 ≡ true) × IsWritableIfSome row.1) entry.rows own))) can
+    (kind-users kind entry.rows (own-users entry.rows
+    (recursion_from_All (λ (row : ReadRow). (is_user_defined_name row.0 ≡ true) × IsWritableIfSome row.1) entry.rows own))) can
 
 -- ---- values
 
@@ -135,7 +146,8 @@ first-can : (o p : Option Content) → IsWritableIfSome o → IsWritableIfSome p
 first-can None p one other = other
 first-can (Some content) p one other = one
 
-said-can : (rows : List ReadRow) (name : List ℕ) → AllByRecursion (λ (row : ReadRow). (is_user_defined_name row.0 ≡ true) × IsWritableIfSome row.1) rows → IsWritableIfSome (said rows name)
+said-can : (rows : List ReadRow) (name : List ℕ) → AllByRecursion (λ (row : ReadRow). (is_user_defined_name row.0 ≡ true) × IsWritableIfSome row.1) rows
+    → IsWritableIfSome (said rows name)
 said-can [] name all = tt
 said-can (row ∷ rows) name all =
     let later = said-can rows name all.1 in
@@ -208,7 +220,8 @@ module _ (ordered : EachKindIsInOrder) (entry : Extended) (others : List Extende
   kind-gives : (kind : Kind) (more : List Item) → filter_map user_said (kind_list kind ++ more) ≡ differing_said kind entry others ++ filter_map user_said more
   kind-gives kind more =
       ap (filter_map user_said) (append_assoc (map of_tables (kind_items layout table kind)) (items_of (say kind) (names_among kind entry others)) more)
-      ∙ tables-give table (in_order layout.order kind) (items_of (say kind) (names_among kind entry others) ++ more) ∙ items-give (say kind) (names_among kind entry others) more
+      ∙ tables-give table (in_order layout.order kind) (items_of (say kind) (names_among kind entry others) ++ more)
+      ∙ items-give (say kind) (names_among kind entry others) more
 
   kind-can : (kind : Kind) → AllByRecursion IsCapability (in_order layout.order kind) → All CanBeWritten (kind_list kind)
   kind-can kind valid =
@@ -238,16 +251,19 @@ module _ (ordered : EachKindIsInOrder) (entry : Extended) (others : List Extende
 
   source : IsSource entry.entry.names all_items (extended_relative entry others layout)
   source =
-      let front = entry.entry.names ++ 44 ∷ differing_kind layout entry others Flag ++ differing_kind layout entry others Number ++ differing_kind layout entry others Text in
+      let front = entry.entry.names ++ 44 ∷ differing_kind layout entry others Flag ++ differing_kind layout entry others Number
+      ++ differing_kind layout entry others Text in
       let laid = three-kinds layout entry.entry.names (kind_list Flag) (kind_list Number) (kind_list Text) (map use_of others) (use_lines
       (entries_in others) ++ 10 ∷ []) (uses-tail others) in
-      let lines : IsSource entry.entry.names all_items (front ++ (use_lines (entries_in others) ++ 10 ∷ [])) = rw (kind-lines Flag, kind-lines Number, kind-lines Text) at laid in
+      let lines : IsSource entry.entry.names all_items (front ++ (use_lines (entries_in others) ++ 10 ∷ [])) =
+      rw (kind-lines Flag, kind-lines Number, kind-lines Text) at laid in
       subst (λ text. IsSource entry.entry.names all_items text) (sym (append_assoc front (use_lines (entries_in others)) (10 ∷ []))) lines
 
 pub relatives_read : EachKindIsInOrder → ItemsAreRead → RelativesAreRead
 relatives_read ordered read entry others names layout good has own used =
     subst (λ ss. IsUserReadAs ss (user_reading_of_text (extended_relative entry others layout))) (all-give ordered entry others layout has own used)
-    (read entry.entry.names names (all_items ordered entry others layout has own used) (extended_relative entry others layout) good (all-can ordered entry others layout has own used)
+    (read entry.entry.names names (all_items ordered entry others layout has own used) (extended_relative entry others layout) good
+    (all-can ordered entry others layout has own used)
     (source ordered entry others layout has own used))
 
 -- without user-defined capabilities each fault is a warning
@@ -257,5 +273,6 @@ pub relative-sound : EachKindIsInOrder → ItemsAreReadByTheProfile → (entry :
     → AllByRecursion (λ (fault : ReadFault). fault.code ≡ code.UnknownCapability) (reading_of_text (extended_relative entry others layout)).faults
 relative-sound ordered plain entry others names layout good has own used =
     recursion_from_All (λ (fault : ReadFault). fault.code ≡ code.UnknownCapability) (reading_of_text (extended_relative entry others layout)).faults
-    (plain entry.entry.names names (all_items ordered entry others layout has own used) (extended_relative entry others layout) good (all-can ordered entry others layout has own used)
+    (plain entry.entry.names names (all_items ordered entry others layout has own used) (extended_relative entry others layout) good
+    (all-can ordered entry others layout has own used)
     (source ordered entry others layout has own used)).warned

@@ -66,10 +66,13 @@ equal-names : (x y : List ℕ) → slice_cmp nat_cmp x y ≡ Equal → x ≡ y
 equal-names x y e = (bytes_decides x y).0 (sym (is_eq-slice_cmp x y) ∙ ap is_eq e)
 
 left-by : (n x v : List ℕ) (xs vs : List (List ℕ)) (o : Ordering) → slice_cmp nat_cmp x v ≡ o → is_in (x ∷ xs) n ≡ true
-    → (is_in xs n ≡ true → is_in (names_of_both xs (v ∷ vs)) n ≡ true) → (is_in xs n ≡ true → is_in (names_of_both xs vs) n ≡ true) → is_in (names_of_both (x ∷ xs) vs) n ≡ true
+    → (is_in xs n ≡ true → is_in (names_of_both xs (v ∷ vs)) n ≡ true) → (is_in xs n ≡ true → is_in (names_of_both xs vs) n ≡ true)
+    → is_in (names_of_both (x ∷ xs) vs) n ≡ true
     → is_in (names_of_both (x ∷ xs) (v ∷ vs)) n ≡ true
-left-by n x v xs vs Less o e less equal greater = ap (λ (names : List (List ℕ)). is_in names n) (both-less x v xs vs o) ∙ either-true (bytes_eq x n) (is_in xs n) _ e less
-left-by n x v xs vs Equal o e less equal greater = ap (λ (names : List (List ℕ)). is_in names n) (both-equal x v xs vs o) ∙ either-true (bytes_eq x n) (is_in xs n) _ e equal
+left-by n x v xs vs Less o e less equal greater =
+    ap (λ (names : List (List ℕ)). is_in names n) (both-less x v xs vs o) ∙ either-true (bytes_eq x n) (is_in xs n) _ e less
+left-by n x v xs vs Equal o e less equal greater =
+    ap (λ (names : List (List ℕ)). is_in names n) (both-equal x v xs vs o) ∙ either-true (bytes_eq x n) (is_in xs n) _ e equal
 left-by n x v xs vs Greater o e less equal greater =
     ap (λ (names : List (List ℕ)). is_in names n) (both-greater x v xs vs o) ∙ or_right (bytes_eq v n) (is_in (names_of_both (x ∷ xs) vs) n) greater
 
@@ -83,7 +86,8 @@ both-left-in n [] ys e = cc
 both-left-in n (x ∷ xs) ys e = left-at n x xs e (both-left-in n xs) ys
 
 right-by : (n x v : List ℕ) (xs vs : List (List ℕ)) (o : Ordering) → slice_cmp nat_cmp x v ≡ o → is_in (v ∷ vs) n ≡ true
-    → is_in (names_of_both xs (v ∷ vs)) n ≡ true → (is_in vs n ≡ true → is_in (names_of_both xs vs) n ≡ true) → (is_in vs n ≡ true → is_in (names_of_both (x ∷ xs) vs) n ≡ true)
+    → is_in (names_of_both xs (v ∷ vs)) n ≡ true → (is_in vs n ≡ true → is_in (names_of_both xs vs) n ≡ true)
+    → (is_in vs n ≡ true → is_in (names_of_both (x ∷ xs) vs) n ≡ true)
     → is_in (names_of_both (x ∷ xs) (v ∷ vs)) n ≡ true
 right-by n x v xs vs Less o e less equal greater =
     ap (λ (names : List (List ℕ)). is_in names n) (both-less x v xs vs o) ∙ or_right (bytes_eq x n) (is_in (names_of_both xs (v ∷ vs)) n) less
@@ -108,7 +112,8 @@ said-more true m n names later = or_right (bytes_eq m n) (is_in names n) later
 said-more false m n names later = later
 
 said-at : (kind : Kind) (row : ReadRow) (rows : List ReadRow) (n : List ℕ) (b : Bool) (o : Option Content) → bytes_eq row.0 n ≡ b → row.1 ≡ o
-    → is_of_kind kind (cond b (option_or o (said rows n)) (said rows n)) ≡ true → (is_of_kind kind (said rows n) ≡ true → is_in (names_of_kind kind rows) n ≡ true)
+    → is_of_kind kind (cond b (option_or o (said rows n)) (said rows n)) ≡ true
+    → (is_of_kind kind (said rows n) ≡ true → is_in (names_of_kind kind rows) n ≡ true)
     → is_in (names_of_kind kind (row ∷ rows)) n ≡ true
 said-at kind row rows n false o other is e on = said-more (is_of_kind kind row.1) row.0 n (names_of_kind kind rows) (on e)
 said-at kind row rows n true None same is e on = said-more (is_of_kind kind row.1) row.0 n (names_of_kind kind rows) (on e)
@@ -122,7 +127,8 @@ said-in kind (row ∷ rows) n e = said-at kind row rows n (bytes_eq row.0 n) row
 
 with-in : (kind : Kind) (names : List (List ℕ)) (others : List Extended) (n : List ℕ) → is_in names n ≡ true → is_in (with_names_of kind names others) n ≡ true
 with-in kind names [] n e = e
-with-in kind names (other ∷ others) n e = with-in kind (names_of_both names (names_of_kind kind other.rows)) others n (both-left-in n names (names_of_kind kind other.rows) e)
+with-in kind names (other ∷ others) n e =
+    with-in kind (names_of_both names (names_of_kind kind other.rows)) others n (both-left-in n names (names_of_kind kind other.rows) e)
 
 others-at : (kind : Kind) (names : List (List ℕ)) (other : Extended) (others : List Extended) (n : List ℕ) (o : Option Content) → said other.rows n ≡ o
     → is_of_kind kind (option_or o (first_said others n)) ≡ true
@@ -133,14 +139,16 @@ others-at kind names other others n (Some x) is e on =
     with-in kind (names_of_both names (names_of_kind kind other.rows)) others n
     (both-right-in n names (names_of_kind kind other.rows) (said-in kind other.rows n (ap (is_of_kind kind) is ∙ e)))
 
-others-in : (kind : Kind) (names : List (List ℕ)) (others : List Extended) (n : List ℕ) → is_of_kind kind (first_said others n) ≡ true → is_in (with_names_of kind names others) n ≡ true
+others-in : (kind : Kind) (names : List (List ℕ)) (others : List Extended) (n : List ℕ) → is_of_kind kind (first_said others n) ≡ true
+    → is_in (with_names_of kind names others) n ≡ true
 others-in Flag names [] n e = cc
 others-in Number names [] n e = cc
 others-in Text names [] n e = cc
 others-in kind names (other ∷ others) n e =
     others-at kind names other others n (said other.rows n) refl e (others-in kind (names_of_both names (names_of_kind kind other.rows)) others n)
 
-among-at : (kind : Kind) (entry : Extended) (others : List Extended) (n : List ℕ) (o : Option Content) → said entry.rows n ≡ o → is_of_kind kind (option_or o (first_said others n)) ≡ true
+among-at : (kind : Kind) (entry : Extended) (others : List Extended) (n : List ℕ) (o : Option Content) → said entry.rows n ≡ o
+    → is_of_kind kind (option_or o (first_said others n)) ≡ true
     → is_in (names_among kind entry others) n ≡ true
 among-at kind entry others n None is e = others-in kind (names_of_kind kind entry.rows) others n e
 among-at kind entry others n (Some x) is e = with-in kind (names_of_kind kind entry.rows) others n (said-in kind entry.rows n (ap (is_of_kind kind) is ∙ e))
@@ -154,7 +162,8 @@ among-in kind entry others n e = among-at kind entry others n (said entry.rows n
 abbrev if_in : Bool → Option Content → Option Content
 if_in b o = cond b o None
 
-given-one : (m n : List ℕ) (o now : Option Content) (later : List UserSaid) (b : Bool) (rest : Option Content) → o ≡ now → bytes_eq m n ≡ true → given later n ≡ option_or (if_in b now) rest
+given-one : (m n : List ℕ) (o now : Option Content) (later : List UserSaid) (b : Bool) (rest : Option Content) → o ≡ now → bytes_eq m n ≡ true
+    → given later n ≡ option_or (if_in b now) rest
     → given (said_if m o ++ later) n ≡ option_or now rest
 given-one m n None now later true rest is same e = e
 given-one m n None now later false rest is same e = e ∙ ap (λ o. option_or o rest) is
@@ -167,7 +176,8 @@ given-other m n (Some x) later other = rw other refl
 given-at : (say : List ℕ → Option Content) (m n : List ℕ) (ms : List (List ℕ)) (later : List UserSaid) (rest : Option Content) (b : Bool) → bytes_eq m n ≡ b
     → given later n ≡ option_or (if_in (is_in ms n) (say n)) rest → given (said_if m (say m) ++ later) n ≡ option_or (if_in (is_in (m ∷ ms) n) (say n)) rest
 given-at say m n ms later rest true same e =
-    given-one m n (say m) (say n) later (is_in ms n) rest (ap say ((bytes_decides m n).0 same)) same e ∙ ap (λ b. option_or (if_in (b || is_in ms n) (say n)) rest) (sym same)
+    given-one m n (say m) (say n) later (is_in ms n) rest (ap say ((bytes_decides m n).0 same)) same e
+    ∙ ap (λ b. option_or (if_in (b || is_in ms n) (say n)) rest) (sym same)
 given-at say m n ms later rest false other e = given-other m n (say m) later other ∙ e ∙ ap (λ b. option_or (if_in (b || is_in ms n) (say n)) rest) (sym other)
 
 given-items : (say : List ℕ → Option Content) (names : List (List ℕ)) (n : List ℕ) (more : List UserSaid)
@@ -207,14 +217,17 @@ none-said : (own theirs : Option Content) → option_or own theirs ≡ None → 
 none-said None theirs is = ap without_cancel is
 none-said (Some x) theirs is = cc
 
-cancel-said : (own theirs : Option Content) → own ≢ Some content_cancelled → option_or own theirs ≡ Some content_cancelled → without_cancel theirs ≡ without_cancel own
+cancel-said : (own theirs : Option Content) → own ≢ Some content_cancelled → option_or own theirs ≡ Some content_cancelled
+    → without_cancel theirs ≡ without_cancel own
 cancel-said None theirs plain is = ap without_cancel is
 cancel-said (Some x) theirs plain is = absurd (plain is)
 
 -- of the three kinds, the one of the value gives the difference
 kinds-give : (own theirs : Option Content) (f n t : Bool) → own ≢ Some content_cancelled
-    → (is_of_kind Flag (option_or own theirs) ≡ true → f ≡ true) → (is_of_kind Number (option_or own theirs) ≡ true → n ≡ true) → (is_of_kind Text (option_or own theirs) ≡ true → t ≡ true)
-    → without_cancel (option_or (option_or (if_in f (user_difference Flag own theirs)) (option_or (if_in n (user_difference Number own theirs)) (option_or (if_in t
+    → (is_of_kind Flag (option_or own theirs) ≡ true → f ≡ true) → (is_of_kind Number (option_or own theirs) ≡ true → n ≡ true)
+    → (is_of_kind Text (option_or own theirs) ≡ true → t ≡ true)
+    → without_cancel (option_or (option_or (if_in f (user_difference Flag own theirs))
+    (option_or (if_in n (user_difference Number own theirs)) (option_or (if_in t
     (user_difference Text own theirs)) None))) theirs)
     ≡ without_cancel own
 kinds-give own theirs f n t plain of_flag of_number of_text = by-value (option_or own theirs) refl
@@ -225,7 +238,8 @@ kinds-give own theirs f n t plain of_flag of_number of_text = by-value (option_o
         ≡ without_cancel own
     by-value None is =
         ap (λ o. without_cancel (option_or o theirs))
-        (first-of-three _ _ _ None (not-of-kind f _ _ (ap (is_of_kind Flag) is)) (not-of-kind n _ _ (ap (is_of_kind Number) is)) (not-of-kind t _ _ (ap (is_of_kind Text) is)))
+        (first-of-three _ _ _ None (not-of-kind f _ _ (ap (is_of_kind Flag) is)) (not-of-kind n _ _ (ap (is_of_kind Number) is))
+        (not-of-kind t _ _ (ap (is_of_kind Text) is)))
         ∙ none-said own theirs is
     by-value (Some content_true) is =
         ap (λ o. without_cancel (option_or o theirs))
@@ -239,12 +253,14 @@ kinds-give own theirs f n t plain of_flag of_number of_text = by-value (option_o
         ∙ restores own theirs
     by-value (Some (content_text u)) is =
         ap (λ o. without_cancel (option_or o theirs))
-        (third-of-three _ _ _ (difference own theirs) (not-of-kind f _ _ (ap (is_of_kind Flag) is)) (not-of-kind n _ _ (ap (is_of_kind Number) is)) (of-kind t _ _
+        (third-of-three _ _ _ (difference own theirs) (not-of-kind f _ _ (ap (is_of_kind Flag) is)) (not-of-kind n _ _ (ap (is_of_kind Number) is))
+        (of-kind t _ _
         (ap (is_of_kind Text) is) (of_text (ap (is_of_kind Text) is))))
         ∙ restores own theirs
     by-value (Some content_cancelled) is =
         ap (λ o. without_cancel (option_or o theirs))
-        (first-of-three _ _ _ None (not-of-kind f _ _ (ap (is_of_kind Flag) is)) (not-of-kind n _ _ (ap (is_of_kind Number) is)) (not-of-kind t _ _ (ap (is_of_kind Text) is)))
+        (first-of-three _ _ _ None (not-of-kind f _ _ (ap (is_of_kind Flag) is)) (not-of-kind n _ _ (ap (is_of_kind Number) is))
+        (not-of-kind t _ _ (ap (is_of_kind Text) is)))
         ∙ cancel-said own theirs plain is
 
 -- ---- no value is a cancel
@@ -279,12 +295,14 @@ relatives_say entry others name all =
     let uses = map (λ (other : Extended). imports (first_name other.entry.names)) others in
     let in_kind : Kind → Bool = λ kind. is_in (names_among kind entry others) name in
     let gives : given (relative_said entry others) name
-    ≡ option_or (if_in (in_kind Flag) (say Flag name)) (option_or (if_in (in_kind Number) (say Number name)) (option_or (if_in (in_kind Text) (say Text name)) None)) =
+    ≡ option_or (if_in (in_kind Flag) (say Flag name)) (option_or (if_in (in_kind Number) (say Number name))
+    (option_or (if_in (in_kind Text) (say Text name)) None)) =
     given-items (say Flag) (names_among Flag entry others) name (differing_said Number entry others ++ (differing_said Text entry others ++ uses))
     ∙ ap (option_or (if_in (in_kind Flag) (say Flag name)))
     (given-items (say Number) (names_among Number entry others) name (differing_said Text entry others ++ uses)
     ∙ ap (option_or (if_in (in_kind Number) (say Number name)))
     (given-items (say Text) (names_among Text entry others) name uses ∙ ap (option_or (if_in (in_kind Text) (say Text name))) (given-uses others name))) in
     ap (λ o. without_cancel (option_or o theirs)) gives
-    ∙ kinds-give own theirs (in_kind Flag) (in_kind Number) (in_kind Text) plain (among-in Flag entry others name) (among-in Number entry others name) (among-in Text entry others name)
+    ∙ kinds-give own theirs (in_kind Flag) (in_kind Number) (in_kind Text) plain (among-in Flag entry others name) (among-in Number entry others name)
+    (among-in Text entry others name)
     ∙ plain-same own plain

@@ -1,5 +1,6 @@
 -- What an item gives to user-defined capabilities is read from the text that is written of it.
-use Rattle.std.proofs.Common.{◌≡◌, ◌≢◌, ℕ, ◌≤◌, Bool, true, false, not, ◌==◌, ◌||◌, ◌&&◌, List, [], ◌∷◌, ◌++◌, Option, Some, None, Ok, refl, ap, sym, ◌∙◌, subst, arith}
+use Rattle.std.proofs.Common.{◌≡◌, ◌≢◌, ℕ, ◌≤◌, Bool, true, false, not, ◌==◌, ◌||◌, ◌&&◌, List, [], ◌∷◌, ◌++◌, Option, Some, None, Ok, refl, ap, sym, ◌∙◌}
+use Rattle.std.proofs.Common.{subst, arith}
 use Rattle.std.specs.List.{list_all, All}
 use Rattle.std.specs.Option.{option_map}
 use Rattle.std.specs.Prelude.{codes}
@@ -14,7 +15,8 @@ use Rattle.ti_text.specs.Limits.{number_max}
 use Rattle.ti_text.specs.WhiteSpace.{is_white_space}
 use Rattle.ti_source.specs.WhiteSpace.{without_trailing_space}
 use Rattle.ti_source.specs.Header.{IsNameByte, IsLookupName}
-use Rattle.ti_source.specs.Items.{Claim, Statement, claims_flag, claims_number, claims_text, claims_cancel, States, number_item, text_item, cancel_item, flag_item, without_outer_space}
+use Rattle.ti_source.specs.Items.{Claim, Statement, claims_flag, claims_number, claims_text, claims_cancel, States, number_item, text_item, cancel_item}
+use Rattle.ti_source.specs.Items.{flag_item, without_outer_space}
 use Rattle.ti_source.specs.Reading.{Said, said_flag, said_number, said_text, said_cancel, said_import}
 use Rattle.ti_source.specs.declared.code.Code.TheVariants as code
 use Rattle.ti_source.specs.Verdicts.{Judges, Verdict, accepted, refused, ReadClaim, reads_flag, reads_number, reads_text, reads_cancel, IsReadAs}
@@ -26,7 +28,8 @@ use Rattle.ti_layout.specs.Values.{Content, content_true, content_number, conten
 use Rattle.user_items.specs.Names.{is_user_defined_name}
 use Rattle.user_items.specs.Verdicts.{UserSaid, says, imports, user_accepted, UserJudges, defining_verdict}
 use Rattle.user_listing.specs.Items.{named_item}
-use Rattle.tools_relisting.proofs.Cutting.{is_clear, is_whole, is_inline, has_no_cut, no_cut-whole, clear-cons, clear-append, clear-whole, written_from-clear, written_from-inline}
+use Rattle.tools_relisting.proofs.Cutting.{is_clear, is_whole, is_inline, has_no_cut, no_cut-whole, clear-cons, clear-append, clear-whole}
+use Rattle.tools_relisting.proofs.Cutting.{written_from-clear, written_from-inline}
 use Rattle.tools_relisting.proofs.Unfolding.{is_dark}
 use Rattle.tools_relisting.proofs.Words.{capability-name, decimal-digits, numeral-of}
 use Rattle.tools_relisting.proofs.Stating.{import-readable}
@@ -72,10 +75,12 @@ number-stated name n good small =
     let word = word-named ds digits.word in
     record {
       dark = name-dark name (35 ∷ ds) good.some good.named;
-      inline = list_all-append (λ b. not (b == 10)) name (35 ∷ ds) ∙ and_from (is_inline name) (is_inline ds) (name-inline name good.named) (name-inline ds word);
+      inline = list_all-append (λ b. not (b == 10)) name (35 ∷ ds)
+          ∙ and_from (is_inline name) (is_inline ds) (name-inline name good.named) (name-inline ds word);
       whole = λ before.
           no_cut-whole before (name ++ 35 ∷ ds)
-          (list_all-append (λ b. not (b == 44) && not (b == 92)) name (35 ∷ ds) ∙ and_from (has_no_cut name) (has_no_cut ds) (name-no_cut name good.named) (name-no_cut ds word));
+          (list_all-append (λ b. not (b == 44) && not (b == 92)) name (35 ∷ ds)
+          ∙ and_from (has_no_cut name) (has_no_cut ds) (name-no_cut name good.named) (name-no_cut ds word));
       states = number_item name ds (name-no_mark name good.named) (name-enabled name (35 ∷ ds) good.some good.named);
     }
 
@@ -93,15 +98,19 @@ text-stated : (name t : List ℕ) → IsGoodName name → AreBytes t → IsState
 text-stated name t good are =
     let value = spelling_of t in
     let clear : (before : ℕ) → is_clear before (name ++ 61 ∷ value) ≡ true =
-    λ before. clear-append before name (61 ∷ value) (name-clear before name good.named) (clear-cons _ 61 value refl (written_from-clear true 0 61 t refl are)) in
+    λ before. clear-append before name (61 ∷ value) (name-clear before name good.named)
+    (clear-cons _ 61 value refl (written_from-clear true 0 61 t refl are)) in
     record {
       dark = name-dark name (61 ∷ value) good.some good.named;
-      inline = list_all-append (λ b. not (b == 10)) name (61 ∷ value) ∙ and_from (is_inline name) (is_inline value) (name-inline name good.named) (written_from-inline true 0 t are);
-      whole = λ before. subst (λ w. is_whole before w ≡ true) (append-nil (name ++ 61 ∷ value)) (clear-whole before (name ++ 61 ∷ value) [] (clear before) refl);
+      inline = list_all-append (λ b. not (b == 10)) name (61 ∷ value)
+          ∙ and_from (is_inline name) (is_inline value) (name-inline name good.named) (written_from-inline true 0 t are);
+      whole = λ before. subst (λ w. is_whole before w ≡ true) (append-nil (name ++ 61 ∷ value))
+          (clear-whole before (name ++ 61 ∷ value) [] (clear before) refl);
       states = text_item name value (name-no_mark name good.named) (name-enabled name (61 ∷ value) good.some good.named);
     }
 
-named-stated : (name : List ℕ) (content : Content) → IsGoodName name → IsWritable content → IsStated (named_item name content) (statement name (claim_of content))
+named-stated : (name : List ℕ) (content : Content) → IsGoodName name → IsWritable content
+    → IsStated (named_item name content) (statement name (claim_of content))
 named-stated name content_true good can = flag-stated name good
 named-stated name (content_number n) good can = number-stated name n good can
 named-stated name (content_text t) good can = text-stated name t good can.0
@@ -210,7 +219,8 @@ lookup-visible [] h = refl
 lookup-visible (x ∷ xs) h =
     and_from (is_visible x) (list_all is_visible xs) (name_byte-visible x (All-head IsNameByte x xs h)) (lookup-visible xs (All-tail IsNameByte x xs h))
 
-import-readable-so : (name : List ℕ) → IsLookupName name → All (λ byte. byte ≢ 92) name → IsReadable (codes "use=" ++ name) (Some (imports name)) (Some (said_import name))
+import-readable-so : (name : List ℕ) → IsLookupName name → All (λ byte. byte ≢ 92) name
+    → IsReadable (codes "use=" ++ name) (Some (imports name)) (Some (said_import name))
 import-readable-so name is none =
     let readable = import-readable name is none in
     let same : without_outer_space name ≡ name = visible-stripped name (lookup-visible name is.bytes) in
@@ -222,20 +232,23 @@ import-readable-so name is none =
         whole = readable.whole;
         states = text_item (codes "use") name (refl, (refl, (refl, tt))) refl;
       };
-      judges = record { read = read_claim (claims_text name); is_read = is_read (claims_text name); is = ap (λ n. Some (user_accepted (imports n))) (sym same) };
+      judges =
+          record { read = read_claim (claims_text name); is_read = is_read (claims_text name); is = ap (λ n. Some (user_accepted (imports n))) (sym same) };
       table_judges = subst (λ n. Judges (codes "use") (claims_text name) (accepted (said_import n))) same (judged_import (codes "use") name refl);
     }
 
 -- ---- each item
 
 pub item-readable : EveryNameIsFound → WrittenSpells → (item : Item) → CanBeWritten item → IsReadable (item_text item) (user_said item) (table_said item)
-item-readable found spells (of_tables (said_flag c)) can = table-readable found c content_true (said_flag c) can.0 tt (judged_flag (name_of c) c (found c can.0) can.1)
+item-readable found spells (of_tables (said_flag c)) can =
+    table-readable found c content_true (said_flag c) can.0 tt (judged_flag (name_of c) c (found c can.0) can.1)
 item-readable found spells (of_tables (said_number c n)) can =
     table-readable found c (content_number n) (said_number c n) can.0 can.2
     (judged_number (name_of c) (decimal n) c n (found c can.0) can.1 (numeral-of n (decimal n) (decimal-digits n (omega (arith, can.2)))) can.2)
 item-readable found spells (of_tables (said_text c t)) can =
     table-readable found c (content_text t) (said_text c t) can.0 (can.2, can.3)
     (judged_text (name_of c) (spelling_of t) t c (capability-name c can.0).other (found c can.0) can.1 (spells t can.2 can.3))
-item-readable found spells (of_tables (said_cancel c)) can = table-readable found c content_cancelled (said_cancel c) can tt (judged_cancel (name_of c) c (found c can))
+item-readable found spells (of_tables (said_cancel c)) can =
+    table-readable found c content_cancelled (said_cancel c) can tt (judged_cancel (name_of c) c (found c can))
 item-readable found spells (of_tables (said_import name)) can = import-readable-so name can.0 can.1
 item-readable found spells (of_user name content) can = user-readable spells name content can.0 can.1

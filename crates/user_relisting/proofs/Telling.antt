@@ -42,7 +42,8 @@ abbrev expand_said : (List ℕ → Option (List UserMention)) → List UserSaid 
 expand_said of_name [] = Some []
 expand_said of_name (s ∷ ss) = both_lists (mentions_of of_name s) (expand_said of_name ss)
 
-items-said : (of_name : List ℕ → Option (List UserMention)) (items : List ReadUserItem) → expand_items of_name items ≡ expand_said of_name (map (λ (item : ReadUserItem). item.said) items)
+items-said : (of_name : List ℕ → Option (List UserMention)) (items : List ReadUserItem) → expand_items of_name items
+    ≡ expand_said of_name (map (λ (item : ReadUserItem). item.said) items)
 items-said of_name [] = refl
 items-said of_name (item ∷ items) = ap (both_lists (mentions_of of_name item.said)) (items-said of_name items)
 
@@ -50,9 +51,11 @@ abbrev names_in : List (List ℕ) → ℕ → List ℕ → Option (List UserMent
 names_in texts depth name = option_and_then (expand texts depth) (owner_text texts name)
 
 -- a block that is not broken expands to what it says
-block-expands : (texts : List (List ℕ)) (depth : ℕ) (text : List ℕ) (ss : List UserSaid) → is_broken (reading_of_text text) ≡ false → IsUserReadAs ss (user_reading_of_text text)
+block-expands : (texts : List (List ℕ)) (depth : ℕ) (text : List ℕ) (ss : List UserSaid) → is_broken (reading_of_text text) ≡ false
+    → IsUserReadAs ss (user_reading_of_text text)
     → expand texts (suc depth) text ≡ expand_said (names_in texts depth) ss
-block-expands texts depth text ss sound is = rw sound (items-said (names_in texts depth) (user_reading_of_text text).items ∙ ap (expand_said (names_in texts depth)) is.says)
+block-expands texts depth text ss sound is =
+    rw sound (items-said (names_in texts depth) (user_reading_of_text text).items ∙ ap (expand_said (names_in texts depth)) is.says)
 
 -- ---- listings
 
@@ -96,7 +99,8 @@ pairs_of [] = []
 pairs_of (says name content ∷ ss) = (name, content) ∷ pairs_of ss
 pairs_of (imports name ∷ ss) = pairs_of ss
 
-one-before : (name : List ℕ) (o : Option Content) (ms : List UserMention) (of_name : List ℕ → Option (List UserMention)) (ss : List UserSaid) (later : Option (List UserMention))
+one-before : (name : List ℕ) (o : Option Content) (ms : List UserMention) (of_name : List ℕ → Option (List UserMention)) (ss : List UserSaid)
+    (later : Option (List UserMention))
     → expand_said of_name ss ≡ before ms later → expand_said of_name (said_if name o ++ ss) ≡ before (pairs_of (said_if name o) ++ ms) later
 one-before name None ms of_name ss later e = e
 one-before name (Some x) ms of_name ss None e = rw e refl
@@ -132,7 +136,8 @@ mentioned-append (m ∷ ms) ns name = go (bytes_eq m.0 name) (mentioned-append m
 
 pairs-given : (ss : List UserSaid) (name : List ℕ) → mentioned (pairs_of ss) name ≡ given ss name
 pairs-given [] name = refl
-pairs-given (says other content ∷ ss) name = either-same (bytes_eq other name) (Some content) (mentioned (pairs_of ss) name) (given ss name) (pairs-given ss name)
+pairs-given (says other content ∷ ss) name =
+    either-same (bytes_eq other name) (Some content) (mentioned (pairs_of ss) name) (given ss name) (pairs-given ss name)
 pairs-given (imports other ∷ ss) name = pairs-given ss name
 
 given-append : (xs ys : List UserSaid) (name : List ℕ) → given (xs ++ ys) name ≡ option_or (given xs name) (given ys name)
@@ -178,7 +183,8 @@ value-plain (content_number n) v = λ e. cc
 value-plain (content_text t) v = λ e. cc
 value-plain content_cancelled v = absurd v
 
-rows-plain : (rows : List Row) → AllByRecursion (λ (u : Row). IsValue u.1) rows → AllByRecursion (λ (row : ReadRow). row.1 ≢ Some content_cancelled) (as_read rows)
+rows-plain : (rows : List Row) → AllByRecursion (λ (u : Row). IsValue u.1) rows
+    → AllByRecursion (λ (row : ReadRow). row.1 ≢ Some content_cancelled) (as_read rows)
 rows-plain [] all = tt
 rows-plain (u ∷ us) all = (value-plain u.1 all.0, rows-plain us all.1)
 
@@ -192,7 +198,11 @@ can-use : (texts : List (List ℕ)) (listed : List Listed) → AllByRecursion (I
 can-use texts [] all = All-nil CanBeUsed
 can-use texts (one ∷ others) all =
     All-cons CanBeUsed one.0 (entries_of others)
-    (record { first = all.0.first; user_defined = All-from_recursion (λ (row : ReadRow). is_user_defined_name row.0 ≡ true) one.0.rows (row-users one.0.rows (writable one.0 all.0.listed)) })
+    (record {
+      first = all.0.first;
+      user_defined = All-from_recursion (λ (row : ReadRow). is_user_defined_name row.0 ≡ true) one.0.rows
+          (row-users one.0.rows (writable one.0 all.0.listed));
+    })
     (can-use texts others all.1)
 
 module _ (ordered : EachKindIsInOrder) (read : ItemsAreRead) (plain : ItemsAreReadByTheProfile) where
@@ -211,14 +221,16 @@ module _ (ordered : EachKindIsInOrder) (read : ItemsAreRead) (plain : ItemsAreRe
             ∙ ap (option_or (said one.0.rows name)) (later.say name);
       }
 
-  relative-expands : (entry : Extended) (layout : Layout) (listed : List Listed) (texts : List (List ℕ)) (depth : ℕ) → CanBeListed entry → All (IsListedIn texts) listed
+  relative-expands : (entry : Extended) (layout : Layout) (listed : List Listed) (texts : List (List ℕ)) (depth : ℕ) → CanBeListed entry
+      → All (IsListedIn texts) listed
       → (mentions : List UserMention) × (expand texts (suc (suc depth)) (extended_relative entry (entries_of listed) layout) ≡ Some mentions)
       × ((name : List ℕ) → without_cancel (mentioned mentions name) ≡ said entry.rows name)
   relative-expands entry layout listed texts depth can used =
       let others = entries_of listed in
       let each = recursion_from_All (IsListedIn texts) listed used in
       let may = can-use texts listed each in
-      let own : AreWritable entry.rows = All-from_recursion (λ (row : ReadRow). (is_user_defined_name row.0 ≡ true) × IsWritableIfSome row.1) entry.rows (writable entry can) in
+      let own : AreWritable entry.rows =
+      All-from_recursion (λ (row : ReadRow). (is_user_defined_name row.0 ≡ true) × IsWritableIfSome row.1) entry.rows (writable entry can) in
       let text = extended_relative entry others layout in
       let sound = not-broken (reading_of_text text).faults (relative-sound ordered plain entry others can.names layout can.listable can.holds own may) in
       let reads = relatives_read ordered read entry others can.names layout can.listable can.holds own may in
@@ -236,9 +248,11 @@ module _ (ordered : EachKindIsInOrder) (read : ItemsAreRead) (plain : ItemsAreRe
       let found : (name : List ℕ) → mentioned (pairs_of f ++ (pairs_of n ++ (pairs_of t ++ uses.mentions))) name ≡ option_or (given
       (relative_said entry others) name) (first_said others name) =
       λ name.
-      let swapped : option_or (mentioned (pairs_of f) name) (option_or (mentioned (pairs_of n) name) (option_or (mentioned (pairs_of t) name) (mentioned uses.mentions name)))
+      let swapped : option_or (mentioned (pairs_of f) name) (option_or (mentioned (pairs_of n) name)
+      (option_or (mentioned (pairs_of t) name) (mentioned uses.mentions name)))
       ≡ option_or (option_or (given f name) (option_or (given n name) (option_or (given t name) None))) (first_said others name) =
-      rw (pairs-given f name, pairs-given n name, pairs-given t name, uses.say name) (or-three (given f name) (given n name) (given t name) (first_said others name)) in
+      rw (pairs-given f name, pairs-given n name, pairs-given t name, uses.say name)
+      (or-three (given f name) (given n name) (given t name) (first_said others name)) in
       mentioned-append (pairs_of f) (pairs_of n ++ (pairs_of t ++ uses.mentions)) name
       ∙ ap (option_or (mentioned (pairs_of f) name)) (mentioned-append (pairs_of n) (pairs_of t ++ uses.mentions) name
       ∙ ap (option_or (mentioned (pairs_of n) name)) (mentioned-append (pairs_of t) uses.mentions name))

@@ -1,5 +1,6 @@
 -- Names of letters, digits and `% & * !`, as they stand in items.
-use Rattle.std.proofs.Common.{◌≡◌, ℕ, ◌<◌, Bool, true, false, not, ◌==◌, ◌||◌, ◌&&◌, nat_le, List, [], ◌∷◌, ◌++◌, length, Option, Some, None, refl, inl, inr, arith}
+use Rattle.std.proofs.Common.{◌≡◌, ℕ, ◌<◌, Bool, true, false, not, ◌==◌, ◌||◌, ◌&&◌, nat_le, List, [], ◌∷◌, ◌++◌, length, Option, Some, None, refl, inl}
+use Rattle.std.proofs.Common.{inr, arith}
 use Rattle.std.specs.List.{list_all}
 use Rattle.std.specs.Str.{bytes_eq}
 use Rattle.std.specs.Prelude.{codes, is_none}
@@ -26,24 +27,26 @@ byte-small b x small h = let e = eqb-true x b h in omega (arith, e, small)
 
 name_byte-small : (x : ℕ) → is_user_defined_byte x ≡ true → x < 123
 name_byte-small x h =
-    elim (or_cases ((nat_le 97 x && nat_le x 122) || (nat_le 65 x && nat_le x 90) || (nat_le 48 x && nat_le x 57) || x == 37 || x == 38 || x == 42) (x == 33) h) [
+    elim (or_cases ((nat_le 97 x && nat_le x 122) || (nat_le 65 x && nat_le x 90) || (nat_le 48 x && nat_le x 57) || x == 37 || x == 38 || x == 42)
+    (x == 33) h) [
       | inr b ↦ byte-small 33 x (omega arith) b
-      | inl h ↦ elim (or_cases ((nat_le 97 x && nat_le x 122) || (nat_le 65 x && nat_le x 90) || (nat_le 48 x && nat_le x 57) || x == 37 || x == 38) (x == 42) h) [
-        | inr b ↦ byte-small 42 x (omega arith) b
-        | inl h ↦ elim (or_cases ((nat_le 97 x && nat_le x 122) || (nat_le 65 x && nat_le x 90) || (nat_le 48 x && nat_le x 57) || x == 37) (x == 38) h) [
-          | inr b ↦ byte-small 38 x (omega arith) b
-          | inl h ↦ elim (or_cases ((nat_le 97 x && nat_le x 122) || (nat_le 65 x && nat_le x 90) || (nat_le 48 x && nat_le x 57)) (x == 37) h) [
-            | inr b ↦ byte-small 37 x (omega arith) b
-            | inl h ↦ elim (or_cases ((nat_le 97 x && nat_le x 122) || (nat_le 65 x && nat_le x 90)) (nat_le 48 x && nat_le x 57) h) [
-              | inr b ↦ range-small 48 57 x (omega arith) b
-              | inl h ↦ elim (or_cases (nat_le 97 x && nat_le x 122) (nat_le 65 x && nat_le x 90) h) [
-                | inl b ↦ range-small 97 122 x (omega arith) b
-                | inr b ↦ range-small 65 90 x (omega arith) b
+      | inl h ↦ elim (or_cases ((nat_le 97 x && nat_le x 122) || (nat_le 65 x && nat_le x 90) || (nat_le 48 x && nat_le x 57) || x == 37 || x == 38)
+          (x == 42) h) [
+            | inr b ↦ byte-small 42 x (omega arith) b
+            | inl h ↦ elim (or_cases ((nat_le 97 x && nat_le x 122) || (nat_le 65 x && nat_le x 90) || (nat_le 48 x && nat_le x 57) || x == 37) (x == 38) h) [
+              | inr b ↦ byte-small 38 x (omega arith) b
+              | inl h ↦ elim (or_cases ((nat_le 97 x && nat_le x 122) || (nat_le 65 x && nat_le x 90) || (nat_le 48 x && nat_le x 57)) (x == 37) h) [
+                | inr b ↦ byte-small 37 x (omega arith) b
+                | inl h ↦ elim (or_cases ((nat_le 97 x && nat_le x 122) || (nat_le 65 x && nat_le x 90)) (nat_le 48 x && nat_le x 57) h) [
+                  | inr b ↦ range-small 48 57 x (omega arith) b
+                  | inl h ↦ elim (or_cases (nat_le 97 x && nat_le x 122) (nat_le 65 x && nat_le x 90) h) [
+                    | inl b ↦ range-small 97 122 x (omega arith) b
+                    | inr b ↦ range-small 65 90 x (omega arith) b
+                  ]
+                ]
               ]
             ]
           ]
-        ]
-      ]
     ]
 
 implied : (b c : Bool) → not b || c ≡ true → b ≡ true → c ≡ true
@@ -51,10 +54,13 @@ implied true c h t = h
 implied false c h t = cc
 
 -- a test that each such byte passes
-pub name_byte-has : (P : ℕ → Bool) → agree_below (λ b. not (is_user_defined_byte b) || P b) (λ b. true) 123 ≡ true → (x : ℕ) → is_user_defined_byte x ≡ true → P x ≡ true
-name_byte-has P all x h = implied (is_user_defined_byte x) (P x) (agree_below_at (λ b. not (is_user_defined_byte b) || P b) (λ b. true) 123 x all (name_byte-small x h)) h
+pub name_byte-has : (P : ℕ → Bool) → agree_below (λ b. not (is_user_defined_byte b) || P b) (λ b. true) 123 ≡ true → (x : ℕ) → is_user_defined_byte x ≡ true
+    → P x ≡ true
+name_byte-has P all x h =
+    implied (is_user_defined_byte x) (P x) (agree_below_at (λ b. not (is_user_defined_byte b) || P b) (λ b. true) 123 x all (name_byte-small x h)) h
 
-name-has : (P : ℕ → Bool) → agree_below (λ b. not (is_user_defined_byte b) || P b) (λ b. true) 123 ≡ true → (w : List ℕ) → is_named w ≡ true → list_all P w ≡ true
+name-has : (P : ℕ → Bool) → agree_below (λ b. not (is_user_defined_byte b) || P b) (λ b. true) 123 ≡ true → (w : List ℕ) → is_named w ≡ true
+    → list_all P w ≡ true
 name-has P all [] h = refl
 name-has P all (x ∷ xs) h =
     let parts = and_parts (is_user_defined_byte x) (is_named xs) h in
@@ -130,7 +136,8 @@ empty-by-length (x ∷ xs) e = refl
 pub user-good : (name : List ℕ) → is_user_defined_name name ≡ true → IsGoodName name
 unfolding is_user_defined_name
 user-good name h =
-    let first = and_parts (not (length name == 0)) (list_all is_user_defined_byte name && (not (bytes_eq name (codes "use")) && is_none (capability_named name))) h in
+    let first = and_parts (not (length name == 0))
+    (list_all is_user_defined_byte name && (not (bytes_eq name (codes "use")) && is_none (capability_named name))) h in
     let second = and_parts (list_all is_user_defined_byte name) (not (bytes_eq name (codes "use")) && is_none (capability_named name)) first.1 in
     let third = and_parts (not (bytes_eq name (codes "use"))) (is_none (capability_named name)) second.1 in
     record { some = empty-by-length name (not-true (length name == 0) first.0); named = second.0; other = not-true (bytes_eq name (codes "use")) third.0 }
@@ -151,7 +158,8 @@ none-is (Some x) e = cc
 pub user-unknown : (name : List ℕ) → is_user_defined_name name ≡ true → capability_named name ≡ None
 unfolding is_user_defined_name
 user-unknown name h =
-    let first = and_parts (not (length name == 0)) (list_all is_user_defined_byte name && (not (bytes_eq name (codes "use")) && is_none (capability_named name))) h in
+    let first = and_parts (not (length name == 0))
+    (list_all is_user_defined_byte name && (not (bytes_eq name (codes "use")) && is_none (capability_named name))) h in
     let second = and_parts (list_all is_user_defined_byte name) (not (bytes_eq name (codes "use")) && is_none (capability_named name)) first.1 in
     let third = and_parts (not (bytes_eq name (codes "use"))) (is_none (capability_named name)) second.1 in
     none-is (capability_named name) third.1

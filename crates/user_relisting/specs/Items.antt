@@ -84,12 +84,14 @@ pub record IsProfileReadAs (field : List ℕ) (names : List (List ℕ)) (said : 
 -- capabilities as that field and the items of the tables; the others are warnings.
 abbrev pub ItemsAreReadByTheProfile : Type 0
 ItemsAreReadByTheProfile =
-    (field : List ℕ) (names : List (List ℕ)) (items : List Item) (text : List ℕ) → tables.IsListable field names → All CanBeWritten items → IsSource field items text
+    (field : List ℕ) (names : List (List ℕ)) (items : List Item) (text : List ℕ) → tables.IsListable field names → All CanBeWritten items
+    → IsSource field items text
     → IsProfileReadAs field names (filter_map table_said items) (reading_of_text text)
 
 -- A names field and items that can be written, in any layout, are read as what the items give to
 -- user-defined capabilities, without a fault.
 abbrev pub ItemsAreRead : Type 0
 ItemsAreRead =
-    (field : List ℕ) (names : List (List ℕ)) (items : List Item) (text : List ℕ) → tables.IsListable field names → All CanBeWritten items → IsSource field items text
+    (field : List ℕ) (names : List (List ℕ)) (items : List Item) (text : List ℕ) → tables.IsListable field names → All CanBeWritten items
+    → IsSource field items text
     → IsUserReadAs (filter_map user_said items) (user_reading_of_text text)

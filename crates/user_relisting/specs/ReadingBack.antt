@@ -50,7 +50,8 @@ abbrev pub ListingsCompileByTheProfile : Type 0
 ListingsCompileByTheProfile =
     (entry : Extended) (names : List (List ℕ)) (rows : List Row) (layout : Layout) → IsListable entry.entry.names names → CanHaveAll entry.entry.contents
     → entry.rows ≡ as_read rows → AreOfSource rows → ImageFits entry.entry.names entry.entry.contents
-    → (texts : List (List ℕ)) (at : ℕ) → slice_get texts at ≡ Some (extended_listing entry layout) → compiled texts at ≡ Some (image entry.entry.names entry.entry.contents)
+    → (texts : List (List ℕ)) (at : ℕ) → slice_get texts at ≡ Some (extended_listing entry layout)
+    → compiled texts at ≡ Some (image entry.entry.names entry.entry.contents)
 
 -- ---- relative source
 
@@ -67,7 +68,9 @@ differing_said kind entry others =
 -- what it says of user-defined names, and then a use of each of the others
 abbrev pub relative_said : Extended → List Extended → List UserSaid
 relative_said entry others =
-    differing_said Flag entry others ++ (differing_said Number entry others ++ (differing_said Text entry others ++ map (λ (other : Extended). imports (first_name other.entry.names)) others))
+    differing_said Flag entry others
+    ++ (differing_said Number entry others
+    ++ (differing_said Text entry others ++ map (λ (other : Extended). imports (first_name other.entry.names)) others))
 
 -- a value, if there is one, has a text that is read as it
 abbrev pub IsWritableIfSome : Option Content → Type 0
@@ -118,7 +121,8 @@ pub record CanBeListed (entry : Extended) : Type 0 where
 -- In whatever source it is, the listing of such an entry says of each user-defined name what the
 -- entry has.
 abbrev pub ListingsSayTheEntry : Type 0
-ListingsSayTheEntry = (entry : Extended) (layout : Layout) (texts : List (List ℕ)) → CanBeListed entry → IsUserTableOf texts (extended_listing entry layout) (said entry.rows)
+ListingsSayTheEntry =
+    (entry : Extended) (layout : Layout) (texts : List (List ℕ)) → CanBeListed entry → IsUserTableOf texts (extended_listing entry layout) (said entry.rows)
 
 -- And without user-defined capabilities it says of each capability of the tables what the entry has.
 abbrev pub ListingsSayTheTables : Type 0

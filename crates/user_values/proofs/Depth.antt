@@ -1,5 +1,6 @@
 -- An expansion is equal at each greater depth.
-use Rattle.std.proofs.Common.{◌≡◌, ℕ, zero, suc, ◌+◌, ◌-◌, ◌≤◌, Bool, true, false, cond, List, [], ◌∷◌, ◌++◌, Option, Some, None, is_some, option_and_then, refl, sym, ap, ◌∙◌, arith, append_assoc}
+use Rattle.std.proofs.Common.{◌≡◌, ℕ, zero, suc, ◌+◌, ◌-◌, ◌≤◌, Bool, true, false, cond, List, [], ◌∷◌, ◌++◌, Option, Some, None, is_some, option_and_then}
+use Rattle.std.proofs.Common.{refl, sym, ap, ◌∙◌, arith, append_assoc}
 use Rattle.std.specs.Option.{option_or}
 use Rattle.std.specs.Str.{bytes_eq}
 use Rattle.std.proofs.lemmas.Bool.{false≢true}
@@ -48,7 +49,8 @@ expand_items-append f (i ∷ is) js =
 pub first_said-append : (xs ys : List UserMention) (name : List ℕ) → first_said (xs ++ ys) name ≡ option_or (first_said xs name) (first_said ys name)
 first_said-append [] ys name = refl
 first_said-append (x ∷ xs) ys name =
-    elim (bytes_eq x.0 name) as (λ b. cond b (Some x.1) (first_said (xs ++ ys) name) ≡ option_or (cond b (Some x.1) (first_said xs name)) (first_said ys name)) [
+    elim (bytes_eq x.0 name) as (λ b. cond b (Some x.1) (first_said (xs ++ ys) name) ≡ option_or (cond b (Some x.1) (first_said xs name))
+    (first_said ys name)) [
       | true ↦ refl
       | false ↦ first_said-append xs ys name
     ]
@@ -65,7 +67,8 @@ mentions_of-more : (f g : Names) → GivesMore f g → (said : UserSaid) (ms : L
 mentions_of-more f g h (says name content) ms e = e
 mentions_of-more f g h (imports name) ms e = h name ms e
 
-pub expand_items-more : (f g : Names) → GivesMore f g → (items : List ReadUserItem) (ms : List UserMention) → expand_items f items ≡ Some ms → expand_items g items ≡ Some ms
+pub expand_items-more : (f g : Names) → GivesMore f g → (items : List ReadUserItem) (ms : List UserMention) → expand_items f items ≡ Some ms
+    → expand_items g items ≡ Some ms
 expand_items-more f g h [] ms e = e
 expand_items-more f g h (i ∷ is) ms e =
     let p = joined_parts (mentions_of f i.said) (expand_items f is) ms e in
@@ -74,7 +77,8 @@ expand_items-more f g h (i ∷ is) ms e =
 abbrev pub names_at : List (List ℕ) → ℕ → Names
 names_at texts depth name = option_and_then (expand texts depth) (owner_text texts name)
 
-and_then-more : (f g : List ℕ → Mentions) → ((t : List ℕ) (ms : List UserMention) → f t ≡ Some ms → g t ≡ Some ms) → (o : Option (List ℕ)) (ms : List UserMention) → option_and_then f o ≡ Some ms → option_and_then g o ≡ Some ms
+and_then-more : (f g : List ℕ → Mentions) → ((t : List ℕ) (ms : List UserMention) → f t ≡ Some ms → g t ≡ Some ms)
+    → (o : Option (List ℕ)) (ms : List UserMention) → option_and_then f o ≡ Some ms → option_and_then g o ≡ Some ms
 and_then-more f g h None ms e = absurd (none-some ms e)
 and_then-more f g h (Some t) ms e = h t ms e
 
@@ -85,7 +89,8 @@ if_sound false o q ms h e = h e
 expand-suc : (texts : List (List ℕ)) (k : ℕ) (t : List ℕ) (ms : List UserMention) → expand texts k t ≡ Some ms → expand texts (suc k) t ≡ Some ms
 expand-suc texts zero t ms e = absurd (none-some ms e)
 expand-suc texts (suc k) t ms e =
-    if_sound (is_broken (reading_of_text t)) (expand_items (names_at texts k) (user_reading_of_text t).items) (expand_items (names_at texts (suc k)) (user_reading_of_text t).items) ms
+    if_sound (is_broken (reading_of_text t)) (expand_items (names_at texts k) (user_reading_of_text t).items)
+    (expand_items (names_at texts (suc k)) (user_reading_of_text t).items) ms
     (expand_items-more (names_at texts k) (names_at texts (suc k))
     (λ name. and_then-more (expand texts k) (expand texts (suc k)) (expand-suc texts k) (owner_text texts name)) (user_reading_of_text t).items ms) e
 

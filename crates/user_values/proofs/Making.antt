@@ -1,5 +1,6 @@
 -- The table of a block, made item by item.
-use Rattle.std.proofs.Common.{◌≡◌, ℕ, zero, suc, ◌+◌, ◌<◌, ◌≤◌, List, [], ◌∷◌, ◌++◌, map, length, Option, Some, None, is_some, option_and_then, slice_get, refl, sym, ap, ◌∙◌}
+use Rattle.std.proofs.Common.{◌≡◌, ℕ, zero, suc, ◌+◌, ◌<◌, ◌≤◌, List, [], ◌∷◌, ◌++◌, map, length, Option, Some, None, is_some, option_and_then, slice_get}
+use Rattle.std.proofs.Common.{refl, sym, ap, ◌∙◌}
 use Rattle.std.specs.Option.{option_map, option_or, IsSome}
 use Rattle.std.proofs.lemmas.Bool.{false≢true}
 use Rattle.std.proofs.lemmas.List.{length-map, take_all}
@@ -35,7 +36,8 @@ append_none : {X : Type 0} (xs : List X) → xs ++ [] ≡ xs
 append_none [] = refl
 append_none (x ∷ xs) = ap (λ ys. x ∷ ys) (append_none xs)
 
-pub table_of_one_more : (texts : List (List ℕ)) (items : List ReadUserItem) (item : ReadUserItem) (old new : Said) → IsTableOfItems texts items old → AddsSaid texts item.said old new
+pub table_of_one_more : (texts : List (List ℕ)) (items : List ReadUserItem) (item : ReadUserItem) (old new : Said) → IsTableOfItems texts items old
+    → AddsSaid texts item.said old new
     → IsTableOfItems texts (items ++ item ∷ []) new
 table_of_one_more texts items item old new h a =
     let f = names_at texts in
@@ -56,8 +58,11 @@ pub table_of_block : (texts : List (List ℕ)) (at : ℕ) (text : List ℕ) (sai
     → IsTableOfItems texts (user_reading_of_text text).items said → IsUserTableOf texts text said
 table_of_block texts at text said stands some h =
     let whole = some_from (expansion texts text) some in
-    let sound = (expands texts (suc (length texts)) text whole.0 whole.1).sound in
-    (h.mentions, found texts at (suc (suc (length texts))) text h.mentions stands (expanded texts (suc (length texts)) text h.mentions sound h.expands_to), h.is)
+    let sound = (expands texts (suc (length texts)) text whole.0 whole.1).sound in (
+      h.mentions,
+      found texts at (suc (suc (length texts))) text h.mentions stands (expanded texts (suc (length texts)) text h.mentions sound h.expands_to),
+      h.is,
+    )
 
 -- ---- what a block that expands uses
 
@@ -101,25 +106,30 @@ used_owner texts depth text ms k item name e s i =
 
 -- ---- the items in memory are those of the text
 
-pub item_read : (texts : List (List ℕ)) (reads : List UserItems) (at : ℕ) (text : List ℕ) (read : UserItems) → map user_reading_of reads ≡ map user_reading_of_text texts
+pub item_read : (texts : List (List ℕ)) (reads : List UserItems) (at : ℕ) (text : List ℕ) (read : UserItems)
+    → map user_reading_of reads ≡ map user_reading_of_text texts
     → slice_get texts at ≡ Some text → slice_get reads at ≡ Some read → user_reading_of read ≡ user_reading_of_text text
 item_read texts reads at text read e t r =
     same_Some (user_reading_of read) (user_reading_of_text text)
-    (sym (slice_get-map user_reading_of reads at ∙ ap (option_map user_reading_of) r) ∙ ap (λ xs. slice_get xs at) e ∙ slice_get-map user_reading_of_text texts at ∙ ap (option_map user_reading_of_text) t)
+    (sym (slice_get-map user_reading_of reads at ∙ ap (option_map user_reading_of) r) ∙ ap (λ xs. slice_get xs at) e
+    ∙ slice_get-map user_reading_of_text texts at ∙ ap (option_map user_reading_of_text) t)
 
-pub read_at : (texts : List (List ℕ)) (reads : List UserItems) (at : ℕ) (read : UserItems) → map user_reading_of reads ≡ map user_reading_of_text texts → at < length texts → read ≡ get_or reads at read
+pub read_at : (texts : List (List ℕ)) (reads : List UserItems) (at : ℕ) (read : UserItems) → map user_reading_of reads ≡ map user_reading_of_text texts
+    → at < length texts → read ≡ get_or reads at read
     → slice_get reads at ≡ Some read
 read_at texts reads at read e within is =
     let n : length texts ≡ length reads = sym (sym (length-map reads user_reading_of) ∙ ap length e ∙ length-map texts user_reading_of_text) in
     slice_get_read reads (length texts) at read n within is
 
-pub item_here : (text : List ℕ) (read : UserItems) (items : List UserItem) (index : ℕ) (item : UserItem) → user_reading_of read ≡ user_reading_of_text text → items ≡ read.items.items → index < length items → item ≡ get_or items index item
+pub item_here : (text : List ℕ) (read : UserItems) (items : List UserItem) (index : ℕ) (item : UserItem) → user_reading_of read ≡ user_reading_of_text text
+    → items ≡ read.items.items → index < length items → item ≡ get_or items index item
     → slice_get (user_reading_of_text text).items index ≡ Some (user_item_of item)
 item_here text read items index item same d within is =
     ap (λ (b : UserBlock). slice_get b.items index) (sym same) ∙ slice_get-map user_item_of read.items.items index
     ∙ ap (option_map user_item_of) (ap (λ (xs : List UserItem). slice_get xs index) (sym d) ∙ slice_get_read items (length items) index item refl within is)
 
-pub items_whole : (text : List ℕ) (read : UserItems) (items : List UserItem) (index : ℕ) → user_reading_of read ≡ user_reading_of_text text → items ≡ read.items.items → length items ≤ index
+pub items_whole : (text : List ℕ) (read : UserItems) (items : List UserItem) (index : ℕ) → user_reading_of read ≡ user_reading_of_text text
+    → items ≡ read.items.items → length items ≤ index
     → map user_item_of (take index items) ≡ (user_reading_of_text text).items
 items_whole text read items index same d past = ap (map user_item_of) (take_all index items past ∙ d) ∙ ap (λ (b : UserBlock). b.items) same
 
@@ -129,12 +139,14 @@ none_here : {X : Type 0} (o : Option X) → is_some o ≡ false → o ≡ None
 none_here None e = refl
 none_here (Some x) e = absurd (false≢true (sym e))
 
-pub unresolved : (texts : List (List ℕ)) (text : List ℕ) {B : Type 0} (f : B → List Mention) (r : Option B) → is_some r ≡ false → HasTable contents (readings texts) (reading_of_text text) (option_map f r)
+pub unresolved : (texts : List (List ℕ)) (text : List ℕ) {B : Type 0} (f : B → List Mention) (r : Option B) → is_some r ≡ false
+    → HasTable contents (readings texts) (reading_of_text text) (option_map f r)
     → expansion texts text ≡ None
 unresolved texts text f None e h = none_here (expansion texts text) (as_resolved texts text ∙ ap is_some h)
 unresolved texts text f (Some b) e h = absurd (false≢true (sym e))
 
-pub resolved : (texts : List (List ℕ)) (text : List ℕ) {B : Type 0} (f : B → List Mention) (r : Option B) → is_some r ≡ true → HasTable contents (readings texts) (reading_of_text text) (option_map f r)
+pub resolved : (texts : List (List ℕ)) (text : List ℕ) {B : Type 0} (f : B → List Mention) (r : Option B) → is_some r ≡ true
+    → HasTable contents (readings texts) (reading_of_text text) (option_map f r)
     → IsSome (expansion texts text)
 resolved texts text f None e h = absurd (false≢true e)
 resolved texts text f (Some b) e h =

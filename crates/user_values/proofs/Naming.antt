@@ -1,5 +1,6 @@
 -- Names that are found one after the other.
-use Rattle.std.proofs.Common.{◌≡◌, ℕ, ◌+◌, ◌<◌, ◌≤◌, Bool, true, false, ◌||◌, cond, List, [], ◌∷◌, ◌++◌, map, length, take, drop, get_or, Option, Some, None, is_some, refl, sym, ap, ◌∙◌, subst, arith, append-nil, length-append}
+use Rattle.std.proofs.Common.{◌≡◌, ℕ, ◌+◌, ◌<◌, ◌≤◌, Bool, true, false, ◌||◌, cond, List, [], ◌∷◌, ◌++◌, map, length, take, drop, get_or, Option, Some}
+use Rattle.std.proofs.Common.{None, is_some, refl, sym, ap, ◌∙◌, subst, arith, append-nil, length-append}
 use Rattle.std.specs.List.{flat_map, list_any}
 use Rattle.std.specs.Option.{option_or}
 use Rattle.std.specs.Str.{bytes_eq}
@@ -35,14 +36,17 @@ or_some (Some x) b c = refl
 abbrev chosen : List (List ℕ) → List ℕ → Bool → List (List ℕ)
 chosen names name b = cond b names (names ++ name ∷ [])
 
-pub found_again : (names : List (List ℕ)) (name : List ℕ) (found : NamesFound) → AreFound names found → is_some (said_at found.table name) ≡ true → AreFound (with_name names name) found
+pub found_again : (names : List (List ℕ)) (name : List ℕ) (found : NamesFound) → AreFound names found → is_some (said_at found.table name) ≡ true
+    → AreFound (with_name names name) found
 found_again names name found h e = subst (λ b. AreFound (chosen names name b) found) (sym e ∙ h.each name) h
 
-pub one_too_many : (names : List (List ℕ)) (name : List ℕ) (found : NamesFound) → AreFound names found → is_some (said_at found.table name) ≡ false → 1024 ≤ found.count → 1024 < length (with_name names name)
+pub one_too_many : (names : List (List ℕ)) (name : List ℕ) (found : NamesFound) → AreFound names found → is_some (said_at found.table name) ≡ false
+    → 1024 ≤ found.count → 1024 < length (with_name names name)
 one_too_many names name found h e full =
     subst (λ b. 1024 < length (chosen names name b)) (sym e ∙ h.each name) (let c = h.counted in omega (arith, c, full, length-append names (name ∷ [])))
 
-pub found_one : (names : List (List ℕ)) (name : List ℕ) (content : Content) (found new : NamesFound) → AreFound names found → is_some (said_at found.table name) ≡ false → new.count ≡ found.count + 1
+pub found_one : (names : List (List ℕ)) (name : List ℕ) (content : Content) (found new : NamesFound) → AreFound names found
+    → is_some (said_at found.table name) ≡ false → new.count ≡ found.count + 1
     → ((other : List ℕ) → said_at new.table other ≡ option_or (said_at found.table other) (said_once name content other)) → AreFound (with_name names name) new
 found_one names name content found new h e more said =
     subst (λ b. AreFound (chosen names name b) new) (sym e ∙ h.each name) (record {
@@ -56,7 +60,11 @@ found_one names name content found new h e more said =
 
 with_name-longer : (names : List (List ℕ)) (name : List ℕ) → length names ≤ length (with_name names name)
 with_name-longer names name =
-    elim (has_name names name) as (λ b. length names ≤ length (chosen names name b)) [ true ↦ omega arith | false ↦ omega (arith, length-append names (name ∷ [])) ]
+    elim (has_name names name) as (λ b. length names ≤ length (chosen names name b)) [
+      | true ↦ omega arith
+      | false ↦
+          omega (arith, length-append names (name ∷ []))
+    ]
 
 pub distinct_after-longer : (found names : List (List ℕ)) → length found ≤ length (distinct_after found names)
 distinct_after-longer found [] = omega arith
@@ -89,7 +97,8 @@ names_in-more reads n d lt =
 
 -- ---- the blocks of a source
 
-taken : (reads : List UserItems) (texts : List (List ℕ)) (n : ℕ) → map user_reading_of reads ≡ map user_reading_of_text texts → map user_reading_of (take n reads) ≡ map user_reading_of_text (take n texts)
+taken : (reads : List UserItems) (texts : List (List ℕ)) (n : ℕ) → map user_reading_of reads ≡ map user_reading_of_text texts
+    → map user_reading_of (take n reads) ≡ map user_reading_of_text (take n texts)
 taken reads texts n e = sym (take-map user_reading_of n reads) ∙ ap (take n) e ∙ take-map user_reading_of_text n texts
 
 pub count_is : (reads : List UserItems) (texts : List (List ℕ)) (n : ℕ) → map user_reading_of reads ≡ map user_reading_of_text texts
@@ -100,27 +109,32 @@ pub few_so_far : (reads : List UserItems) (texts : List (List ℕ)) → map user
     → length (distinct_after [] (names_in (map user_reading_of reads))) ≤ name_limit → name_count texts (length texts) ≤ name_limit
 few_so_far reads texts e few =
     let whole : length (distinct_after [] (names_in (map user_reading_of reads))) ≡ name_count texts (length texts) =
-    ap (λ (bs : List UserBlock). length (distinct_after [] (names_in bs))) (e ∙ ap (map user_reading_of_text) (sym (take_all (length texts) texts (omega arith)))) in
+    ap (λ (bs : List UserBlock). length (distinct_after [] (names_in bs)))
+    (e ∙ ap (map user_reading_of_text) (sym (take_all (length texts) texts (omega arith)))) in
     omega (arith, whole, few)
 
 pub over_limit : (reads : List UserItems) (texts : List (List ℕ)) (at : ℕ) → map user_reading_of reads ≡ map user_reading_of_text texts → at < length reads
-    → length (distinct_after [] (names_in (map user_reading_of (take at reads)))) ≤ name_limit → name_limit < length (distinct_after [] (names_in (map user_reading_of (take (at + 1) reads))))
+    → length (distinct_after [] (names_in (map user_reading_of (take at reads)))) ≤ name_limit
+    → name_limit < length (distinct_after [] (names_in (map user_reading_of (take (at + 1) reads))))
     → IsOverLimitAt texts at
 over_limit reads texts at e lt few over =
-    let long : length reads ≡ length texts = sym (length-map reads user_reading_of) ∙ ap (λ (bs : List UserBlock). length bs) e ∙ length-map texts user_reading_of_text in
+    let long : length reads ≡ length texts =
+    sym (length-map reads user_reading_of) ∙ ap (λ (bs : List UserBlock). length bs) e ∙ length-map texts user_reading_of_text in
     let before = count_is reads texts at e in
     let after = count_is reads texts (at + 1) e in
     record { within = omega (arith, long, lt); before = omega (arith, before, few); over = omega (arith, after, over) }
 
 pub found_more : (items : List UserItem) (n : ℕ) (item : UserItem) (names : List (List ℕ)) → n < length items → item ≡ get_or items n item
-    → distinct_after names (names_of (map user_item_of (take (n + 1) items))) ≡ distinct_after (distinct_after names (names_of (map user_item_of (take n items)))) (name_said (user_item_of item).said)
+    → distinct_after names (names_of (map user_item_of (take (n + 1) items))) ≡ distinct_after
+    (distinct_after names (names_of (map user_item_of (take n items)))) (name_said (user_item_of item).said)
 found_more items n item names lt is =
     let front = names_of (map user_item_of (take n items)) in
     ap (distinct_after names) (names_of-more items n item lt ∙ ap (λ (i : UserItem). front ++ name_said (user_item_of i).said) (sym is))
     ∙ distinct_after-append names front (name_said (user_item_of item).said)
 
 pub found_in_more : (reads : List UserItems) (n : ℕ) (read : UserItems) (names : List (List ℕ)) → n < length reads → read ≡ get_or reads n read
-    → distinct_after names (names_in (map user_reading_of (take (n + 1) reads))) ≡ distinct_after (distinct_after names (names_in (map user_reading_of (take n reads)))) (names_of (user_reading_of read).items)
+    → distinct_after names (names_in (map user_reading_of (take (n + 1) reads))) ≡ distinct_after
+    (distinct_after names (names_in (map user_reading_of (take n reads)))) (names_of (user_reading_of read).items)
 found_in_more reads n read names lt is =
     let front = names_in (map user_reading_of (take n reads)) in
     ap (distinct_after names) (names_in-more reads n read lt ∙ ap (λ (r : UserItems). front ++ names_of (user_reading_of r).items) (sym is))
@@ -132,7 +146,8 @@ longer_with_all items n names =
     let front = names_of (map user_item_of (take n items)) in
     let back = names_of (map user_item_of (drop n items)) in
     let e : names_of (map user_item_of items) ≡ front ++ back =
-    ap (λ (xs : List UserItem). names_of (map user_item_of xs)) (sym (take-append-drop n items)) ∙ ap (λ (xs : List ReadUserItem). names_of xs) (map-append user_item_of (take n items) (drop n items))
+    ap (λ (xs : List UserItem). names_of (map user_item_of xs)) (sym (take-append-drop n items))
+    ∙ ap (λ (xs : List ReadUserItem). names_of xs) (map-append user_item_of (take n items) (drop n items))
     ∙ flat_map-append (λ (i : ReadUserItem). name_said i.said) (map user_item_of (take n items)) (map user_item_of (drop n items)) in
     let whole = ap (λ (xs : List (List ℕ)). length xs) (ap (distinct_after names) e ∙ distinct_after-append names front back) in
     omega (arith, whole, distinct_after-longer (distinct_after names front) back)

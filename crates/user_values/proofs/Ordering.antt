@@ -1,5 +1,6 @@
 -- Each block that resolves comes after those that it uses.
-use Rattle.std.proofs.Common.{◌≡◌, ℕ, zero, suc, ◌+◌, ◌<◌, ◌≤◌, inl, inr, List, [], ◌∷◌, map, length, set, Option, Some, None, slice_get, refl, sym, ap, ◌∙◌, arith, subst}
+use Rattle.std.proofs.Common.{◌≡◌, ℕ, zero, suc, ◌+◌, ◌<◌, ◌≤◌, inl, inr, List, [], ◌∷◌, map, length, set, Option, Some, None, slice_get, refl, sym, ap}
+use Rattle.std.proofs.Common.{◌∙◌, arith, subst}
 use Rattle.std.specs.Option.{option_map, IsSome}
 use Rattle.std.proofs.lemmas.Bool.{cases_eq}
 use Rattle.std.proofs.lemmas.List.{length-map, length-set}
@@ -26,7 +27,8 @@ graph_of texts = rows_of texts (map user_reading_of_text texts)
 
 -- ---- edges are uses
 
-row_at : (texts : List (List ℕ)) (at : ℕ) → slice_get (graph_of texts) at ≡ option_map (λ b. row_of texts b.items) (option_map user_reading_of_text (slice_get texts at))
+row_at : (texts : List (List ℕ)) (at : ℕ) → slice_get (graph_of texts) at ≡ option_map (λ b. row_of texts b.items)
+    (option_map user_reading_of_text (slice_get texts at))
 row_at texts at =
     slice_get-map (λ (b : UserBlock). row_of texts b.items) (map user_reading_of_text texts) at
     ∙ ap (option_map (λ (b : UserBlock). row_of texts b.items)) (slice_get-map user_reading_of_text texts at)
@@ -42,17 +44,20 @@ pub record IsUse (texts : List (List ℕ)) (from to : ℕ) : Type 0 where
   pub used : item.said ≡ imports name
   pub owned : owner (readings texts) name ≡ Some to
 
-said_use : (texts : List (List ℕ)) (said : UserSaid) (to : ℕ) → used_block texts said ≡ Some to → (name : List ℕ) × (said ≡ imports name) × (owner (readings texts) name ≡ Some to)
+said_use : (texts : List (List ℕ)) (said : UserSaid) (to : ℕ) → used_block texts said ≡ Some to → (name : List ℕ) × (said ≡ imports name)
+    × (owner (readings texts) name ≡ Some to)
 said_use texts (says name content) to e = absurd (none-some to e)
 said_use texts (imports name) to e = (name, refl, e)
 
 edge_is_use : (texts : List (List ℕ)) (from to : ℕ) → HasEdge (graph_of texts) from to → IsUse texts from to
 edge_is_use texts from to edge =
-    let block = mapped (λ (b : UserBlock). row_of texts b.items) (option_map user_reading_of_text (slice_get texts from)) edge.row (sym (row_at texts from) ∙ edge.stands) in
+    let block = mapped (λ (b : UserBlock). row_of texts b.items) (option_map user_reading_of_text (slice_get texts from)) edge.row
+    (sym (row_at texts from) ∙ edge.stands) in
     let text = mapped user_reading_of_text (slice_get texts from) block.0 block.1 in
     let items = (user_reading_of_text text.0).items in
     let row : row_of texts items ≡ edge.row = ap (λ (b : UserBlock). row_of texts b.items) text.2 ∙ block.2 in
-    let item = mapped (edge_of texts) (slice_get items edge.place) (Some to) (sym (slice_get-map (edge_of texts) items edge.place) ∙ ap (λ r. slice_get r edge.place) row ∙ edge.leads) in
+    let item = mapped (edge_of texts) (slice_get items edge.place) (Some to) (sym (slice_get-map (edge_of texts) items edge.place)
+    ∙ ap (λ r. slice_get r edge.place) row ∙ edge.leads) in
     let use_of = said_use texts item.0.said to item.2 in
     record { text = text.0; k = edge.place; item = item.0; name = use_of.0; stands = text.1; here = item.1; used = use_of.1; owned = use_of.2 }
 
@@ -63,7 +68,8 @@ use_is_edge texts from to u =
       row = row_of texts items;
       place = u.k;
       stands = row_at texts from ∙ ap (λ o. option_map (λ (b : UserBlock). row_of texts b.items) (option_map user_reading_of_text o)) u.stands;
-      leads = slice_get-map (edge_of texts) items u.k ∙ ap (option_map (edge_of texts)) u.here ∙ ap (λ s. Some (used_block texts s)) u.used ∙ ap (λ o. Some o) u.owned;
+      leads = slice_get-map (edge_of texts) items u.k ∙ ap (option_map (edge_of texts)) u.here ∙ ap (λ s. Some (used_block texts s)) u.used
+          ∙ ap (λ o. Some o) u.owned;
     }
 
 owner_within : (texts : List (List ℕ)) (name : List ℕ) (at : ℕ) → owner (readings texts) name ≡ Some at → at < length texts
@@ -94,15 +100,18 @@ pub record ExpandsAt (texts : List (List ℕ)) (depth at : ℕ) : Type 0 where
   pub stands : slice_get texts at ≡ Some text
   pub expands_to : expand texts depth text ≡ Some mentions
 
-along_edge : (texts : List (List ℕ)) (depth from to : ℕ) → ExpandsAt texts depth from → HasEdge (graph_of texts) from to → (below : ℕ) × (depth ≡ suc below) × ExpandsAt texts below to
+along_edge : (texts : List (List ℕ)) (depth from to : ℕ) → ExpandsAt texts depth from → HasEdge (graph_of texts) from to → (below : ℕ) × (depth ≡ suc below)
+    × ExpandsAt texts below to
 along_edge texts depth from to e edge =
     let u = edge_is_use texts from to edge in
     let text : u.text ≡ e.text = same_Some u.text e.text (sym u.stands ∙ e.stands) in
-    let o = used_owner texts depth e.text e.mentions u.k u.item u.name e.expands_to (ap (λ t. slice_get (user_reading_of_text t).items u.k) (sym text) ∙ u.here) u.used in
+    let o = used_owner texts depth e.text e.mentions u.k u.item u.name e.expands_to (ap (λ t. slice_get (user_reading_of_text t).items u.k) (sym text)
+    ∙ u.here) u.used in
     let at : o.at ≡ to = same_Some o.at to (sym o.owned ∙ u.owned) in
     (o.below, o.deeper, record { text = o.text; mentions = o.mentions; stands = ap (slice_get texts) (sym at) ∙ o.stands; expands_to = o.expands_to })
 
-along_way : (texts : List (List ℕ)) (depth from : ℕ) (way : List ℕ) (to : ℕ) → ExpandsAt texts depth from → IsWay (graph_of texts) from way to → (below : ℕ) × (below ≤ depth) × ExpandsAt texts below to
+along_way : (texts : List (List ℕ)) (depth from : ℕ) (way : List ℕ) (to : ℕ) → ExpandsAt texts depth from → IsWay (graph_of texts) from way to → (below : ℕ)
+    × (below ≤ depth) × ExpandsAt texts below to
 along_way texts depth from [] to e w = (depth, omega arith, subst (ExpandsAt texts depth) w e)
 along_way texts depth from (next ∷ way) to e w =
     let one = along_edge texts depth from next e w.0 in
@@ -111,7 +120,8 @@ along_way texts depth from (next ∷ way) to e w =
     let l = rest.1 in
     (rest.0, omega arith, rest.2)
 
-no_cycle : (texts : List (List ℕ)) (bound depth u w : ℕ) → depth < bound → ExpandsAt texts depth u → HasEdge (graph_of texts) u w → Leads (graph_of texts) w u → ⊥
+no_cycle : (texts : List (List ℕ)) (bound depth u w : ℕ) → depth < bound → ExpandsAt texts depth u → HasEdge (graph_of texts) u w
+    → Leads (graph_of texts) w u → ⊥
 no_cycle texts zero depth u w l e edge back = omega arith
 no_cycle texts (suc bound) depth u w l e edge back =
     let one = along_edge texts depth u w e edge in
@@ -125,13 +135,15 @@ no_cycle texts (suc bound) depth u w l e edge back =
 -- those before one place of the order are made
 pub record AreMade (texts : List (List ℕ)) (order : List ℕ) (tables : List (Option UserTable)) (end : ℕ) : Type 0 where
   pub as_many : length tables ≡ length texts
-  pub done : (j node : ℕ) (text : List ℕ) (table : Option UserTable) → j < end → slice_get order j ≡ Some node → slice_get texts node ≡ Some text → slice_get tables node ≡ Some table
+  pub done : (j node : ℕ) (text : List ℕ) (table : Option UserTable) → j < end → slice_get order j ≡ Some node → slice_get texts node ≡ Some text
+      → slice_get tables node ≡ Some table
       → HasUserTable texts text table
 
 pub none_made : (texts : List (List ℕ)) (order : List ℕ) (tables : List (Option UserTable)) → length tables ≡ length texts → AreMade texts order tables 0
 none_made texts order tables n = record { as_many = n; done = λ j node text table l. absurd (omega arith) }
 
-pub one_made : (texts : List (List ℕ)) (order : List ℕ) (tables : List (Option UserTable)) (end node : ℕ) (one : Option UserTable) → AreMade texts order tables end → slice_get order end ≡ Some node → node < length tables
+pub one_made : (texts : List (List ℕ)) (order : List ℕ) (tables : List (Option UserTable)) (end node : ℕ) (one : Option UserTable)
+    → AreMade texts order tables end → slice_get order end ≡ Some node → node < length tables
     → ((text : List ℕ) → slice_get texts node ≡ Some text → HasUserTable texts text one) → AreMade texts order (set tables node one) (end + 1)
 one_made texts order tables end node one h o l right = record {
   as_many = length-set tables node one ∙ h.as_many;
@@ -147,14 +159,16 @@ one_made texts order tables end node one h o l right = record {
   stands : (tables : List (Option UserTable)) (node : ℕ) (one : Option UserTable) → node < length tables → slice_get (set tables node one) node ≡ Some one
   stands tables node one l = let w = item_at tables node l in get-set_same tables node w.0 one w.1
 
-  earlier : (order : List ℕ) (end node j other : ℕ) → slice_get order end ≡ Some node → slice_get order j ≡ Some other → (other ≡ node → ⊥) → j < end + 1 → j < end
+  earlier : (order : List ℕ) (end node j other : ℕ) → slice_get order end ≡ Some node → slice_get order j ≡ Some other → (other ≡ node → ⊥) → j < end + 1
+      → j < end
   earlier order end node j other o e apart m =
       elim (cases_eq j end) [
         | inl same ↦ absurd (apart (same_Some other node (sym e ∙ (ap (slice_get order) same ∙ o))))
         | inr other_place ↦ omega arith
       ]
 
-pub all_made : (texts : List (List ℕ)) (component_of order : List ℕ) (tables : List (Option UserTable)) (end : ℕ) → IsClosingOrder (graph_of texts) component_of order → length order ≤ end → AreMade texts order tables end → AreUserTables texts tables
+pub all_made : (texts : List (List ℕ)) (component_of order : List ℕ) (tables : List (Option UserTable)) (end : ℕ)
+    → IsClosingOrder (graph_of texts) component_of order → length order ≤ end → AreMade texts order tables end → AreUserTables texts tables
 all_made texts component_of order tables end c past h = record {
   as_many = h.as_many;
   each = λ at text table t s.
@@ -166,8 +180,10 @@ all_made texts component_of order tables end c past h = record {
 }
 
 -- the owners of a block that resolves are made before it
-pub owners_made : (texts : List (List ℕ)) (component_of order : List ℕ) (tables : List (Option UserTable)) (end node : ℕ) (text : List ℕ) → AreComponents (graph_of texts) component_of → IsClosingOrder (graph_of texts) component_of order
-    → AreMade texts order tables end → slice_get order end ≡ Some node → slice_get texts node ≡ Some text → IsSome (expansion texts text) → OwnersAreDone texts tables text
+pub owners_made : (texts : List (List ℕ)) (component_of order : List ℕ) (tables : List (Option UserTable)) (end node : ℕ) (text : List ℕ)
+    → AreComponents (graph_of texts) component_of → IsClosingOrder (graph_of texts) component_of order
+    → AreMade texts order tables end → slice_get order end ≡ Some node → slice_get texts node ≡ Some text → IsSome (expansion texts text)
+    → OwnersAreDone texts tables text
 owners_made texts component_of order tables end node text comps c h o t some = λ k item name s i.
     let whole = some_from (expansion texts text) some in
     let u = used_owner texts (suc (length texts)) text whole.0 k item name whole.1 s i in
@@ -182,13 +198,16 @@ owners_made texts component_of order tables end node text comps c h o t some = �
     let before : w.0 < end = elim (c.before end w.0 node u.at first.0 second.0 o w.1 first.1 second.1 edge) [
       | inl same ↦
           let both = (comps.same node u.at first.0 second.0 first.1 second.1).0 same in
-          absurd (no_cycle texts (suc (suc (length texts))) (suc (length texts)) node u.at (omega arith) (record { text = text; mentions = whole.0; stands = t; expands_to = whole.1 }) edge both.1)
+          absurd (no_cycle texts (suc (suc (length texts))) (suc (length texts)) node u.at (omega arith)
+          (record { text = text; mentions = whole.0; stands = t; expands_to = whole.1 }) edge both.1)
       | inr l ↦ l
     ] in
     let right = h.done w.0 u.at u.text made.0 before w.1 u.stands made.1 in
     owner_done texts tables name u.at u.text made.0 u.owned u.stands made.1 (found texts u.at u.below u.text u.mentions u.stands u.expands_to) right
   where
-    owner_done : (texts : List (List ℕ)) (tables : List (Option UserTable)) (name : List ℕ) (at : ℕ) (text : List ℕ) (table : Option UserTable) {ms : List UserMention} → owner (readings texts) name ≡ Some at
-        → slice_get texts at ≡ Some text → slice_get tables at ≡ Some table → expansion texts text ≡ Some ms → HasUserTable texts text table → OwnerIsDone texts tables name
+    owner_done : (texts : List (List ℕ)) (tables : List (Option UserTable)) (name : List ℕ) (at : ℕ) (text : List ℕ)
+        (table : Option UserTable) {ms : List UserMention} → owner (readings texts) name ≡ Some at
+        → slice_get texts at ≡ Some text → slice_get tables at ≡ Some table → expansion texts text ≡ Some ms → HasUserTable texts text table
+        → OwnerIsDone texts tables name
     owner_done texts tables name at text None {ms} o t s e none = absurd (none-some ms (sym none ∙ e))
     owner_done texts tables name at text (Some table) o t s e is = record { at = at; text = text; table = table; owned = o; stands = t; made = s; is = is }

@@ -1,5 +1,6 @@
 -- A block has user-defined values exactly where it resolves.
-use Rattle.std.proofs.Common.{◌≡◌, ℕ, zero, suc, ◌+◌, ◌≤◌, Bool, true, false, cond, List, [], ◌∷◌, ◌++◌, map, length, Option, Some, None, is_some, option_and_then, slice_get, refl, sym, ap, ◌∙◌, inl, inr}
+use Rattle.std.proofs.Common.{◌≡◌, ℕ, zero, suc, ◌+◌, ◌≤◌, Bool, true, false, cond, List, [], ◌∷◌, ◌++◌, map, length, Option, Some, None, is_some}
+use Rattle.std.proofs.Common.{option_and_then, slice_get, refl, sym, ap, ◌∙◌, inl, inr}
 use Rattle.std.specs.Prelude.{Result, Ok, Err}
 use Rattle.std.specs.Option.{option_map}
 use Rattle.std.proofs.lemmas.Bool.{false≢true, cases_Bool}
@@ -17,7 +18,8 @@ use Rattle.ti_source.specs.inside.Parsing.{judged_as as judged_as_there, judged_
 use Rattle.ti_source.specs.Walking.{block_items}
 use Rattle.ti_source.specs.inside.Verdicts.{read_claim}
 use Rattle.ti_source.specs.Judging.{items_at as items_at_there, items_from as items_from_there}
-use Rattle.ti_source.specs.Verdicts.{ReadClaim, reads_flag, reads_number, reads_text, reads_cancel, is_import, fitting_verdict, named_verdict, items_by as items_by_there, verdict_on as verdict_there}
+use Rattle.ti_source.specs.Verdicts.{ReadClaim, reads_flag, reads_number, reads_text, reads_cancel, is_import, fitting_verdict, named_verdict}
+use Rattle.ti_source.specs.Verdicts.{items_by as items_by_there, verdict_on as verdict_there}
 use Rattle.ti_source.specs.Parsing.{reading_of_text}
 use Rattle.ti_source.specs.Reading.{Reading, ReadItem}
 use Rattle.ti_layout.specs.Values.{Mention}
@@ -37,7 +39,8 @@ use Rattle.user_values.proofs.Depth.{Mentions, Names, names_at, expand_items-app
 abbrev There : Type 0
 There = List ℕ → Option (List Mention)
 
-joined-some : {X Y : Type 0} (a b : Option (List X)) (c d : Option (List Y)) → is_some a ≡ is_some c → is_some b ≡ is_some d → is_some (both_lists a b) ≡ is_some (both_lists c d)
+joined-some : {X Y : Type 0} (a b : Option (List X)) (c d : Option (List Y)) → is_some a ≡ is_some c → is_some b ≡ is_some d
+    → is_some (both_lists a b) ≡ is_some (both_lists c d)
 joined-some None b None d e f = refl
 joined-some None b (Some ys) d e f = absurd (false≢true e)
 joined-some (Some xs) b None d e f = absurd (false≢true (sym e))
@@ -48,17 +51,20 @@ joined-some (Some xs) (Some zs) (Some ys) (Some ws) e f = refl
 
 -- ---- an item, wherever it is read
 
-says_some : (f : Names) (o line : ℕ) (name : List ℕ) (read : ReadClaim) (b : Bool) → is_some (expand_items f (items_at o (judged_with line name (cond b (Some (defining_verdict name read)) None)))) ≡ true
+says_some : (f : Names) (o line : ℕ) (name : List ℕ) (read : ReadClaim) (b : Bool)
+    → is_some (expand_items f (items_at o (judged_with line name (cond b (Some (defining_verdict name read)) None)))) ≡ true
 says_some f o line name read false = refl
 says_some f o line name reads_flag true = refl
 says_some f o line name (reads_number (Ok n)) true = refl
 says_some f o line name (reads_number (Err cause)) true = refl
 says_some f o line name (reads_text value (Ok found)) true =
-    elim found.1 as (λ b. is_some (expand_items f (items_at o (judged_with line name (Some (defining_verdict name (reads_text value (Ok (found.0, b)))))))) ≡ true) [ true ↦ refl | false ↦ refl ]
+    elim found.1 as (λ b. is_some (expand_items f (items_at o (judged_with line name (Some (defining_verdict name (reads_text value (Ok (found.0, b))))))))
+    ≡ true) [ true ↦ refl | false ↦ refl ]
 says_some f o line name (reads_text value (Err cause)) true = refl
 says_some f o line name reads_cancel true = refl
 
-fits_some : (g : There) (o line : ℕ) (c : Capability) (read : ReadClaim) (k : Kind) → is_some (expand_items_there g (items_by_there o line (fitting_verdict c read k))) ≡ true
+fits_some : (g : There) (o line : ℕ) (c : Capability) (read : ReadClaim) (k : Kind)
+    → is_some (expand_items_there g (items_by_there o line (fitting_verdict c read k))) ≡ true
 fits_some g o line c reads_flag kind.Flag = refl
 fits_some g o line c reads_flag kind.Number = refl
 fits_some g o line c reads_flag kind.Text = refl
@@ -70,18 +76,21 @@ fits_some g o line c (reads_number read) kind.Text = refl
 fits_some g o line c (reads_text value found) kind.Flag = refl
 fits_some g o line c (reads_text value found) kind.Number = refl
 fits_some g o line c (reads_text value (Ok found)) kind.Text =
-    elim found.1 as (λ b. is_some (expand_items_there g (items_by_there o line (fitting_verdict c (reads_text value (Ok (found.0, b))) kind.Text))) ≡ true) [ true ↦ refl | false ↦ refl ]
+    elim found.1 as (λ b. is_some (expand_items_there g (items_by_there o line (fitting_verdict c (reads_text value (Ok (found.0, b))) kind.Text)))
+    ≡ true) [ true ↦ refl | false ↦ refl ]
 fits_some g o line c (reads_text value (Err cause)) kind.Text = refl
 fits_some g o line c reads_cancel kind.Flag = refl
 fits_some g o line c reads_cancel kind.Number = refl
 fits_some g o line c reads_cancel kind.Text = refl
 
-named_some : (g : There) (o line : ℕ) (read : ReadClaim) (c : Option Capability) → is_some (expand_items_there g (items_by_there o line (named_verdict read c))) ≡ true
+named_some : (g : There) (o line : ℕ) (read : ReadClaim) (c : Option Capability)
+    → is_some (expand_items_there g (items_by_there o line (named_verdict read c))) ≡ true
 named_some g o line read None = refl
 named_some g o line read (Some c) = fits_some g o line c read c.kind
 
 claim_some : (f : Names) (g : There) → ((name : List ℕ) → is_some (f name) ≡ is_some (g name)) → (o line : ℕ) (name : List ℕ) (claim : Claim) (read : ReadClaim)
-    → is_some (expand_items f (items_at o (judged_with line name (verdict_on name claim read)))) ≡ is_some (expand_items_there g (items_by_there o line (verdict_there name claim read)))
+    → is_some (expand_items f (items_at o (judged_with line name (verdict_on name claim read))))
+    ≡ is_some (expand_items_there g (items_by_there o line (verdict_there name claim read)))
 claim_some f g h o line name claim read =
     elim (cases_Bool (is_import name claim)) [
       | inl e ↦ rw e (joined-some (f _) (Some []) (g _) (Some []) (h _) refl)
@@ -124,13 +133,15 @@ pub mapped : {X Y : Type 0} (f : X → Y) (o : Option X) (y : Y) → option_map 
 mapped f None y e = absurd (none-some y e)
 mapped f (Some x) y e = (x, refl, same_Some (f x) y e)
 
-pub text_read : (texts : List (List ℕ)) (at : ℕ) (block : Reading) → slice_get (readings texts) at ≡ Some block → (text : List ℕ) × (slice_get texts at ≡ Some text) × (reading_of_text text ≡ block)
+pub text_read : (texts : List (List ℕ)) (at : ℕ) (block : Reading) → slice_get (readings texts) at ≡ Some block → (text : List ℕ)
+    × (slice_get texts at ≡ Some text) × (reading_of_text text ≡ block)
 text_read texts at block e = mapped reading_of_text (slice_get texts at) block (sym (slice_get-map reading_of_text texts at) ∙ e)
 
 pub read_text : (texts : List (List ℕ)) (at : ℕ) (text : List ℕ) → slice_get texts at ≡ Some text → slice_get (readings texts) at ≡ Some (reading_of_text text)
 read_text texts at text e = slice_get-map reading_of_text texts at ∙ ap (option_map reading_of_text) e
 
-pub block_some : (texts : List (List ℕ)) (depth : ℕ) (text : List ℕ) → is_some (expand texts depth text) ≡ is_some (expand_there (owner_block (readings texts)) depth (reading_of_text text))
+pub block_some : (texts : List (List ℕ)) (depth : ℕ) (text : List ℕ) → is_some (expand texts depth text)
+    ≡ is_some (expand_there (owner_block (readings texts)) depth (reading_of_text text))
 block_some texts zero text = refl
 block_some texts (suc depth) text =
     let env = owner_block (readings texts) in
@@ -143,7 +154,8 @@ block_some texts (suc depth) text =
           rw (o.owns, o.is, t.1) (block_some texts depth t.0 ∙ ap (λ b. is_some (expand_there env depth b)) t.2)
     ] in
     cond-some (is_broken (reading_of_text text)) (expand_items f (user_reading_of_text text).items) (expand_items_there g (reading_of_text text).items)
-    (ap (λ is. is_some (expand_items f is)) (items_here text) ∙ all_some f g names 0 (block_items text) ∙ ap (λ is. is_some (expand_items_there g is)) (sym (items_there text)))
+    (ap (λ is. is_some (expand_items f is)) (items_here text) ∙ all_some f g names 0 (block_items text)
+    ∙ ap (λ is. is_some (expand_items_there g is)) (sym (items_there text)))
 
 same_length : (texts : List (List ℕ)) → length (readings texts) ≡ length texts
 same_length texts = length-map texts reading_of_text
@@ -158,7 +170,8 @@ as_resolved texts text =
     ∙ ap (λ n. is_some (expand_there (owner_block (readings texts)) (suc n) (reading_of_text text))) (sym (same_length texts))
 
 -- a block of the list has the expansion that some depth gives it
-pub found : (texts : List (List ℕ)) (at depth : ℕ) (text : List ℕ) (ms : List UserMention) → slice_get texts at ≡ Some text → expand texts depth text ≡ Some ms → expansion texts text ≡ Some ms
+pub found : (texts : List (List ℕ)) (at depth : ℕ) (text : List ℕ) (ms : List UserMention) → slice_get texts at ≡ Some text
+    → expand texts depth text ≡ Some ms → expansion texts text ≡ Some ms
 found texts at depth text ms stands e =
     let env = owner_block (readings texts) in
     let there = some_of (expand_there env depth (reading_of_text text)) (sym (block_some texts depth text) ∙ ap is_some e) in

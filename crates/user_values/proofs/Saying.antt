@@ -35,7 +35,8 @@ map_or : (a b : Option Value) → option_map content_of (option_or a b) ≡ opti
 map_or None b = refl
 map_or (Some v) b = refl
 
-lookup-append : (test : Vec ℕ Global → Bool) (es : Entries) (e : Vec ℕ Global × Value) → lookup test (es ++ e ∷ []) ≡ option_or (lookup test es) (lookup test (e ∷ []))
+lookup-append : (test : Vec ℕ Global → Bool) (es : Entries) (e : Vec ℕ Global × Value) → lookup test (es ++ e ∷ [])
+    ≡ option_or (lookup test es) (lookup test (e ∷ []))
 lookup-append test [] e = refl
 lookup-append test (d ∷ es) e =
     elim (test d.0) as (λ b. cond b (Some d.1) (lookup test (es ++ e ∷ [])) ≡ option_or (cond b (Some d.1) (lookup test es)) (lookup test (e ∷ []))) [
@@ -59,18 +60,21 @@ said_more key v es start old new q before added =
     let test = is_at (λ (k : Vec ℕ Global). slice_cmp nat_cmp q k.items) in
     added ∙ ap (λ o. option_or o (said_once key.items (content_of v) q)) before ∙ or_assoc (start q) (said_in es q) (said_once key.items (content_of v) q)
     ∙ ap (option_or (start q))
-    (ap (option_or (said_in es q)) (sym (said_one key v q)) ∙ sym (map_or (lookup test es) (lookup test ((key, v) ∷ []))) ∙ ap (option_map content_of) (sym (lookup-append test es (key, v))))
+    (ap (option_or (said_in es q)) (sym (said_one key v q)) ∙ sym (map_or (lookup test es) (lookup test ((key, v) ∷ [])))
+    ∙ ap (option_map content_of) (sym (lookup-append test es (key, v))))
 
 -- ---- an insertion
 
-other_entries : {K X : Type 0} (eq : K → K → Bool) (test : K → Bool) (old new : List (K × X)) → KeepsOtherKeys eq test old new → (other : K → Bool) → IsKeyTest eq other → AreApart test other → lookup other new ≡ lookup other old
+other_entries : {K X : Type 0} (eq : K → K → Bool) (test : K → Bool) (old new : List (K × X)) → KeepsOtherKeys eq test old new → (other : K → Bool)
+    → IsKeyTest eq other → AreApart test other → lookup other new ≡ lookup other old
 unfolding KeepsOtherKeys
 other_entries eq test old new h = h
 
 apart : (name other key : List ℕ) → bytes_eq name other ≡ false → bytes_eq name key ≡ true → bytes_eq other key ≡ false
 apart name other key n y = nat_list_eq_equiv.symm other key ∙ (sym (nat_list_eq_equiv.congr name key other y) ∙ n)
 
-apart_in_order : (name other key : List ℕ) → bytes_eq name other ≡ false → is_eq (slice_cmp nat_cmp name key) ≡ true → is_eq (slice_cmp nat_cmp other key) ≡ false
+apart_in_order : (name other key : List ℕ) → bytes_eq name other ≡ false → is_eq (slice_cmp nat_cmp name key) ≡ true
+    → is_eq (slice_cmp nat_cmp other key) ≡ false
 apart_in_order name other key n y = is_eq-slice_cmp other key ∙ apart name other key n (sym (is_eq-slice_cmp name key) ∙ y)
 
 -- a value was inserted at a name of which nothing was said
@@ -81,10 +85,12 @@ pub said_inserted : (name : List ℕ) (content : Content) (old new : BTreeMap (V
 said_inserted name content old new v e none h q = elim (cases_Bool (bytes_eq name q)) [
   | inl t ↦
       let same : name ≡ q = (bytes_decides name q).0 t in
-      rw (← same) (ap (option_map content_of) h.1 ∙ sym (ap (λ o. option_or (option_map content_of o) (said_once name content name)) none ∙ once name content (same_self name) ∙ ap (λ c. Some c) (sym e)))
+      rw (← same) (ap (option_map content_of) h.1 ∙ sym (ap (λ o. option_or (option_map content_of o) (said_once name content name)) none
+      ∙ once name content (same_self name) ∙ ap (λ c. Some c) (sym e)))
   | inr f ↦
       ap (option_map content_of)
-      (other_entries (eq_by_cmp (λ (x y : Vec ℕ Global). slice_cmp nat_cmp x.items y.items)) (is_at (λ (key : Vec ℕ Global). slice_cmp nat_cmp name key.items)) old.entries new.entries h.3
+      (other_entries (eq_by_cmp (λ (x y : Vec ℕ Global). slice_cmp nat_cmp x.items y.items))
+      (is_at (λ (key : Vec ℕ Global). slice_cmp nat_cmp name key.items)) old.entries new.entries h.3
       (is_at (λ (key : Vec ℕ Global). slice_cmp nat_cmp q key.items))
       (λ x y. (eq_by_cmp_equiv nat_list_cmp_total).congr q x.items y.items) (λ key. apart_in_order name q key.items f))
       ∙ or_none (said_in old.entries q) ∙ ap (option_or (said_in old.entries q)) (sym (not_once name content q f))

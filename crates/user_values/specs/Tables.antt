@@ -25,7 +25,8 @@ said_once name content other = if bytes_eq name other then Some content else Non
 
 -- a block of the list resolves, and the table says what its mentions say
 abbrev pub IsUserTableOf : List (List ℕ) → List ℕ → Said → Type 0
-IsUserTableOf texts text said = (mentions : List UserMention) × (expansion texts text ≡ Some mentions) × ((name : List ℕ) → said name ≡ first_said mentions name)
+IsUserTableOf texts text said =
+    (mentions : List UserMention) × (expansion texts text ≡ Some mentions) × ((name : List ℕ) → said name ≡ first_said mentions name)
 
 -- a block has a table exactly if it resolves
 abbrev pub HasUserTable : List (List ℕ) → List ℕ → Option UserTable → Type 0
@@ -35,7 +36,8 @@ HasUserTable texts text (Some table) = IsUserTableOf texts text (said_at table)
 -- each block of the list has its table
 pub record AreUserTables (texts : List (List ℕ)) (tables : List (Option UserTable)) : Type 0 where
   pub as_many : length tables ≡ length texts
-  pub each : (at : ℕ) (text : List ℕ) (table : Option UserTable) → slice_get texts at ≡ Some text → slice_get tables at ≡ Some table → HasUserTable texts text table
+  pub each : (at : ℕ) (text : List ℕ) (table : Option UserTable) → slice_get texts at ≡ Some text → slice_get tables at ≡ Some table
+      → HasUserTable texts text table
 
 -- the mentions of the block that owns a name
 abbrev pub names_at : List (List ℕ) → List ℕ → Option (List UserMention)
@@ -44,4 +46,5 @@ names_at texts name = option_and_then (expansion texts) (owner_text texts name)
 -- what an item says is said where nothing was
 abbrev pub AddsSaid : List (List ℕ) → UserSaid → Said → Said → Type 0
 AddsSaid texts said old new =
-    (mentions : List UserMention) × (mentions_of (names_at texts) said ≡ Some mentions) × ((name : List ℕ) → new name ≡ option_or (old name) (first_said mentions name))
+    (mentions : List UserMention) × (mentions_of (names_at texts) said ≡ Some mentions)
+    × ((name : List ℕ) → new name ≡ option_or (old name) (first_said mentions name))

@@ -41,7 +41,8 @@ pub record AddsToReading (found : List ReadItem) (faults : List ReadFault) (old 
 
 -- what an item with this place says, and its faults, were added to a reading
 abbrev pub AddsItem : ℕ → ItemPiece → Reading → Reading → Type 0
-AddsItem ordinal p old new = AddsToReading (items_at ordinal (judged_as p.line (statement_of p.text))) (faults_at ordinal (judged_as p.line (statement_of p.text))) old new
+AddsItem ordinal p old new =
+    AddsToReading (items_at ordinal (judged_as p.line (statement_of p.text))) (faults_at ordinal (judged_as p.line (statement_of p.text))) old new
 
 -- what the items of a text say, and their faults, were added to a reading
 abbrev pub AddsItems : List PlacedByte → Reading → Reading → Type 0

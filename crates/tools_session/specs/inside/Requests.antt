@@ -5,7 +5,8 @@ use Rattle.tools_session.specs.declared.requests.Opened.{Opened}
 use Rattle.tools_session.specs.declared.requests.Opened.TheVariants.{Insert, Replace}
 use Rattle.tools_session.specs.declared.requests.Request.{Request}
 use Rattle.tools_session.specs.declared.requests.Request.TheVariants.{Nothing, Open, Remove, Relocate, Print, Report, Rebuilt, Unknown}
-use Rattle.tools_session.specs.Script.{ScriptMode, outside, in_insertion, in_replacement, Meaning, goes_on, asks, edits, prints, rebuilds, reports, nothing_known}
+use Rattle.tools_session.specs.Script.{ScriptMode, outside, in_insertion, in_replacement, Meaning, goes_on, asks, edits, prints, rebuilds, reports}
+use Rattle.tools_session.specs.Script.{nothing_known}
 
 -- the mode of a block that was opened, with this text so far
 abbrev pub opened_mode : Opened → List ℕ → ScriptMode

@@ -20,4 +20,5 @@ pub record OwnerIsDone (texts : List (List ℕ)) (tables : List (Option UserTabl
 -- the owners of all names that a block uses have theirs
 abbrev pub OwnersAreDone : List (List ℕ) → List (Option UserTable) → List ℕ → Type 0
 OwnersAreDone texts tables text =
-    (k : ℕ) (item : ReadUserItem) (name : List ℕ) → slice_get (user_reading_of_text text).items k ≡ Some item → item.said ≡ imports name → OwnerIsDone texts tables name
+    (k : ℕ) (item : ReadUserItem) (name : List ℕ) → slice_get (user_reading_of_text text).items k ≡ Some item → item.said ≡ imports name
+    → OwnerIsDone texts tables name

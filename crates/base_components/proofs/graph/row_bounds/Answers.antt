@@ -15,4 +15,5 @@ returns c =
           rw (w.end-is, one) (inl (slice_get-get_or starts (suc c.args.node) 0 less))
       | else-next-starts w ↦ rw w.end-is (inr (omega arith, refl))
     ] in
-    row_read c.args.targets.now starts c.args.node (get_or starts c.args.node 0) c.if-next-starts.end c.requires.starts (slice_get-get_or starts c.args.node 0 c.requires.within) ends
+    row_read c.args.targets.now starts c.args.node (get_or starts c.args.node 0) c.if-next-starts.end c.requires.starts
+    (slice_get-get_or starts c.args.node 0 c.requires.within) ends

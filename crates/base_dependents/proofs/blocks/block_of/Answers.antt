@@ -8,4 +8,5 @@ use Rattle.base_dependents.proofs.blocks.block_of.Goals as goal
 
 pub returns-clause-block : goal.returns-clause-block
 returns-clause-block c =
-    ap (λ o. option_map_or (λ (slot : Slot). reading_of slot.block) o empty_reading) (sym (slot_by_id c.args.slots.now c.args.id c.slot.result.now c.requires c.slot.ensures.slot))
+    ap (λ o. option_map_or (λ (slot : Slot). reading_of slot.block) o empty_reading)
+    (sym (slot_by_id c.args.slots.now c.args.id c.slot.result.now c.requires c.slot.ensures.slot))

@@ -13,5 +13,6 @@ returns-clause-distinct c = IfOk-weaker c.blocks_found.result _ _ (λ d placed. 
 pub returns-clause-found : goal.returns-clause-found
 returns-clause-found c =
     IfOk-weaker c.blocks_found.result _ _
-    (λ d. copied_ids c.args.slots.now c.args.put (map rc_slice_items c.args.out.now) c.search.new.found.keys d.ids.items d.positions.items c.in_ok-search.ensures)
+    (λ d. copied_ids c.args.slots.now c.args.put (map rc_slice_items c.args.out.now) c.search.new.found.keys d.ids.items d.positions.items
+    c.in_ok-search.ensures)
     c.blocks_found.ensures.placed

@@ -5,7 +5,8 @@ use Rattle.ti_text.proofs.Lists.{get_front, get_last}
 use Rattle.base_dependents.proofs.listing.positions.Goals as goal
 
 -- one more position is after the others
-positions_more : (positions : List ℕ) (count : ℕ) → length positions ≡ count → ((i : ℕ) → i < count → slice_get positions i ≡ Some i) → (i : ℕ) → i < count + 1 → slice_get (positions ++ count ∷ []) i ≡ Some i
+positions_more : (positions : List ℕ) (count : ℕ) → length positions ≡ count → ((i : ℕ) → i < count → slice_get positions i ≡ Some i) → (i : ℕ)
+    → i < count + 1 → slice_get (positions ++ count ∷ []) i ≡ Some i
 positions_more positions count n h i l =
     elim (cases_eq i count) [
       | inl same ↦ rw same (ap (slice_get (positions ++ count ∷ [])) (sym n) ∙ get_last positions count)

@@ -15,7 +15,8 @@ loop-name-preserved c =
       | then-owns+in_ok-add_users w ↦
           rw w.found-is
           (adds_owned_of c.args.slots.now c.args.id names (rc_slice_items c.name-item.result) c.as_slice.result.now w.as_slice-then-owns.result.now
-          c.args.found.now.keys c.loop-name.found.keys w.add_users.new.found.keys c.loop-name.invariant c.as_slice.ensures.value (c.owns.ensures.0 w.if-owns.true)
+          c.args.found.now.keys c.loop-name.found.keys w.add_users.new.found.keys c.loop-name.invariant c.as_slice.ensures.value
+          (c.owns.ensures.0 w.if-owns.true)
           w.as_slice-then-owns.ensures.value w.in_ok-add_users.ensures)
       | else-owns w ↦
           rw w.found-is

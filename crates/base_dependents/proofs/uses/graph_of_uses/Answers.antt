@@ -11,12 +11,14 @@ loop-id-preserved c =
     let at = c.loop-id.id-index in
     let within : at < length ids = omega arith in
     rw (take_more ids at 0 within)
-    (rows_more c.args.slots.now c.args.found.now.keys (take at ids) (get_or ids at 0) (map item_of c.deref.result.now) c.loop-id.uses c.add_row.new.uses c.loop-id.invariant
+    (rows_more c.args.slots.now c.args.found.now.keys (take at ids) (get_or ids at 0) (map item_of c.deref.result.now) c.loop-id.uses c.add_row.new.uses
+    c.loop-id.invariant
     (ap (map item_of) c.deref.ensures.value ∙ ap (λ r. r.items) c.block_of.ensures.block) c.in_ok-add_row.ensures)
 
 pub returns-clause-uses : goal.returns-clause-uses
 returns-clause-uses c =
-    rows_ended c.args.slots.now c.args.found.now.keys c.as_slice-id-items.result.now c.loop-id.id-index c.loop-id.uses c.as_slice-id-items.ensures.keys c.loop-id-test.false c.loop-id.invariant
+    rows_ended c.args.slots.now c.args.found.now.keys c.as_slice-id-items.result.now c.loop-id.id-index c.loop-id.uses c.as_slice-id-items.ensures.keys
+    c.loop-id-test.false c.loop-id.invariant
 
 pub returns-clause-graph : goal.returns-clause-graph
 returns-clause-graph c = uses_whole c.args.slots.now c.args.found.now.keys c.loop-id.uses (returns-clause-uses c)

@@ -47,6 +47,7 @@ unwrap-requires c =
                 let within : place < length list = omega (arith, c.len.ensures, c.args.list.now.ok.0) in
                 let read = slice_get_read list (length list) place w.index.result.now refl within w.index.ensures in
                 absurd (w.if-index-id.false (same_Some w.index.result.now c.args.id (sym read ∙ here)))
-            | else-place-len-via-else-place-len w ↦ (let within = slice_get_within list place c.args.id here in absurd (omega (arith, c.len.ensures, c.args.list.now.ok.0)))
+            | else-place-len-via-else-place-len w ↦ (let within = slice_get_within list place c.args.id here in
+                absurd (omega (arith, c.len.ensures, c.args.list.now.ok.0)))
           ]
     ]

@@ -14,7 +14,8 @@ returns-then-index-id-clause-items c =
     let before : ListsBefore listed list c.args.id place = rw c.deref.ensures.value at c.count_before-place.ensures.count in
     let within : place < length list = omega (arith, c.len.ensures, c.args.list.now.ok.0) in
     let here = rw c.if-index-id.true at (slice_get_read list (length list) place c.index.result.now refl within c.index.ensures) in
-    λ test e. c.remove.ensures.items ∙ take_there listed list c.args.id place c.requires.stands.0 c.count_before-place.ensures.distinct c.requires.stands.1 before here test e
+    λ test e. c.remove.ensures.items ∙ take_there listed list c.args.id place c.requires.stands.0 c.count_before-place.ensures.distinct c.requires.stands.1
+    before here test e
 
 pub returns-else-place-len-clause-items : goal.returns-else-place-len-clause-items
 returns-else-place-len-clause-items c =

@@ -42,9 +42,11 @@ more_added at ordinal f rest old new all e l h n =
     ap (map (local_fault at)) (ap (faults_before ordinal) (taken f rest e) ∙ one_before ordinal f (of_items rest) l) in
     rw (n, append_assoc) (ap (λ x. old ++ x) (sym parts) ∙ h)
 
-none_added : (at ordinal : ℕ) (f : ReadFault) (rest : List ReadFault) (old all : List SourceFault) → is_of_header f.code ≡ false → ordinal ≤ f.ordinal → old ++ added at ordinal (f ∷ rest) ≡ all → old ≡ all
+none_added : (at ordinal : ℕ) (f : ReadFault) (rest : List ReadFault) (old all : List SourceFault) → is_of_header f.code ≡ false → ordinal ≤ f.ordinal
+    → old ++ added at ordinal (f ∷ rest) ≡ all → old ≡ all
 none_added at ordinal f rest old all e l h =
-    let none : added at ordinal (f ∷ rest) ≡ [] = ap (map (local_fault at)) (ap (faults_before ordinal) (taken f rest e) ∙ none_before ordinal f (of_items rest) l) in
+    let none : added at ordinal (f ∷ rest) ≡ [] =
+    ap (map (local_fault at)) (ap (faults_before ordinal) (taken f rest e) ∙ none_before ordinal f (of_items rest) l) in
     sym (append-nil old) ∙ (ap (λ x. old ++ x) (sym none) ∙ h)
 
 next_within : (i n : ℕ) → i < n → i + 1 ≤ n
@@ -79,7 +81,8 @@ returns-then-local-ordinal g c =
     record {
       within = c.loop-place.invariant.2;
       added = none_added g.at c.args.ordinal f rest _ _ e c.if-local-ordinal.true before.0;
-      rest = (ap of_items here ∙ taken f rest e) ∙ (sym (ap (faults_from c.args.ordinal) (taken f rest e) ∙ all_from c.args.ordinal f (of_items rest) c.if-local-ordinal.true) ∙ before.1);
+      rest = (ap of_items here ∙ taken f rest e)
+          ∙ (sym (ap (faults_from c.args.ordinal) (taken f rest e) ∙ all_from c.args.ordinal f (of_items rest) c.if-local-ordinal.true) ∙ before.1);
     }
 
 at_end : (n i : ℕ) → n ≤ i → i ≤ n → i ≡ n

@@ -12,5 +12,6 @@ abbrev pub invariant-loop-place : goal.invariant-loop-place
 invariant-loop-place g l =
     (map (fault_at g.at) l.faults.items ++ map (local_fault g.at) (faults_before l.ordinal (filter (is_kept false) (map fault_of (drop l.place l.locals))))
     ≡ map (fault_at g.at) l.fn.faults.items ++ map (local_fault g.at) (faults_before l.ordinal (filter (is_kept false) (map fault_of (drop l.next l.locals)))))
-    × (faults_from l.ordinal (filter (is_kept false) (map fault_of (drop l.place l.locals))) ≡ faults_from l.ordinal (filter (is_kept false) (map fault_of (drop l.next l.locals))))
+    × (faults_from l.ordinal (filter (is_kept false) (map fault_of (drop l.place l.locals)))
+    ≡ faults_from l.ordinal (filter (is_kept false) (map fault_of (drop l.next l.locals))))
     × (l.place ≤ length l.locals)

@@ -36,18 +36,22 @@ loop-index-preserved g c =
     let stands = slice_get-map_item item_of items c.loop-index.index c.item-item.result within here in
     let before = rw c.deref.ensures.value at c.in_ok-next.ensures in
     record {
-      added = one_more_item bs g.at (item_of c.item-item.result) (map item_of (drop (c.loop-index.index + 1) items)) (filter (is_kept false) (map fault_of (drop c.loop-index.next faults))) (filter (is_kept false) (map fault_of (drop c.in_ok-next.next faults)))
-          (map (fault_at g.at) c.loop-index.faults.items) (map (fault_at g.at) c.add_before.new.faults.items) (map (fault_at g.at) c.add_item_fault.new.faults.items) _
+      added = one_more_item bs g.at (item_of c.item-item.result) (map item_of (drop (c.loop-index.index + 1) items))
+          (filter (is_kept false) (map fault_of (drop c.loop-index.next faults))) (filter (is_kept false) (map fault_of (drop c.in_ok-next.next faults)))
+          (map (fault_at g.at) c.loop-index.faults.items) (map (fault_at g.at) c.add_before.new.faults.items)
+          (map (fault_at g.at) c.add_item_fault.new.faults.items) _
           (rw (map-drop_item item_of items c.loop-index.index c.item-item.result within here) at c.loop-index.invariant.added)
           before.added c.in_ok-add_item_fault.ensures.added before.rest;
       within = before.within;
       wrong = elim c.if-branch.branch [
-        | then-branch w ↦ λ _. wrong_item bs g.at c.loop-index.index block (item_of c.item-item.result) c.in_ok-add_item_fault.field-0 stands c.in_ok-add_item_fault.ensures.found w.if-branch.true
+        | then-branch w ↦ λ _. wrong_item bs g.at c.loop-index.index block (item_of c.item-item.result) c.in_ok-add_item_fault.field-0 stands
+            c.in_ok-add_item_fault.ensures.found w.if-branch.true
         | else-branch w ↦ λ e. c.loop-index.invariant.wrong (sym w.is_wrong-is ∙ e)
       ];
       sound = elim c.if-branch.branch [
         | then-branch w ↦ λ e. (let f = sym w.is_wrong-is ∙ e in cc)
-        | else-branch w ↦ λ e. sound_more bs g.at block.items c.loop-index.index (item_of c.item-item.result) c.in_ok-add_item_fault.field-0 (c.loop-index.invariant.sound (sym w.is_wrong-is ∙ e)) stands c.in_ok-add_item_fault.ensures.found w.if-branch.false
+        | else-branch w ↦ λ e. sound_more bs g.at block.items c.loop-index.index (item_of c.item-item.result) c.in_ok-add_item_fault.field-0
+            (c.loop-index.invariant.sound (sym w.is_wrong-is ∙ e)) stands c.in_ok-add_item_fault.ensures.found w.if-branch.false
       ];
     }
 
@@ -56,7 +60,8 @@ returns-clause-found g c =
     let block = reading_of c.args.block.now in
     let past : length c.args.block.now.items.items ≤ c.loop-index.index = rw c.deref-item-items.ensures.value at c.loop-index-test.false in
     let all : length block.items ≤ c.loop-index.index = rw (length-map c.args.block.now.items.items item_of) past in
-    found c.loop-index.is_wrong _ _ c.loop-index.invariant.wrong (λ e. uses_sound (blocks_of c.args.known.now.slots.now) g.at block c.loop-index.index c.requires.1 all (c.loop-index.invariant.sound e))
+    found c.loop-index.is_wrong _ _ c.loop-index.invariant.wrong
+    (λ e. uses_sound (blocks_of c.args.known.now.slots.now) g.at block c.loop-index.index c.requires.1 all (c.loop-index.invariant.sound e))
 
 pub loop-index-init : goal.loop-index-init
 loop-index-init g c = record {

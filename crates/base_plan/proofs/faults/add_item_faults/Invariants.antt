@@ -21,9 +21,12 @@ ghost-add_locals g a = g.at
 -- far is at fault
 abbrev pub invariant-loop-index : goal.invariant-loop-index
 invariant-loop-index g l = record {
-  added : map (fault_at g.at) l.faults.items ++ item_faults (blocks_of l.known.slots.now) g.at (filter (is_kept false) (map fault_of (drop l.next l.block.faults.items))) (map item_of (drop l.index l.block.items.items))
-      ≡ map (fault_at g.at) l.fn.faults.items ++ item_faults (blocks_of l.known.slots.now) g.at (filter (is_kept false) (map fault_of l.block.faults.items)) (map item_of l.block.items.items);
+  added : map (fault_at g.at) l.faults.items ++ item_faults (blocks_of l.known.slots.now) g.at
+      (filter (is_kept false) (map fault_of (drop l.next l.block.faults.items))) (map item_of (drop l.index l.block.items.items))
+      ≡ map (fault_at g.at) l.fn.faults.items ++ item_faults (blocks_of l.known.slots.now) g.at (filter (is_kept false) (map fault_of l.block.faults.items))
+      (map item_of l.block.items.items);
   within : l.next ≤ length l.block.faults.items;
   wrong : l.is_wrong ≡ true → HasUseAtFault (blocks_of l.known.slots.now) g.at (reading_of l.block);
-  sound : l.is_wrong ≡ false → (k : ℕ) (item : ReadItem) → k < l.index → slice_get (map item_of l.block.items.items) k ≡ Some item → is_at_fault (blocks_of l.known.slots.now) g.at (used_name item.said) ≡ false;
+  sound : l.is_wrong ≡ false → (k : ℕ) (item : ReadItem) → k < l.index → slice_get (map item_of l.block.items.items) k ≡ Some item
+      → is_at_fault (blocks_of l.known.slots.now) g.at (used_name item.said) ≡ false;
 }

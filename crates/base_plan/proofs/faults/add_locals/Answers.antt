@@ -11,12 +11,15 @@ use Rattle.base_plan.proofs.faults.add_locals.Goals as goal
 use Rattle.base_plan.proofs.faults.add_locals.Goals.{then-is_of_header-of_header+in_ok-add_local, else-is_of_header-of_header}
 
 -- the faults of one more are those before it and its own
-parted : (of_header : Bool) (at : ℕ) (front : List ReadFault) (f : ReadFault) → local_faults of_header at (front ++ f ∷ []) ≡ local_faults of_header at front ++ local_faults of_header at (f ∷ [])
+parted : (of_header : Bool) (at : ℕ) (front : List ReadFault) (f : ReadFault) → local_faults of_header at (front ++ f ∷ [])
+    ≡ local_faults of_header at front ++ local_faults of_header at (f ∷ [])
 parted of_header at front f =
     ap (map (local_fault at)) (filter-append (is_kept of_header) front (f ∷ []))
     ∙ map-append (local_fault at) (filter (is_kept of_header) front) (filter (is_kept of_header) (f ∷ []))
 
-one_more : (of_header : Bool) (at : ℕ) (front : List ReadFault) (f : ReadFault) (old before new : List SourceFault) → before ≡ old ++ local_faults of_header at front → new ≡ before ++ local_faults of_header at (f ∷ []) → new ≡ old ++ local_faults of_header at (front ++ f ∷ [])
+one_more : (of_header : Bool) (at : ℕ) (front : List ReadFault) (f : ReadFault) (old before new : List SourceFault)
+    → before ≡ old ++ local_faults of_header at front → new ≡ before ++ local_faults of_header at (f ∷ [])
+    → new ≡ old ++ local_faults of_header at (front ++ f ∷ [])
 one_more of_header at front f old before new b n = rw (n, b, append_assoc, ← parted of_header at front f) refl
 
 beq-true : (b : Bool) → b ≡ beq b true

@@ -9,4 +9,5 @@ make_plan-requires c =
 
 pub returns : goal.returns
 returns c =
-    IfOk-weaker c.make_plan.result _ _ (λ made. all_planned c.args.slots.now c.in_ok-all.all c.in_ok-all.ensures.all made c.in_ok-all.ensures.distinct) c.make_plan.ensures
+    IfOk-weaker c.make_plan.result _ _ (λ made. all_planned c.args.slots.now c.in_ok-all.all c.in_ok-all.ensures.all made c.in_ok-all.ensures.distinct)
+    c.make_plan.ensures

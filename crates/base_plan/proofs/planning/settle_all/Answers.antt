@@ -24,9 +24,11 @@ settle-requires c =
     let within : end < length order = rw c.deref-node-items.ensures.value at c.loop-node-test.true in
     let listed : slice_get order end ≡ Some node = rw c.deref-node-items.ensures.value (slice_get-get_or order end 0 within) in
     let more : take (end + 1) order ≡ take end order ++ node ∷ [] = rw c.deref-node-items.ensures.value (take_more order end 0 within) in
-    let can = next_can slots d c.args.components.now.component_of.items order c.loop-node.settled.items end node c.requires.found c.requires.components c.requires.order c.loop-node.invariant.following listed in (
+    let can = next_can slots d c.args.components.now.component_of.items order c.loop-node.settled.items end node c.requires.found c.requires.components
+    c.requires.order c.loop-node.invariant.following listed in (
       rw (c.deref.ensures.value, c.deref-in-loop-node.ensures.value) can,
-      λ block s. next_room slots d order end node c.args.left.now c.loop-node.left (node_position d node) block c.requires.found c.requires.order.once c.requires.order.nodes listed more can.stands s c.loop-node.invariant.bound c.requires.room,
+      λ block s. next_room slots d order end node c.args.left.now c.loop-node.left (node_position d node) block c.requires.found c.requires.order.once
+          c.requires.order.nodes listed more can.stands s c.loop-node.invariant.bound c.requires.room,
     )
 
 pub index_mut-requires : goal.index_mut-requires
@@ -55,17 +57,21 @@ loop-node-preserved c =
     let below = c.requires.order.nodes end node listed in
     let fits : node < length c.loop-node.settled.items = omega (arith, h.following.as_many, c.requires.found.graph.as_many) in
     record {
-      following = following_more slots d order c.loop-node.settled.items end node c.in_ok-one.one h.following listed fits (right_at slots d node (node_position d node) c.in_ok-one.one stands c.in_ok-one.ensures.settled);
+      following = following_more slots d order c.loop-node.settled.items end node c.in_ok-one.one h.following listed fits
+          (right_at slots d node (node_position d node) c.in_ok-one.one stands c.in_ok-one.ensures.settled);
       steps = rw (more, map-append (node_position d) (take end order) (node ∷ []))
-          (steps_more (blocks_of slots) (map (node_position d) (take end order)) (node_position d node) c.args.left.now c.loop-node.left c.settle.new.left h.steps c.in_ok-one.ensures.work);
-      bound = rw more (bound_more slots d (take end order) node (node_position d node) c.args.left.now c.loop-node.left c.settle.new.left (block_of slots n.0) c.requires.found stands n.1.block h.bound c.in_ok-one.ensures.work);
+          (steps_more (blocks_of slots) (map (node_position d) (take end order)) (node_position d node) c.args.left.now c.loop-node.left c.settle.new.left
+          h.steps c.in_ok-one.ensures.work);
+      bound = rw more (bound_more slots d (take end order) node (node_position d node) c.args.left.now c.loop-node.left c.settle.new.left
+          (block_of slots n.0) c.requires.found stands n.1.block h.bound c.in_ok-one.ensures.work);
     }
 
 pub returns-clause-settled : goal.returns-clause-settled
 returns-clause-settled c =
     let order = c.args.components.now.order.items in
     let past : length order ≤ c.loop-node.node-index = rw c.deref-node-items.ensures.value at c.loop-node-test.false in
-    following_ended c.args.slots.now c.args.dependents.now c.args.components.now.component_of.items order c.loop-node.settled.items c.loop-node.node-index c.requires.found c.requires.order past c.loop-node.invariant.following
+    following_ended c.args.slots.now c.args.dependents.now c.args.components.now.component_of.items order c.loop-node.settled.items c.loop-node.node-index
+    c.requires.found c.requires.order past c.loop-node.invariant.following
 
 pub loop-node-init : goal.loop-node-init
 loop-node-init c =

@@ -17,7 +17,8 @@ returns-then-is_wrong-clause-table g c =
     ]
 
 pub returns-then-is_wrong-clause-state : goal.returns-then-is_wrong-clause-state
-returns-then-is_wrong-clause-state g c = unresolved_state (blocks_of c.args.known.now.slots.now) (reading_of c.args.slot.now.block) (returns-then-is_wrong-clause-table g c)
+returns-then-is_wrong-clause-state g c =
+    unresolved_state (blocks_of c.args.known.now.slots.now) (reading_of c.args.slot.now.block) (returns-then-is_wrong-clause-table g c)
 
 pub returns-then-is_wrong-clause-work : goal.returns-then-is_wrong-clause-work
 returns-then-is_wrong-clause-work g c =

@@ -19,7 +19,8 @@ returns-clause-settled g c = λ block s.
     (record {
       table = c.in_ok-state.ensures.table;
       state = c.in_ok-state.ensures.state;
-      faults = lasting_added bs g.at b (state_seen c.in_ok-state.state) (map (fault_at g.at) c.add_locals.new.faults.items) (map (fault_at g.at) c.add_item_faults.new.faults.items) (map (fault_at g.at) c.add_entry_fault.new.faults.items)
+      faults = lasting_added bs g.at b (state_seen c.in_ok-state.state) (map (fault_at g.at) c.add_locals.new.faults.items)
+          (map (fault_at g.at) c.add_item_faults.new.faults.items) (map (fault_at g.at) c.add_entry_fault.new.faults.items)
           one c.in_ok-is_wrong.ensures.added three c.in_ok-state.ensures.state;
     })
 

@@ -17,19 +17,22 @@ pub returns-in-Number-clause-added : goal.returns-in-Number-clause-added
 returns-in-Number-clause-added g c =
     rw c.in-Number.is
     (on_ok_weaker c.push-in-Number.result
-    (added_one (blocks_of c.args.known.now.slots.now) _ ((c.in-Number.cap, content_number c.in-Number.number)) (contents c.args.mentions.now) (contents c.push-in-Number.new.self) refl)
+    (added_one (blocks_of c.args.known.now.slots.now) _ ((c.in-Number.cap, content_number c.in-Number.number)) (contents c.args.mentions.now)
+    (contents c.push-in-Number.new.self) refl)
     c.push-in-Number.ensures)
 
 pub returns-in_ok-clone-in-Text-clause-added : goal.returns-in_ok-clone-in-Text-clause-added
 returns-in_ok-clone-in-Text-clause-added g c =
     rw c.in-Text.is
     (on_ok_weaker c.push-in-Text.result
-    (added_one (blocks_of c.args.known.now.slots.now) _ ((c.in-Text.cap, content_text (rc_slice_items c.in-Text.text))) (contents c.args.mentions.now) (contents c.push-in-Text.new.self) refl)
+    (added_one (blocks_of c.args.known.now.slots.now) _ ((c.in-Text.cap, content_text (rc_slice_items c.in-Text.text))) (contents c.args.mentions.now)
+    (contents c.push-in-Text.new.self) refl)
     (rw (← c.in_ok-clone-in-Text.ensures.cases) c.push-in-Text.ensures))
 
 pub returns-in-Cancel-clause-added : goal.returns-in-Cancel-clause-added
 returns-in-Cancel-clause-added g c =
     rw c.in-Cancel.is
     (on_ok_weaker c.push-in-Cancel.result
-    (added_one (blocks_of c.args.known.now.slots.now) _ ((c.in-Cancel.cap, content_cancelled)) (contents c.args.mentions.now) (contents c.push-in-Cancel.new.self) refl)
+    (added_one (blocks_of c.args.known.now.slots.now) _ ((c.in-Cancel.cap, content_cancelled)) (contents c.args.mentions.now)
+    (contents c.push-in-Cancel.new.self) refl)
     c.push-in-Cancel.ensures)

@@ -21,11 +21,13 @@ returns-in-Ok-clause-state c = λ mentions says.
     ]
     in
     within (reading_of c.args.slot.now.block) mentions (bytes_of c.in-Ok.image) (c.in-Ok.ensures.image ∙ image_says field t mentions says)
-    (subst (λ n. length (bytes_of c.in-Ok.image) ≤ n) (limit_says t mentions says) (subst (λ (i : List ℕ). length i ≤ image_limit t) (sym c.in-Ok.ensures.image) small))
+    (subst (λ n. length (bytes_of c.in-Ok.image) ≤ n) (limit_says t mentions says)
+    (subst (λ (i : List ℕ). length i ≤ image_limit t) (sym c.in-Ok.ensures.image) small))
 
 pub returns-in-Err-TooLarge-clause-state : goal.returns-in-Err-TooLarge-clause-state
 returns-in-Err-TooLarge-clause-state c = λ mentions says.
     let large = c.in-Err-TooLarge.ensures.too_large.0 (rw c.in-Err-TooLarge.field-0-is refl) in
     let size = image_says c.args.slot.now.block.field.items (contents c.args.table) mentions says in
     let limit = limit_says (contents c.args.table) mentions says in
-    over (reading_of c.args.slot.now.block) mentions (subst (λ n. n < length (image_of (reading_of c.args.slot.now.block) mentions)) limit (subst (λ i. image_limit (contents c.args.table) < length i) size large))
+    over (reading_of c.args.slot.now.block) mentions (subst (λ n. n < length (image_of (reading_of c.args.slot.now.block) mentions)) limit
+    (subst (λ i. image_limit (contents c.args.table) < length i) size large))

@@ -16,7 +16,8 @@ add_item-requires g c =
     let items = c.args.block.now.items.items in
     let within : c.loop-index.index < length items = rw c.deref-item-items.ensures.value at c.loop-index-test.true in
     let here = rw c.deref-item-items.ensures.value at c.item-item.is in
-    let usable = usable_at c.args.known.now.slots.now c.args.known.now.dependents.now c.requires.0.known.found g.at (reading_of c.args.block.now) c.requires.1.0 in
+    let usable =
+    usable_at c.args.known.now.slots.now c.args.known.now.dependents.now c.requires.0.known.found g.at (reading_of c.args.block.now) c.requires.1.0 in
     let steps = c.loop-index.invariant.steps in
     let room = c.requires.1.1.1.1 in (
       c.requires.0,
@@ -44,7 +45,8 @@ loop-index-preserved g c =
     let more = c.in_ok-add_item.ensures.work in
     record {
       added = rw (map-take_item item_of items c.loop-index.index c.item-item.result within here)
-          (table_of_one_more (blocks_of c.args.known.now.slots.now) (map item_of (take c.loop-index.index items)) (item_of c.item-item.result) (contents c.loop-index.mentions) (contents c.add_item.new.mentions)
+          (table_of_one_more (blocks_of c.args.known.now.slots.now) (map item_of (take c.loop-index.index items)) (item_of c.item-item.result)
+          (contents c.loop-index.mentions) (contents c.add_item.new.mentions)
           c.loop-index.invariant.added c.in_ok-add_item.ensures.added);
       steps = omega arith;
     }
@@ -54,7 +56,8 @@ returns-clause-table g c =
     let past : length c.args.block.now.items.items ≤ c.loop-index.index = rw c.deref-item-items.ensures.value at c.loop-index-test.false in
     let items = rw (take_all c.loop-index.index c.args.block.now.items.items past) at c.loop-index.invariant.added in
     let whole = table_of_block (blocks_of c.args.known.now.slots.now) (reading_of c.args.block.now) (contents c.loop-index.mentions) c.requires.1.1.0 items in
-    IfOk-weaker c.into_table.result _ _ (λ table same. same_table (blocks_of c.args.known.now.slots.now) (reading_of c.args.block.now) (contents c.loop-index.mentions) (contents table) same whole) c.into_table.ensures
+    IfOk-weaker c.into_table.result _ _ (λ table same. same_table (blocks_of c.args.known.now.slots.now) (reading_of c.args.block.now)
+    (contents c.loop-index.mentions) (contents table) same whole) c.into_table.ensures
 
 pub loop-index-init : goal.loop-index-init
 loop-index-init g c = record {

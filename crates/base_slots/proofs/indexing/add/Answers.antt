@@ -2,7 +2,8 @@ use Rattle.std.proofs.Common.{◌≤◌, ◌+◌, length, take, Some, ap, ◌∙
 use Rattle.base_index.specs.Listing.{ListsToo}
 use Rattle.base_slots.specs.declared.indexing.Role.TheVariants.{Holder, User}
 use Rattle.base_slots.specs.inside.Indexing.{all_said, says_of, is_among_said}
-use Rattle.base_slots.proofs.Adding.{capacity_here, changed_holder, changed_user, adds_more, adds_same, place_for, added_among, said_more, said_same, said_here, says_all, said_ended}
+use Rattle.base_slots.proofs.Adding.{capacity_here, changed_holder, changed_user, adds_more, adds_same, place_for, added_among, said_more, said_same}
+use Rattle.base_slots.proofs.Adding.{said_here, says_all, said_ended}
 use Rattle.base_slots.proofs.indexing.add.Goals as goal
 use Rattle.base_slots.proofs.indexing.add.Goals.{in-Some-Holder-default, in-Some-User-default, in-None}
 
@@ -19,7 +20,8 @@ add_holder-requires-clause-room c =
     let said = is_among_said (take c.loop-place.place (all_said block)) in
     let here = c.in-Some-Holder-default.ensures ∙ ap (λ role. Some (Some (role, name))) c.in-Some-Holder-default.field-0-0-is in
     let says = says_all block Holder name ∙ said_here (all_said block) c.loop-place.place Holder name here in
-    place_for c.args.order.now.listed said c.args.id c.args.index.now c.loop-place.index Holder name c.loop-place.invariant (c.requires.parts Holder name) (c.requires.room Holder name says)
+    place_for c.args.order.now.listed said c.args.id c.args.index.now c.loop-place.index Holder name c.loop-place.invariant (c.requires.parts Holder name)
+    (c.requires.room Holder name says)
 
 pub add_user-requires-clause-among : goal.add_user-requires-clause-among
 add_user-requires-clause-among c =
@@ -34,7 +36,8 @@ add_user-requires-clause-room c =
     let said = is_among_said (take c.loop-place.place (all_said block)) in
     let here = c.in-Some-User-default.ensures ∙ ap (λ role. Some (Some (role, name))) c.in-Some-User-default.field-0-0-is in
     let says = says_all block User name ∙ said_here (all_said block) c.loop-place.place User name here in
-    place_for c.args.order.now.listed said c.args.id c.args.index.now c.loop-place.index User name c.loop-place.invariant (c.requires.parts User name) (c.requires.room User name says)
+    place_for c.args.order.now.listed said c.args.id c.args.index.now c.loop-place.index User name c.loop-place.invariant (c.requires.parts User name)
+    (c.requires.room User name says)
 
 pub loop-place-preserved : goal.loop-place-preserved
 loop-place-preserved c =
@@ -50,8 +53,10 @@ loop-place-preserved c =
           let new = w.add_holder.new.self in
           let here = w.in-Some-Holder-default.ensures ∙ ap (λ role. Some (Some (role, name))) w.in-Some-Holder-default.field-0-0-is in
           rw w.index-is
-          (adds_more listed said next c.args.id c.args.index.now mid new (Some (Holder, name)) c.loop-place.invariant (said_more all k (Some (Holder, name)) here)
-          (changed_holder (λ a b. ListsToo listed a b c.args.id) name mid new w.add_holder.ensures.holders w.add_holder.ensures.users w.add_holder.ensures.others)
+          (adds_more listed said next c.args.id c.args.index.now mid new (Some (Holder, name)) c.loop-place.invariant
+          (said_more all k (Some (Holder, name)) here)
+          (changed_holder (λ a b. ListsToo listed a b c.args.id) name mid new w.add_holder.ensures.holders w.add_holder.ensures.users
+          w.add_holder.ensures.others)
           (λ n. capacity_here mid new name n w.add_holder.ensures.capacity w.add_holder.ensures.others))
       | in-Some-User-default w ↦
           let name = w.in-Some-User-default.name.now in
@@ -67,5 +72,7 @@ loop-place-preserved c =
 pub returns : goal.returns
 returns c =
     let block = c.args.block.now in
-    let past : length block.names.items + length block.items.items ≤ c.loop-place.place = omega (arith, c.loop-place-test.false, c.len.ensures, c.len-2.ensures, block.names.ok.0, block.items.ok.0) in
-    adds_same c.args.order.now.listed (is_among_said (take c.loop-place.place (all_said block))) (says_of block) c.args.id c.args.index.now c.loop-place.index (said_ended block c.loop-place.place past) c.loop-place.invariant
+    let past : length block.names.items + length block.items.items ≤ c.loop-place.place =
+    omega (arith, c.loop-place-test.false, c.len.ensures, c.len-2.ensures, block.names.ok.0, block.items.ok.0) in
+    adds_same c.args.order.now.listed (is_among_said (take c.loop-place.place (all_said block)))
+    (says_of block) c.args.id c.args.index.now c.loop-place.index (said_ended block c.loop-place.place past) c.loop-place.invariant

@@ -14,7 +14,8 @@ loop-place-preserved c =
     elim c.match-said_at.branch [
       | in-Some w ↦
           rw w.index-is
-          (forgets_more said next c.args.index.now c.loop-place.index w.forget_unused.new.self _ w.in-Some.name.now h w.forget_unused.ensures.seen w.forget_unused.ensures.others w.forget_unused.ensures.gone
+          (forgets_more said next c.args.index.now c.loop-place.index w.forget_unused.new.self _ w.in-Some.name.now h w.forget_unused.ensures.seen
+          w.forget_unused.ensures.others w.forget_unused.ensures.gone
           (said_more all k _ w.in-Some.ensures))
       | in_default w ↦
           rw w.index-is
@@ -24,6 +25,7 @@ loop-place-preserved c =
 pub returns : goal.returns
 returns c =
     let block = c.args.block.now in
-    let past : length block.names.items + length block.items.items ≤ c.loop-place.place = omega (arith, c.loop-place-test.false, c.len.ensures, c.len-2.ensures, block.names.ok.0, block.items.ok.0) in
+    let past : length block.names.items + length block.items.items ≤ c.loop-place.place =
+    omega (arith, c.loop-place-test.false, c.len.ensures, c.len-2.ensures, block.names.ok.0, block.items.ok.0) in
     let h = c.loop-place.invariant in
     record { same = h.same; gone = λ role name e. h.gone role name (sym (said_ended block c.loop-place.place past role name) ∙ e); kept = h.kept }

@@ -18,7 +18,8 @@ loop-place-preserved c =
           rw w.index-is
           (record {
             grown = grown_more c.args.index.now mid w.reserve.new.self c.loop-place.invariant.grown now;
-            room = room_more said next mid w.reserve.new.self _ name c.loop-place.invariant.room now w.in_ok-reserve.ensures.holder_room w.in_ok-reserve.ensures.user_room
+            room = room_more said next mid w.reserve.new.self _ name c.loop-place.invariant.room now w.in_ok-reserve.ensures.holder_room
+                w.in_ok-reserve.ensures.user_room
                 (said_more all k _ w.in-Some.ensures);
           })
       | in_default w ↦
@@ -32,5 +33,6 @@ loop-place-preserved c =
 pub returns-clause-room : goal.returns-clause-room
 returns-clause-room c = λ role name e.
     let block = c.args.block.now in
-    let past : length block.names.items + length block.items.items ≤ c.loop-place.place = omega (arith, c.loop-place-test.false, c.len.ensures, c.len-2.ensures, block.names.ok.0, block.items.ok.0) in
+    let past : length block.names.items + length block.items.items ≤ c.loop-place.place =
+    omega (arith, c.loop-place-test.false, c.len.ensures, c.len-2.ensures, block.names.ok.0, block.items.ok.0) in
     c.loop-place.invariant.room role name (sym (said_ended block c.loop-place.place past role name) ∙ e)

@@ -6,7 +6,8 @@ use Rattle.base_slots.specs.Positions.{ArePositions}
 use Rattle.base_slots.proofs.positions.positions_of.Goals as goal
 
 -- one more id is there
-one_position_more : (listed ids positions : List ℕ) (id at : ℕ) → ArePositions listed ids positions → slice_get listed at ≡ Some id → ArePositions listed (ids ++ id ∷ []) (positions ++ at ∷ [])
+one_position_more : (listed ids positions : List ℕ) (id at : ℕ) → ArePositions listed ids positions → slice_get listed at ≡ Some id
+    → ArePositions listed (ids ++ id ∷ []) (positions ++ at ∷ [])
 one_position_more listed ids positions id at h here = record {
   as_many = (let n = h.as_many in omega (arith, length-append ids (id ∷ []), length-append positions (at ∷ [])));
   stands = λ i one there e f.
@@ -27,10 +28,13 @@ loop-id-preserved c =
     let ids = c.args.ids.now in
     let at = c.loop-id.id-index in
     rw (take_more ids at 0 c.loop-id-test.true, c.in_ok-push.ensures.items)
-    (one_position_more c.args.order.now.listed (take at ids) c.loop-id.positions.items (get_or ids at 0) c.position.result c.loop-id.invariant c.position.ensures)
+    (one_position_more c.args.order.now.listed (take at ids) c.loop-id.positions.items (get_or ids at 0) c.position.result c.loop-id.invariant
+    c.position.ensures)
 
 pub position-requires : goal.position-requires
-position-requires c = c.requires c.loop-id.id-index (get_or c.args.ids.now c.loop-id.id-index 0) (slice_get-get_or c.args.ids.now c.loop-id.id-index 0 c.loop-id-test.true)
+position-requires c =
+    c.requires c.loop-id.id-index (get_or c.args.ids.now c.loop-id.id-index 0) (slice_get-get_or c.args.ids.now c.loop-id.id-index 0 c.loop-id-test.true)
 
 pub returns : goal.returns
-returns c = subst (λ done. ArePositions c.args.order.now.listed done c.loop-id.positions.items) (take_all c.loop-id.id-index c.args.ids.now c.loop-id-test.false) c.loop-id.invariant
+returns c = subst (λ done. ArePositions c.args.order.now.listed done c.loop-id.positions.items)
+    (take_all c.loop-id.id-index c.args.ids.now c.loop-id-test.false) c.loop-id.invariant

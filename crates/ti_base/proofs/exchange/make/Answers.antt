@@ -7,7 +7,8 @@ use Rattle.ti_base.proofs.exchange.make.Goals as goal
 pub exchange-requires : goal.exchange-requires
 exchange-requires c =
     let change = change_of c.args.edit.now in
-    rw (c.positions-out.ensures.out, c.positions-out.ensures.put) (can_edit c.args.slots.now change c.args.spare.now c.requires.read c.requires.sound.in_place c.requires.new)
+    rw (c.positions-out.ensures.out, c.positions-out.ensures.put)
+    (can_edit c.args.slots.now change c.args.spare.now c.requires.read c.requires.sound.in_place c.requires.new)
 
 pub returns-clause-made : goal.returns-clause-made
 returns-clause-made c = rw (← c.positions-out.ensures.out, ← c.positions-out.ensures.put) c.exchange.ensures

@@ -15,8 +15,10 @@ split_at-requires c =
     let slots = c.args.slots.now in
     let slot = c.slot_of-slot.result.now in
     let here = c.slot_of-slot.ensures in
-    let within = header_within (blocks_of slots) c.args.at (reading_of slot.block) slot.settled.faults.items (kept_of_slot slots c.args.at slot c.requires.kept here) in
-    let count : c.count_of_header-count.result ≡ length (filter (is_kept true) (reading_of slot.block).faults) = c.count_of_header-count.ensures ∙ ap (λ fs. length (filter (is_kept true) (map fault_of fs))) c.deref.ensures.value in
+    let within = header_within (blocks_of slots) c.args.at (reading_of slot.block) slot.settled.faults.items
+    (kept_of_slot slots c.args.at slot c.requires.kept here) in
+    let count : c.count_of_header-count.result ≡ length (filter (is_kept true) (reading_of slot.block).faults) =
+    c.count_of_header-count.ensures ∙ ap (λ fs. length (filter (is_kept true) (map fault_of fs))) c.deref.ensures.value in
     let all : length c.deref-2.result.now ≡ length slot.settled.faults.items = ap (λ fs. length fs) c.deref-2.ensures.value in
     omega (arith, within, count, all)
 
@@ -30,11 +32,13 @@ returns c = λ b s.
     let items = slot.settled.faults.items in
     let here = c.slot_of-slot.ensures in
     let kept = kept_of_slot slots at slot c.requires.kept here in
-    let count : c.count_of_header-count.result ≡ length (filter (is_kept true) block.faults) = c.count_of_header-count.ensures ∙ ap (λ fs. length (filter (is_kept true) (map fault_of fs))) c.deref.ensures.value in
+    let count : c.count_of_header-count.result ≡ length (filter (is_kept true) block.faults) =
+    c.count_of_header-count.ensures ∙ ap (λ fs. length (filter (is_kept true) (map fault_of fs))) c.deref.ensures.value in
     let front : map (fault_at at) c.split_at.result.0.now ≡ local_faults true at block.faults =
     ap (map (fault_at at)) c.split_at.ensures.front
     ∙ (ap (λ n. map (fault_at at) (take n c.deref-2.result.now)) count
-    ∙ (ap (λ xs. map (fault_at at) (take (length (filter (is_kept true) block.faults)) xs)) c.deref-2.ensures.value ∙ kept_header blocks at block items kept)) in
+    ∙ (ap (λ xs. map (fault_at at) (take (length (filter (is_kept true) block.faults)) xs)) c.deref-2.ensures.value
+    ∙ kept_header blocks at block items kept)) in
     let back : map (fault_at at) c.split_at.result.1.now ≡ after_names blocks at block =
     ap (map (fault_at at)) c.split_at.ensures.back
     ∙ (ap (λ n. map (fault_at at) (drop n c.deref-2.result.now)) count

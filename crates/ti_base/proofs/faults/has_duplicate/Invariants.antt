@@ -7,4 +7,5 @@ use Rattle.ti_base.proofs.faults.has_duplicate.Given as goal
 
 abbrev pub invariant-loop-name : goal.invariant-loop-name
 invariant-loop-name l =
-    list_any (is_owned_before (blocks_of l.slots) l.at) (map rc_slice_items (drop l.name-index l.names)) ≡ list_any (is_owned_before (blocks_of l.slots) l.at) (map rc_slice_items l.names)
+    list_any (is_owned_before (blocks_of l.slots) l.at) (map rc_slice_items (drop l.name-index l.names))
+    ≡ list_any (is_owned_before (blocks_of l.slots) l.at) (map rc_slice_items l.names)

@@ -16,7 +16,8 @@ loop-at-preserved c =
     let within : c.loop-at.at < length blocks = omega arith in
     let block = item_at blocks c.loop-at.at within in
     let next : suc c.loop-at.at ≡ c.loop-at.at + 1 = omega arith in
-    one_more_block blocks c.loop-at.at (c.loop-at.at + 1) block.0 (map fault_seen c.loop-at.faults.items) (map fault_seen c.add_block_faults.new.faults.items) (faults blocks)
+    one_more_block blocks c.loop-at.at (c.loop-at.at + 1) block.0 (map fault_seen c.loop-at.faults.items)
+    (map fault_seen c.add_block_faults.new.faults.items) (faults blocks)
     next block.1 c.loop-at.invariant (c.in_ok-add_block_faults.ensures block.0 block.1)
 
 pub loop-at-init : goal.loop-at-init

@@ -8,6 +8,7 @@ use Rattle.ti_base.proofs.names.distinct_names.Given as goal
 -- the names told and those that are left to tell are all of them, each once; those passed are seen
 abbrev pub invariant-loop-name : goal.invariant-loop-name
 invariant-loop-name l =
-    (map (λ name. rc_slice_items name.now) l.all.items ++ distinct_after (map rc_slice_items (take l.name-index l.names)) (map rc_slice_items (drop l.name-index l.names))
+    (map (λ name. rc_slice_items name.now) l.all.items ++ distinct_after (map rc_slice_items (take l.name-index l.names))
+    (map rc_slice_items (drop l.name-index l.names))
     ≡ distinct (map rc_slice_items l.names))
     × AreSeen (is_seen l.seen) (map rc_slice_items (take l.name-index l.names))

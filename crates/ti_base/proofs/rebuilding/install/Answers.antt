@@ -25,6 +25,8 @@ loop-index-preserved c =
       h.2,
       same_length ∙ h.3,
       all_stay l.slots c.exchange_settled.new.self l.plan.ids.items c.index.result.now c.index_mut.result.now c.exchange_settled.ensures h.4,
-      ap (λ slots. settled_all slots (drop (l.index + 1) l.plan.ids.items) (drop (l.index + 1) (set l.plan.settled.items l.index c.exchange_settled.new.settled))) c.exchange_settled.ensures
-          ∙ (one_more_settled l.slots l.plan.ids.items l.plan.settled.items l.index c.index.result.now c.index_mut.result.now c.exchange_settled.new.settled within h.3 c.index.ensures c.index_mut.ensures.value ∙ h.5),
+      ap (λ slots. settled_all slots (drop (l.index + 1) l.plan.ids.items)
+          (drop (l.index + 1) (set l.plan.settled.items l.index c.exchange_settled.new.settled))) c.exchange_settled.ensures
+          ∙ (one_more_settled l.slots l.plan.ids.items l.plan.settled.items l.index c.index.result.now c.index_mut.result.now c.exchange_settled.new.settled
+          within h.3 c.index.ensures c.index_mut.ensures.value ∙ h.5),
     )

@@ -10,4 +10,5 @@ invariant-loop-index l =
     (l.plan.ids ≡ l.fn.plan.ids) × (l.plan.rebuilt ≡ l.fn.plan.rebuilt) × (l.plan.work ≡ l.fn.plan.work)
     × (length l.plan.settled.items ≡ length l.plan.ids.items)
     × All (Has (ids_of l.slots)) l.plan.ids.items
-    × (settled_all l.slots (drop l.index l.plan.ids.items) (drop l.index l.plan.settled.items) ≡ settled_all l.fn.slots l.fn.plan.ids.items l.fn.plan.settled.items)
+    × (settled_all l.slots (drop l.index l.plan.ids.items) (drop l.index l.plan.settled.items)
+    ≡ settled_all l.fn.slots l.fn.plan.ids.items l.fn.plan.settled.items)

@@ -16,7 +16,8 @@ install-requires-clause-stand c =
 pub returns-clause-kept : goal.returns-clause-kept
 returns-clause-kept c =
     let is = rw c.names_of.ensures at c.in_ok-plan.ensures in
-    kept_installed c.args.slots.now c.install.new.slots c.args.put (names_seen c.args.out.now) c.in_ok-plan.plan c.requires.read c.requires.ready is c.install.ensures.slots
+    kept_installed c.args.slots.now c.install.new.slots c.args.put (names_seen c.args.out.now) c.in_ok-plan.plan c.requires.read c.requires.ready is
+    c.install.ensures.slots
 
 pub returns-clause-texts : goal.returns-clause-texts
 returns-clause-texts c =

@@ -26,7 +26,8 @@ loop-at-preserved c =
       c.in_ok-push.ensures.items ∙ starts_more texts at c.loop-at.lines c.loop-at.starts.items c.loop-at.invariant.0 before,
       omega (arith, more, lines, before),
       omega (arith, short, few, so_far),
-      rw c.in_ok-push.ensures.items (All-push (λ start. start ≤ 68719476736) c.loop-at.starts.items c.loop-at.lines c.loop-at.invariant.3 (let few_texts = c.requires.read.few in omega (arith, count, so_far))),
+      rw c.in_ok-push.ensures.items (All-push (λ start. start ≤ 68719476736) c.loop-at.starts.items c.loop-at.lines c.loop-at.invariant.3
+          (let few_texts = c.requires.read.few in omega (arith, count, so_far))),
     )
 
 pub returns-clause-starts : goal.returns-clause-starts

@@ -38,14 +38,18 @@ pub forget-requires-in-Err : goal.forget-requires-in-Err
 forget-requires-in-Err c =
     let sound = subst (λ texts. IsSoundEdit texts (change_of c.args.edit.now)) (sym c.read_new.ensures.texts) c.requires.sound in
     read_same c.read_new.new.slots c.undo.new.slots c.read_new.ensures.read
-    (edit_undone c.read_new.new.slots c.make-id.new.slots c.rebuild.new.slots c.undo.new.slots (change_of c.args.edit.now) c.in_ok-spare.spare c.make-id.new.spare c.make-id.result c.read_new.ensures.read sound c.in_ok-spare.ensures.new c.make-id.ensures.made c.in-Err.ensures.err c.undo.ensures)
+    (edit_undone c.read_new.new.slots c.make-id.new.slots c.rebuild.new.slots c.undo.new.slots
+    (change_of c.args.edit.now) c.in_ok-spare.spare c.make-id.new.spare c.make-id.result c.read_new.ensures.read sound c.in_ok-spare.ensures.new
+    c.make-id.ensures.made c.in-Err.ensures.err c.undo.ensures)
 
 pub returns-clause-kept : goal.returns-clause-kept
 returns-clause-kept c =
     let sound = subst (λ texts. IsSoundEdit texts (change_of c.args.edit.now)) (sym c.read_new.ensures.texts) c.requires.sound in
     kept_same c.args.slots.now c.forget-in-Err.new.slots c.requires.kept c.forget-in-Err.ensures.read
     (c.forget-in-Err.ensures.slots
-    ∙ (edit_undone c.read_new.new.slots c.make-id.new.slots c.rebuild.new.slots c.undo.new.slots (change_of c.args.edit.now) c.in_ok-spare.spare c.make-id.new.spare c.make-id.result c.read_new.ensures.read sound c.in_ok-spare.ensures.new c.make-id.ensures.made c.in-Err.ensures.err c.undo.ensures
+    ∙ (edit_undone c.read_new.new.slots c.make-id.new.slots c.rebuild.new.slots c.undo.new.slots
+    (change_of c.args.edit.now) c.in_ok-spare.spare c.make-id.new.spare c.make-id.result c.read_new.ensures.read sound c.in_ok-spare.ensures.new
+    c.make-id.ensures.made c.in-Err.ensures.err c.undo.ensures
     ∙ c.read_new.ensures.slots))
 
 pub returns-clause-err : goal.returns-clause-err
@@ -53,7 +57,9 @@ returns-clause-err c =
     let sound = subst (λ texts. IsSoundEdit texts (change_of c.args.edit.now)) (sym c.read_new.ensures.texts) c.requires.sound in
     texts_back c.args.slots.now c.forget-in-Err.new.slots
     (c.forget-in-Err.ensures.slots
-    ∙ (edit_undone c.read_new.new.slots c.make-id.new.slots c.rebuild.new.slots c.undo.new.slots (change_of c.args.edit.now) c.in_ok-spare.spare c.make-id.new.spare c.make-id.result c.read_new.ensures.read sound c.in_ok-spare.ensures.new c.make-id.ensures.made c.in-Err.ensures.err c.undo.ensures
+    ∙ (edit_undone c.read_new.new.slots c.make-id.new.slots c.rebuild.new.slots c.undo.new.slots
+    (change_of c.args.edit.now) c.in_ok-spare.spare c.make-id.new.spare c.make-id.result c.read_new.ensures.read sound c.in_ok-spare.ensures.new
+    c.make-id.ensures.made c.in-Err.ensures.err c.undo.ensures
     ∙ c.read_new.ensures.slots))
 
 pub returns-in_err-spare-clause-kept : goal.returns-in_err-spare-clause-kept

@@ -17,4 +17,5 @@ pub returns-clause-none : goal.returns-clause-none
 returns-clause-none c = let f = found_at _ _ _ _ c.in_ok-kind.ensures.found c.at.ensures.within c.at.ensures.value in rw f.is tt
 
 pub returns-clause-is : goal.returns-clause-is
-returns-clause-is c = let f = found_at _ _ _ _ c.in_ok-kind.ensures.found c.at.ensures.within c.at.ensures.value in f.is ∙ is_capability_named _ _ f.within f.named
+returns-clause-is c =
+    let f = found_at _ _ _ _ c.in_ok-kind.ensures.found c.at.ensures.within c.at.ensures.value in f.is ∙ is_capability_named _ _ f.within f.named

@@ -9,15 +9,19 @@ pub number_at-requires : goal.number_at-requires
 number_at-requires c = rw numbers_as_long c.requires
 
 pub text_of-requires : goal.text_of-requires
-text_of-requires c = is_there c.args.place _ (capability c.capability_numbered-kind.result.0 c.capability_numbered-kind.result.1) c.requires c.number_at.ensures c.capability_numbered-kind.ensures
+text_of-requires c = is_there c.args.place _ (capability c.capability_numbered-kind.result.0 c.capability_numbered-kind.result.1) c.requires
+    c.number_at.ensures c.capability_numbered-kind.ensures
 
 pub returns-then-eq-clause-found : goal.returns-then-eq-clause-found
 returns-then-eq-clause-found c =
-    row_here c.args.place _ (capability c.capability_numbered-kind.result.0 c.capability_numbered-kind.result.1) c.requires c.number_at.ensures c.capability_numbered-kind.ensures c.args.name.now
+    row_here c.args.place _ (capability c.capability_numbered-kind.result.0 c.capability_numbered-kind.result.1) c.requires c.number_at.ensures
+    c.capability_numbered-kind.ensures c.args.name.now
     (sym c.text_of.ensures ∙ sym c.as_bytes.ensures.value ∙ (bytes_eq-Decides c.as_bytes.result.now c.args.name.now).0 (sym c.eq.ensures ∙ c.if-eq.true))
 
 pub returns-else-eq-clause-none : goal.returns-else-eq-clause-none
-returns-else-eq-clause-none c = other_here c.args.place _ (capability c.capability_numbered-kind.result.0 c.capability_numbered-kind.result.1) c.requires c.number_at.ensures c.capability_numbered-kind.ensures c.args.name.now (λ same.
-    let is : bytes_eq c.as_bytes.result.now c.args.name.now ≡ true = (bytes_eq-Decides c.as_bytes.result.now c.args.name.now).1 (c.as_bytes.ensures.value ∙ c.text_of.ensures ∙ same) in
+returns-else-eq-clause-none c = other_here c.args.place _ (capability c.capability_numbered-kind.result.0 c.capability_numbered-kind.result.1) c.requires
+    c.number_at.ensures c.capability_numbered-kind.ensures c.args.name.now (λ same.
+    let is : bytes_eq c.as_bytes.result.now c.args.name.now ≡ true =
+    (bytes_eq-Decides c.as_bytes.result.now c.args.name.now).1 (c.as_bytes.ensures.value ∙ c.text_of.ensures ∙ same) in
     let not : bytes_eq c.as_bytes.result.now c.args.name.now ≡ false = sym c.eq.ensures ∙ c.if-eq.false in
     cc)

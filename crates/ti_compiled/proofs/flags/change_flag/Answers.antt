@@ -18,7 +18,8 @@ resize_part-requires-clause-within c =
 pub resize_part-requires-clause-room : goal.resize_part-requires-clause-room
 resize_part-requires-clause-room c =
     let b = c.args.bytes.now.items in
-    let l = flag_lengths (names_in b) (contents_in b) c.requires.image.imaged.past c.args.index c.requires.index c.args.on c.args.old.now c.args.new.now c.requires.old c.requires.new in
+    let l = flag_lengths (names_in b) (contents_in b) c.requires.image.imaged.past c.args.index c.requires.index c.args.on c.args.old.now c.args.new.now
+    c.requires.old c.requires.new in
     let w = ap (λ (x : List ℕ). length x) c.requires.image.whole in
     let r = c.requires.room in
     let g = c.gap.ensures in
@@ -58,14 +59,17 @@ returns c =
     let b2 = c.if-index-wanted.bytes.items in
     let i = c.requires.index in
     let at : c.flags_offset-start.result ≡ 12 + suc (length names) = c.flags_offset-start.ensures ∙ ap (λ x. 12 + x) c.requires.old.names in
-    let size : h.flags + c.gap.result ≡ written_count d Flag + (suc (length names) + written_count d Flag) % 2 = ap (λ x. h.flags + x) c.gap.ensures ∙ rw (c.requires.old.names, c.requires.old.flags) refl in
+    let size : h.flags + c.gap.result ≡ written_count d Flag + (suc (length names) + written_count d Flag) % 2 =
+    ap (λ x. h.flags + x) c.gap.ensures ∙ rw (c.requires.old.names, c.requires.old.flags) refl in
     let resizes : Replaces b b1 (12 + suc (length names)) (written_count d Flag + (suc (length names) + written_count d Flag) % 2) (λ m. with_length m n 0) =
-    subst (λ x. Replaces b b1 (12 + suc (length names)) x (λ m. with_length m n 0)) size (subst (λ x. Replaces b b1 x (h.flags + c.gap.result) (λ m. with_length m n 0)) at c.resize_part.ensures.part) in
+    subst (λ x. Replaces b b1 (12 + suc (length names)) x (λ m. with_length m n 0)) size
+    (subst (λ x. Replaces b b1 x (h.flags + c.gap.result) (λ m. with_length m n 0)) at c.resize_part.ensures.part) in
     let whole = c.requires.image.whole in
     let done = flag_changed names d past c.args.index i c.args.on b b1 n whole resizes b2 c.write_header.new.bytes.items k in
     elim c.if-index-wanted.branch [
       | then-index-wanted w ↦
-          done (flag_written names d past c.args.index i c.args.on b b1 n whole resizes b2 c.flags_offset-start.result w.flag_byte.result w.if-index-wanted.true at w.flag_byte.ensures (ap (λ (v : Vec ℕ Global). v.items) w.bytes-is))
+          done (flag_written names d past c.args.index i c.args.on b b1 n whole resizes b2 c.flags_offset-start.result w.flag_byte.result
+          w.if-index-wanted.true at w.flag_byte.ensures (ap (λ (v : Vec ℕ Global). v.items) w.bytes-is))
           c.requires.new c.requires.small wanted c.write_header.ensures.header
       | else-index-wanted w ↦
           done (ap (λ (v : Vec ℕ Global). v.items) w.bytes-is ∙ flag_cut names d past c.args.index i c.args.on b b1 n whole resizes w.if-index-wanted.false)

@@ -21,6 +21,8 @@ returns c =
           rw w.if-on.true (sizes_set b is h has c.args.index within c.if-on.flags e)
       | else-on+then-index-old w ↦
           let last = w.last_set.ensures in
-          rw (w.if-on.false, w.flags-is) (sizes_down b is h has c.args.index within c.flags_offset-start.result (c.flags_offset-start.result + c.args.index) w.last_set.result c.flags_offset-start.ensures refl w.if-index-old.true last.within last.last last.past)
+          rw (w.if-on.false, w.flags-is) (sizes_down b is h has c.args.index within c.flags_offset-start.result
+          (c.flags_offset-start.result + c.args.index) w.last_set.result c.flags_offset-start.ensures refl w.if-index-old.true last.within last.last
+          last.past)
       | else-on+else-index-old w ↦ rw (w.if-on.false, w.flags-is) (sizes_unchanged b is h has c.args.index within w.if-index-old.false)
     ]

@@ -21,7 +21,8 @@ returns-in_err-reserve-clause-too_large c = λ names d has.
     ((λ e. absurd (memory_only _ e c.from_residual.ensures.1)), (λ p. absurd (omega arith)))
 
 pub returns-in_err-reserve-clause-memory : goal.returns-in_err-reserve-clause-memory
-returns-in_err-reserve-clause-memory c = λ names d has e. within_limit names d c.args.header.now has _ _ c.size-size.ensures c.limit.ensures c.if-size-limit.false
+returns-in_err-reserve-clause-memory c =
+    λ names d has e. within_limit names d c.args.header.now has _ _ c.size-size.ensures c.limit.ensures c.if-size-limit.false
 
 pub returns-clause-room : goal.returns-clause-room
 returns-clause-room c = λ names d has.

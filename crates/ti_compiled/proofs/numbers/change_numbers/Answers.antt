@@ -36,6 +36,8 @@ pub returns : goal.returns
 returns c = λ i n within has all small.
     let h = c.args.old.now in
     let k = c.args.new.now in
-    numbers_changed c.args.bytes.now.items c.requires.image h c.requires.old i within n k has c.resize_part.new.bytes.items c.put_numbers.new.bytes.items c.write_header.new.bytes.items c.args.values.now
-    c.numbers_offset-begin.result (c.width.result * h.numbers) (c.width-2.result * k.numbers) 0 c.numbers_offset-begin.ensures (ap (λ x. x * h.numbers) c.width.ensures.value) (ap (λ x. x * k.numbers) c.width-2.ensures.value)
+    numbers_changed c.args.bytes.now.items c.requires.image h c.requires.old i within n k has c.resize_part.new.bytes.items c.put_numbers.new.bytes.items
+    c.write_header.new.bytes.items c.args.values.now
+    c.numbers_offset-begin.result (c.width.result * h.numbers) (c.width-2.result * k.numbers) 0 c.numbers_offset-begin.ensures
+    (ap (λ x. x * h.numbers) c.width.ensures.value) (ap (λ x. x * k.numbers) c.width-2.ensures.value)
     all small c.resize_part.ensures.part c.put_numbers.ensures.part c.write_header.ensures.header

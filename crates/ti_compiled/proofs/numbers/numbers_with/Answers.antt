@@ -10,4 +10,5 @@ value_of (Some n) = refl
 
 pub returns : goal.returns
 returns c =
-    number_put c.args.bytes.now c.requires.image c.args.old.now c.requires.old c.args.index c.requires.index c.args.number c.read_numbers-values.result c.unwrap_or.result c.read_numbers-values.ensures (c.unwrap_or.ensures ∙ value_of c.args.number)
+    number_put c.args.bytes.now c.requires.image c.args.old.now c.requires.old c.args.index c.requires.index c.args.number c.read_numbers-values.result
+    c.unwrap_or.result c.read_numbers-values.ensures (c.unwrap_or.ensures ∙ value_of c.args.number)

@@ -13,5 +13,6 @@ loop-at-preserved c =
     let a = c.args in
     record {
       len = c.put_number.ensures.len ∙ c.loop-at.invariant.len;
-      so_far = put_more a.bytes.now.items a.begin a.format a.values.now a.count c.loop-at.bytes.items c.put_number.new.bytes.items c.width-width.result c.loop-at.at _ c.width-width.ensures.value c.loop-at-test.true c.requires.count refl c.loop-at.invariant.so_far c.put_number.ensures.part;
+      so_far = put_more a.bytes.now.items a.begin a.format a.values.now a.count c.loop-at.bytes.items c.put_number.new.bytes.items c.width-width.result
+          c.loop-at.at _ c.width-width.ensures.value c.loop-at-test.true c.requires.count refl c.loop-at.invariant.so_far c.put_number.ensures.part;
     }

@@ -7,16 +7,19 @@ use Rattle.ti_compiled.proofs.patching.changed_copy.Goals as goal
 
 pub take_all_changed_away-requires-clause-held : goal.take_all_changed_away-requires-clause-held
 take_all_changed_away-requires-clause-held c = λ d valid.
-    ap (λ (i : NamedTable). held_by i d) c.in_ok-copy.ensures ∙ c.requires.held d valid ∙ ap (λ (es : List Mention). without_cancel (contents es d)) (sym c.entries.ensures.entries)
+    ap (λ (i : NamedTable). held_by i d) c.in_ok-copy.ensures ∙ c.requires.held d valid
+    ∙ ap (λ (es : List Mention). without_cancel (contents es d)) (sym c.entries.ensures.entries)
 
 pub give_all_changed-requires-clause-left : goal.give_all_changed-requires-clause-left
 give_all_changed-requires-clause-left c = λ d valid.
     let held = held_by c.take_all_changed_away.new.image d in
     subst (λ (es : List Mention). IsLeft (contents c.args.old.now d) (contents es d) held) (sym c.entries-2.ensures.entries)
-    (subst (λ (es : List Mention). IsLeft (contents es d) (contents c.args.new.now d) held) c.entries.ensures.entries (c.in_ok-take_all_changed_away.ensures.left d valid))
+    (subst (λ (es : List Mention). IsLeft (contents es d) (contents c.args.new.now d) held) c.entries.ensures.entries
+    (c.in_ok-take_all_changed_away.ensures.left d valid))
 
 pub returns-clause-names : goal.returns-clause-names
-returns-clause-names c = c.in_ok-give_all_changed.ensures.names ∙ c.in_ok-take_all_changed_away.ensures.names ∙ ap (λ (i : NamedTable). i.names) c.in_ok-copy.ensures
+returns-clause-names c =
+    c.in_ok-give_all_changed.ensures.names ∙ c.in_ok-take_all_changed_away.ensures.names ∙ ap (λ (i : NamedTable). i.names) c.in_ok-copy.ensures
 
 pub returns-clause-narrow : goal.returns-clause-narrow
 returns-clause-narrow c = (
@@ -25,7 +28,8 @@ returns-clause-narrow c = (
 )
 
 pub returns-clause-contents : goal.returns-clause-contents
-returns-clause-contents c = λ d valid. c.in_ok-give_all_changed.ensures.contents d valid ∙ ap (λ (es : List Mention). without_cancel (contents es d)) c.entries-2.ensures.entries
+returns-clause-contents c =
+    λ d valid. c.in_ok-give_all_changed.ensures.contents d valid ∙ ap (λ (es : List Mention). without_cancel (contents es d)) c.entries-2.ensures.entries
 
 pub take_all_changed_away-requires-clause-sorted : goal.take_all_changed_away-requires-clause-sorted
 take_all_changed_away-requires-clause-sorted c = c.entries.ensures.sorted

@@ -13,4 +13,5 @@ returns-clause-names c = rw c.ok.ensures.value (when_given c.set_value.result (c
 
 pub returns-clause-contents : goal.returns-clause-contents
 returns-clause-contents c =
-    rw c.ok.ensures.value (when_given c.set_value.result (HoldsGiven c.args.image.now c.set_value.new.self c.args.cap (without_cancel (content_lent c.args.value))) c.set_value.ensures.contents)
+    rw c.ok.ensures.value (when_given c.set_value.result (HoldsGiven c.args.image.now c.set_value.new.self c.args.cap
+    (without_cancel (content_lent c.args.value))) c.set_value.ensures.contents)

@@ -17,7 +17,8 @@ take_away_changed-requires c =
     let above = c.loop-left-test.true in
     let within = c.loop-left.invariant.within in
     record {
-      held = old_held c.args.old.now c.requires.sorted (c.loop-left.left - 1) _ (omega arith) c.index-old-left.is _ _ _ _ (passes_down c.loop-left.left (c.loop-left.left - 1) (omega arith)) (omega arith)
+      held = old_held c.args.old.now c.requires.sorted (c.loop-left.left - 1) _ (omega arith) c.index-old-left.is _ _ _ _
+          (passes_down c.loop-left.left (c.loop-left.left - 1) (omega arith)) (omega arith)
           c.loop-left.invariant.walks;
     }
 
@@ -29,7 +30,8 @@ loop-left-preserved c =
     record {
       within = omega arith;
       names = done.names ∙ c.loop-left.invariant.names;
-      walks = one_taken_away c.args.old.now c.requires.sorted (c.loop-left.left - 1) _ (omega arith) c.index-old-left.is _ _ _ _ (passes_down c.loop-left.left (c.loop-left.left - 1) (omega arith)) (omega arith)
+      walks = one_taken_away c.args.old.now c.requires.sorted (c.loop-left.left - 1) _ (omega arith) c.index-old-left.is _ _ _ _
+          (passes_down c.loop-left.left (c.loop-left.left - 1) (omega arith)) (omega arith)
           c.loop-left.invariant.walks _ done.left done.others.says;
     }
 

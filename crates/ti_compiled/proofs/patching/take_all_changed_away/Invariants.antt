@@ -8,7 +8,8 @@ abbrev pub invariant-loop-left : goal.invariant-loop-left
 invariant-loop-left l = record {
   within : l.left ≤ length l.old;
   names : l.image.names ≡ l.initial.image.names;
-  walks : Walks (entries_of l.old) (says (contents (entries_of l.old))) (leaves (contents (entries_of l.old)) (contents l.new)) (held_by l.image) (below l.left);
+  walks : Walks (entries_of l.old) (says (contents (entries_of l.old))) (leaves (contents (entries_of l.old)) (contents l.new)) (held_by l.image)
+      (below l.left);
 }
 
 abbrev pub decreases-loop-left : goal.decreases-loop-left

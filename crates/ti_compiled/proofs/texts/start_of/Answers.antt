@@ -16,7 +16,8 @@ word-offset-requires c =
 pub returns-then-offset-ne-ABSENT_WORD : goal.returns-then-offset-ne-ABSENT_WORD
 returns-then-offset-ne-ABSENT_WORD c =
     let b = c.args.bytes.now in
-    let e = offset_found c.args.bytes.now c.requires.image c.args.header.now c.requires.sizes c.offsets_offset-begin.result c.loop-at.at c.word-offset.result c.offsets_offset-begin.ensures c.loop-at-test.true c.word-offset.ensures.value in
+    let e = offset_found c.args.bytes.now c.requires.image c.args.header.now c.requires.sizes c.offsets_offset-begin.result c.loop-at.at
+    c.word-offset.result c.offsets_offset-begin.ensures c.loop-at-test.true c.word-offset.ensures.value in
     let there : offset_of (contents_in b) c.loop-at.at ≢ 65535 = λ h. c.if-offset-ne-ABSENT_WORD.true (e ∙ h) in
     e ∙ ((offset_tells (names_in b) (contents_in b) c.requires.image.imaged c.loop-at.at).there there).1 ∙ c.loop-at.invariant
 
@@ -25,8 +26,10 @@ loop-at-preserved c =
     let b = c.args.bytes.now in
     let d = contents_in b in
     let at = c.loop-at.at in
-    let found = offset_found c.args.bytes.now c.requires.image c.args.header.now c.requires.sizes c.offsets_offset-begin.result at c.word-offset.result c.offsets_offset-begin.ensures c.loop-at-test.true c.word-offset.ensures.value in
-    let none : text_piece (of_kind d Text at) ≡ [] = ((offset_tells (names_in b) d c.requires.image.imaged at).absent (sym found ∙ c.if-offset-ne-ABSENT_WORD.false)).1 in
+    let found = offset_found c.args.bytes.now c.requires.image c.args.header.now c.requires.sizes c.offsets_offset-begin.result at c.word-offset.result
+    c.offsets_offset-begin.ensures c.loop-at-test.true c.word-offset.ensures.value in
+    let none : text_piece (of_kind d Text at) ≡ [] =
+    ((offset_tells (names_in b) d c.requires.image.imaged at).absent (sym found ∙ c.if-offset-ne-ABSENT_WORD.false)).1 in
     ap (λ (t : List ℕ). length t) (texts-more d at ∙ ap (λ t. texts_below d at ++ t) none ∙ append-nil (texts_below d at)) ∙ c.loop-at.invariant
 
 pub returns : goal.returns

@@ -17,7 +17,8 @@ set_if_absent-requires c =
     let x = c.mention-item.result in
     let e : Mention = (x.0, content_of x.1) in
     let within : i < length (entries_of ms) = rw length-map c.loop-mention-test.true in
-    rw c.in_ok-copy_of.ensures (subst (λ (y : Mention). Agrees y.0 y.1) (item_read ms i x c.loop-mention-test.true c.mention-item.is) (c.requires.agree i e within))
+    rw c.in_ok-copy_of.ensures (subst (λ (y : Mention). Agrees y.0 y.1) (item_read ms i x c.loop-mention-test.true c.mention-item.is)
+    (c.requires.agree i e within))
 
 pub loop-mention-preserved : goal.loop-mention-preserved
 loop-mention-preserved c d =

@@ -16,7 +16,8 @@ loop-turn-preserved-in-First c =
     let turn = subst (TurnIs fs i ss j) c.in-First.is c.in-Some.ensures in
     let within : i < length c.args.first.now = rw length-map at turn.0 in
     subst (λ os. Merges fs ss os (i + 1) j) (sym c.in_ok-push_copy-in-First.ensures)
-    (takes_first fs ss _ i j c.requires.first c.requires.second c.loop-turn.invariant (x.0, content_of x.1) turn.0 (item_read _ _ x within c.index-first-at_first.is) turn.1)
+    (takes_first fs ss _ i j c.requires.first c.requires.second c.loop-turn.invariant (x.0, content_of x.1) turn.0
+    (item_read _ _ x within c.index-first-at_first.is) turn.1)
 
 pub loop-turn-preserved-in-Second : goal.loop-turn-preserved-in-Second
 loop-turn-preserved-in-Second c =
@@ -28,7 +29,8 @@ loop-turn-preserved-in-Second c =
     let turn = subst (TurnIs fs i ss j) c.in-Second.is c.in-Some.ensures in
     let within : j < length c.args.second.now = rw length-map at turn.0 in
     subst (λ os. Merges fs ss os i (j + 1)) (sym c.in_ok-push_copy-in-Second.ensures)
-    (takes_second fs ss _ i j c.requires.first c.requires.second c.loop-turn.invariant (x.0, content_of x.1) turn.0 (item_read _ _ x within c.index-second-at_second.is) turn.1)
+    (takes_second fs ss _ i j c.requires.first c.requires.second c.loop-turn.invariant (x.0, content_of x.1) turn.0
+    (item_read _ _ x within c.index-second-at_second.is) turn.1)
 
 pub loop-turn-preserved : goal.loop-turn-preserved
 loop-turn-preserved c =
@@ -40,21 +42,25 @@ loop-turn-preserved c =
     let turn = subst (TurnIs fs i ss j) c.in-Both.is c.in-Some.ensures in
     let within : i < length c.args.first.now = rw length-map at turn.0 in
     subst (λ os. Merges fs ss os (i + 1) (j + 1)) (sym c.in_ok-push_copy-in-Both.ensures)
-    (takes_both fs ss _ i j c.requires.first c.requires.second c.loop-turn.invariant (x.0, content_of x.1) turn.0 (item_read _ _ x within c.index-first-at_first-in-Both.is) turn.1 turn.2)
+    (takes_both fs ss _ i j c.requires.first c.requires.second c.loop-turn.invariant (x.0, content_of x.1) turn.0
+    (item_read _ _ x within c.index-first-at_first-in-Both.is) turn.1 turn.2)
 
 pub bounds-first-at_first : goal.bounds-first-at_first
 bounds-first-at_first c =
-    let turn = subst (TurnIs (entries_of c.args.first.now) c.loop-turn.at_first (entries_of c.args.second.now) c.loop-turn.at_second) c.in-First.is c.in-Some.ensures in
+    let turn = subst (TurnIs (entries_of c.args.first.now) c.loop-turn.at_first (entries_of c.args.second.now) c.loop-turn.at_second) c.in-First.is
+    c.in-Some.ensures in
     rw length-map at turn.0
 
 pub bounds-second-at_second : goal.bounds-second-at_second
 bounds-second-at_second c =
-    let turn = subst (TurnIs (entries_of c.args.first.now) c.loop-turn.at_first (entries_of c.args.second.now) c.loop-turn.at_second) c.in-Second.is c.in-Some.ensures in
+    let turn = subst (TurnIs (entries_of c.args.first.now) c.loop-turn.at_first (entries_of c.args.second.now) c.loop-turn.at_second) c.in-Second.is
+    c.in-Some.ensures in
     rw length-map at turn.0
 
 pub bounds-first-at_first-in-Both : goal.bounds-first-at_first-in-Both
 bounds-first-at_first-in-Both c =
-    let turn = subst (TurnIs (entries_of c.args.first.now) c.loop-turn.at_first (entries_of c.args.second.now) c.loop-turn.at_second) c.in-Both.is c.in-Some.ensures in
+    let turn = subst (TurnIs (entries_of c.args.first.now) c.loop-turn.at_first (entries_of c.args.second.now) c.loop-turn.at_second) c.in-Both.is
+    c.in-Some.ensures in
     rw length-map at turn.0
 
 pub offset_bounds-first-at_first : goal.offset_bounds-first-at_first
@@ -68,43 +74,50 @@ offset_bounds-first-at_first-in-Both c = let b = bounds-first-at_first-in-Both c
 
 pub overflow_add-at_first : goal.overflow_add-at_first
 overflow_add-at_first c =
-    let turn = subst (TurnIs (entries_of c.args.first.now) c.loop-turn.at_first (entries_of c.args.second.now) c.loop-turn.at_second) c.in-First.is c.in-Some.ensures in
+    let turn = subst (TurnIs (entries_of c.args.first.now) c.loop-turn.at_first (entries_of c.args.second.now) c.loop-turn.at_second) c.in-First.is
+    c.in-Some.ensures in
     let within : c.loop-turn.at_first < length c.args.first.now = rw length-map at turn.0 in
     search rules
 
 pub overflow_add-at_second : goal.overflow_add-at_second
 overflow_add-at_second c =
-    let turn = subst (TurnIs (entries_of c.args.first.now) c.loop-turn.at_first (entries_of c.args.second.now) c.loop-turn.at_second) c.in-Second.is c.in-Some.ensures in
+    let turn = subst (TurnIs (entries_of c.args.first.now) c.loop-turn.at_first (entries_of c.args.second.now) c.loop-turn.at_second) c.in-Second.is
+    c.in-Some.ensures in
     let within : c.loop-turn.at_second < length c.args.second.now = rw length-map at turn.0 in
     search rules
 
 pub overflow_add-at_first-in-Both : goal.overflow_add-at_first-in-Both
 overflow_add-at_first-in-Both c =
-    let turn = subst (TurnIs (entries_of c.args.first.now) c.loop-turn.at_first (entries_of c.args.second.now) c.loop-turn.at_second) c.in-Both.is c.in-Some.ensures in
+    let turn = subst (TurnIs (entries_of c.args.first.now) c.loop-turn.at_first (entries_of c.args.second.now) c.loop-turn.at_second) c.in-Both.is
+    c.in-Some.ensures in
     let within : c.loop-turn.at_first < length c.args.first.now = rw length-map at turn.0 in
     search rules
 
 pub overflow_add-at_second-in-Both : goal.overflow_add-at_second-in-Both
 overflow_add-at_second-in-Both c =
-    let turn = subst (TurnIs (entries_of c.args.first.now) c.loop-turn.at_first (entries_of c.args.second.now) c.loop-turn.at_second) c.in-Both.is c.in-Some.ensures in
+    let turn = subst (TurnIs (entries_of c.args.first.now) c.loop-turn.at_first (entries_of c.args.second.now) c.loop-turn.at_second) c.in-Both.is
+    c.in-Some.ensures in
     let within : c.loop-turn.at_second < length c.args.second.now = rw length-map at turn.1 in
     search rules
 
 pub loop-turn-smaller-in-First : goal.loop-turn-smaller-in-First
 loop-turn-smaller-in-First c =
-    let turn = subst (TurnIs (entries_of c.args.first.now) c.loop-turn.at_first (entries_of c.args.second.now) c.loop-turn.at_second) c.in-First.is c.in-Some.ensures in
+    let turn = subst (TurnIs (entries_of c.args.first.now) c.loop-turn.at_first (entries_of c.args.second.now) c.loop-turn.at_second) c.in-First.is
+    c.in-Some.ensures in
     let within : c.loop-turn.at_first < length c.args.first.now = rw length-map at turn.0 in
     omega arith
 
 pub loop-turn-smaller-in-Second : goal.loop-turn-smaller-in-Second
 loop-turn-smaller-in-Second c =
-    let turn = subst (TurnIs (entries_of c.args.first.now) c.loop-turn.at_first (entries_of c.args.second.now) c.loop-turn.at_second) c.in-Second.is c.in-Some.ensures in
+    let turn = subst (TurnIs (entries_of c.args.first.now) c.loop-turn.at_first (entries_of c.args.second.now) c.loop-turn.at_second) c.in-Second.is
+    c.in-Some.ensures in
     let within : c.loop-turn.at_second < length c.args.second.now = rw length-map at turn.0 in
     omega arith
 
 pub loop-turn-smaller : goal.loop-turn-smaller
 loop-turn-smaller c =
-    let turn = subst (TurnIs (entries_of c.args.first.now) c.loop-turn.at_first (entries_of c.args.second.now) c.loop-turn.at_second) c.in-Both.is c.in-Some.ensures in
+    let turn = subst (TurnIs (entries_of c.args.first.now) c.loop-turn.at_first (entries_of c.args.second.now) c.loop-turn.at_second) c.in-Both.is
+    c.in-Some.ensures in
     let within : c.loop-turn.at_first < length c.args.first.now = rw length-map at turn.0 in
     let within_second : c.loop-turn.at_second < length c.args.second.now = rw length-map at turn.1 in
     omega arith

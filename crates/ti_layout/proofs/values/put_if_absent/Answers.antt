@@ -22,7 +22,8 @@ pub returns-in_ok-insert-in-Err-clause-ok : goal.returns-in_ok-insert-in-Err-cla
 returns-in_ok-insert-in-Err-clause-ok c =
     let gap = subst (λ xs. IsGapFor (entries_of xs) c.args.cap c.in-Err.at) c.deref.ensures.value c.in-Err.ensures.absent in
     rw c.in_ok-insert-in-Err.ensures.items
-    (added_in_gap _ _ _ _ (contents_nowhere _ _ (nowhere _ c.requires.sorted _ _ gap)) (sets-placed _ c.requires.sorted _ _ _ c.search.ensures.valid c.requires.agrees gap))
+    (added_in_gap _ _ _ _ (contents_nowhere _ _ (nowhere _ c.requires.sorted _ _ gap))
+    (sets-placed _ c.requires.sorted _ _ _ c.search.ensures.valid c.requires.agrees gap))
 
 pub returns-in_err-insert-in-Err-clause-in_place : goal.returns-in_err-insert-in-Err-clause-in_place
 returns-in_err-insert-in-Err-clause-in_place c found =

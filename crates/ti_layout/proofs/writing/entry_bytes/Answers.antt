@@ -12,5 +12,6 @@ pub returns : goal.returns
 returns c =
     let header = c.in_ok-extend_from_slice.ensures.items ∙ ap (λ (h : List ℕ). c.in_ok-image.image.items ++ h) c.to_bytes.ensures in
     let gap = filled _ _ _ _ c.in_ok-push_fill.ensures c.gap.ensures in
-    assembled _ _ _ _ c.requires.sizes c.requires.small _ _ _ _ _ _ _ _ _ c.in_ok-image.ensures.items header c.in_ok-extend_from_slice-2.ensures.items c.in_ok-push.ensures.items
+    assembled _ _ _ _ c.requires.sizes c.requires.small _ _ _ _ _ _ _ _ _ c.in_ok-image.ensures.items header c.in_ok-extend_from_slice-2.ensures.items
+    c.in_ok-push.ensures.items
     c.in_ok-push_flags.ensures gap c.in_ok-push_numbers.ensures c.in_ok-push_offsets.ensures c.in_ok-push_texts.ensures

@@ -19,12 +19,14 @@ loop-entry-preserved c =
       | in-Number w ↦ subst (HeaderSoFar _ _ _ _) (sym w.header-is) (record {
         format_is = i.format_is;
         names_are = i.names_are;
-        counts = number_counted _ c.requires.sorted _ _ _ _ _ _ c.loop-entry-test.true c.entry-item.is i.counts _ _ refl c.index-count.ensures.value _ w.in-Number.is;
+        counts = number_counted _ c.requires.sorted _ _ _ _ _ _ c.loop-entry-test.true c.entry-item.is i.counts _ _ refl c.index-count.ensures.value _
+            w.in-Number.is;
       })
       | in-Text w ↦ subst (HeaderSoFar _ _ _ _) (sym w.header-is) (record {
         format_is = i.format_is;
         names_are = i.names_are;
-        counts = text_counted _ c.requires.sorted _ _ _ _ _ _ c.loop-entry-test.true c.entry-item.is i.counts _ _ refl c.index-count.ensures.value _ _ _ (ap content_of w.in-Text.is)
+        counts = text_counted _ c.requires.sorted _ _ _ _ _ _ c.loop-entry-test.true c.entry-item.is i.counts _ _ refl c.index-count.ensures.value _ _ _
+            (ap content_of w.in-Text.is)
             (w.saturating_add.ensures ∙ ap (λ n. min (c.loop-entry.header.strings + n) (2 ^ 64 - 1)) w.len.ensures) w.saturating_add-in-Text.ensures;
       })
       | in-Cancelled w ↦ subst (HeaderSoFar _ _ _ _) (sym w.header-is) (record {

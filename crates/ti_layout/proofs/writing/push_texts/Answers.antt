@@ -11,7 +11,8 @@ loop-entry-init c = texts_begun _ _
 pub loop-entry-preserved : goal.loop-entry-preserved
 loop-entry-preserved c = elim c.match-entry.branch [
   | in-Text+in_ok-extend_from_slice+in_ok-push w ↦
-      subst (λ im. HasTexts _ _ im.items _) (sym w.image-is) (text_put _ c.requires _ _ _ c.loop-entry-test.true c.entry-item.is _ _ _ _ _ (ap content_of w.in-Text.is) c.loop-entry.invariant.walked c.loop-entry.invariant.so_far
+      subst (λ im. HasTexts _ _ im.items _) (sym w.image-is) (text_put _ c.requires _ _ _ c.loop-entry-test.true c.entry-item.is _ _ _ _ _
+      (ap content_of w.in-Text.is) c.loop-entry.invariant.walked c.loop-entry.invariant.so_far
       (w.in_ok-extend_from_slice.ensures.items ∙ ap (λ t. c.loop-entry.image.items ++ t) w.as_slice.ensures.value) w.in_ok-push.ensures.items)
   | in_default w ↦
       record {

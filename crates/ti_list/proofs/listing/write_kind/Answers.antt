@@ -30,7 +30,8 @@ loop-place-preserved c = elim c.match-said_of.branch [
       let step = room-some table caps c.loop-place.place _ _ c.cap_at-cap.ensures (sym c.said_of.ensures.is ∙ some) in
       record {
         done = λ rest. rw (w.out-is, w.line-is)
-            (flow-some c.args.layout.now c.loop-place.line _ c.loop-place.out.items _ _ _ _ c.loop-place.place _ _ rest c.cap_at-cap.ensures (sym c.said_of.ensures.is ∙ some) w.write_placed.ensures.items
+            (flow-some c.args.layout.now c.loop-place.line _ c.loop-place.out.items _ _ _ _ c.loop-place.place _ _ rest c.cap_at-cap.ensures
+            (sym c.said_of.ensures.is ∙ some) w.write_placed.ensures.items
             (c.loop-place.invariant.done rest));
         len = rw w.out-is (omega (arith, step, w.write_placed.ensures.len, c.loop-place.invariant.len));
         capacity = rw w.out-is (omega (arith, w.write_placed.ensures.capacity, c.loop-place.invariant.capacity));
@@ -42,7 +43,8 @@ loop-place-preserved c = elim c.match-said_of.branch [
       let step = room-none table caps c.loop-place.place _ c.cap_at-cap.ensures (sym c.said_of.ensures.is ∙ none) in
       record {
         done = λ rest. rw (w.out-is, w.line-is)
-            (flow-none c.args.layout.now c.loop-place.line c.loop-place.out.items _ _ _ c.loop-place.place _ rest c.cap_at-cap.ensures (sym c.said_of.ensures.is ∙ none) (c.loop-place.invariant.done rest));
+            (flow-none c.args.layout.now c.loop-place.line c.loop-place.out.items _ _ _ c.loop-place.place _ rest c.cap_at-cap.ensures
+            (sym c.said_of.ensures.is ∙ none) (c.loop-place.invariant.done rest));
         len = rw w.out-is (omega (arith, step, c.loop-place.invariant.len));
         capacity = rw w.out-is c.loop-place.invariant.capacity;
       }
@@ -53,6 +55,7 @@ returns-clause-items c =
     let table = differing_contents (view_contents c.args.view.now) (map (λ o. entry_seen o) c.args.others.now) in
     let caps = in_order c.args.layout.now.order c.args.kind in
     let past : length caps ≤ c.loop-place.place = rw length-in_order (omega (arith, c.count-place-end.ensures.value, c.loop-place-test.false)) in
-    let ended = ap (λ cs. flow c.args.layout.now c.loop-place.line (items_for table cs) []) (drop_all c.loop-place.place caps past) ∙ flow-end c.args.layout.now c.loop-place.line [] in
+    let ended = ap (λ cs. flow c.args.layout.now c.loop-place.line (items_for table cs) []) (drop_all c.loop-place.place caps past)
+    ∙ flow-end c.args.layout.now c.loop-place.line [] in
     sym (append-nil c.loop-place.out.items) ∙ ap (λ end. c.loop-place.out.items ++ end) (sym ended) ∙ c.loop-place.invariant.done []
     ∙ ap (λ lines. c.args.out.now.items ++ lines) (lines-then c.args.layout.now (items_for table caps) [] ∙ append-nil _)

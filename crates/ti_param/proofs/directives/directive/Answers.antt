@@ -39,4 +39,5 @@ returns c =
     let parts = directive-parts c.args.text.now c.flags.result.1.now c.number-width.result.1.now c.flags.result.0 c.flags.ensures c.number-width.ensures.rest in
     let found : precision_after c.number-width.result.1.now ≡ Some (c.in_ok-precision.precision, c.in_ok-letter.field-0-0.now ∷ c.in_ok-letter.rest.now) =
     sym c.in_ok-precision.ensures ∙ ap (λ t. Some (c.in_ok-precision.precision, t)) c.in_ok-letter.ensures.cases.0 in
-    sym (parts ∙ rw found (directive-read _ _ _ _ _ c.number-width.result.0 _ _ c.number-width.ensures.value c.if-width-gt-SIZE_MAX.false c.begins_with_zero-zero.ensures (sym c.in_ok-conversion.ensures)))
+    sym (parts ∙ rw found (directive-read _ _ _ _ _ c.number-width.result.0 _ _ c.number-width.ensures.value c.if-width-gt-SIZE_MAX.false
+    c.begins_with_zero-zero.ensures (sym c.in_ok-conversion.ensures)))

@@ -2,7 +2,8 @@ use Rattle.std.proofs.Common.{◌≡◌, ap, sym, ◌∙◌, arith, length, true
 use Rattle.std.proofs.lemmas.Result.{err_from_is_err_and}
 use Rattle.ti_param.specs.Meaning.{meaning, top_number, is_zero}
 use Rattle.ti_param.proofs.OneTree.{tokens_run}
-use Rattle.ti_param.proofs.Running.{literal-done, operation-done, operation-full, if-done, end-done, then-taken, then-after_part, else-after_part, run-end, error-kept}
+use Rattle.ti_param.proofs.Running.{literal-done, operation-done, operation-full, if-done, end-done, then-taken, then-after_part, else-after_part, run-end}
+use Rattle.ti_param.proofs.Running.{error-kept}
 use Rattle.ti_param.proofs.Wrapping.{is-zero, not-zero}
 use Rattle.ti_param.proofs.expansion.run.Goals as goal
 
@@ -40,16 +41,19 @@ loop-place-preserved-in-If c = record {
 
 pub loop-place-preserved-then-pop_number-eq0 : goal.loop-place-preserved-then-pop_number-eq0
 loop-place-preserved-then-pop_number-eq0 c =
-    let zero : is_zero (top_number c.loop-place.machine) ≡ true = ap is_zero (sym c.pop_number.ensures.value) ∙ is-zero c.pop_number.result (record { sfits = c.pop_number.type_inv }) c.if-pop_number-eq0.true in
+    let zero : is_zero (top_number c.loop-place.machine) ≡ true =
+    ap is_zero (sym c.pop_number.ensures.value) ∙ is-zero c.pop_number.result (record { sfits = c.pop_number.type_inv }) c.if-pop_number-eq0.true in
     record {
-      left = then-after_part _ _ _ _ _ _ c.in-Some.ensures.token c.in-Then.is zero c.pop_number.ensures.rest c.skip.ensures.tokens ∙ c.loop-place.invariant.left;
+      left = then-after_part _ _ _ _ _ _ c.in-Some.ensures.token c.in-Then.is zero c.pop_number.ensures.rest c.skip.ensures.tokens
+          ∙ c.loop-place.invariant.left;
       stop = c.skip.ensures.stop ∙ c.in-Some.ensures.stop ∙ c.loop-place.invariant.stop;
       fewer = omega (arith, ap length c.in-Some.ensures.token, c.skip.ensures.fewer, c.loop-place.invariant.fewer);
     }
 
 pub loop-place-preserved-else-pop_number-eq0 : goal.loop-place-preserved-else-pop_number-eq0
 loop-place-preserved-else-pop_number-eq0 c =
-    let other : is_zero (top_number c.loop-place.machine) ≡ false = ap is_zero (sym c.pop_number.ensures.value) ∙ not-zero c.pop_number.result c.if-pop_number-eq0.false in
+    let other : is_zero (top_number c.loop-place.machine) ≡ false =
+    ap is_zero (sym c.pop_number.ensures.value) ∙ not-zero c.pop_number.result c.if-pop_number-eq0.false in
     record {
       left = then-taken _ _ _ _ _ c.in-Some.ensures.token c.in-Then.is other c.pop_number.ensures.rest ∙ c.loop-place.invariant.left;
       stop = c.in-Some.ensures.stop ∙ c.loop-place.invariant.stop;

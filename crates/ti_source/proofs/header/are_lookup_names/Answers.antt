@@ -7,5 +7,6 @@ use Rattle.ti_source.proofs.header.are_lookup_names.Goals as goal
 pub returns : goal.returns
 returns c =
     all_from_yields_List is_lookup_name _ _ _ c.all.ensures.ran
-    (YieldsList-from_slice_split _ (λ b. b == 124) c.args.joined.now c.split.ensures.rest c.split.ensures.done c.split.ensures.closure (λ x r q k. search (rules, tests)))
+    (YieldsList-from_slice_split _ (λ b. b == 124) c.args.joined.now c.split.ensures.rest c.split.ensures.done c.split.ensures.closure
+    (λ x r q k. search (rules, tests)))
     (λ x r q k. search (rules, tests))

@@ -8,7 +8,8 @@ use Rattle.ti_source.proofs.items.read_runs.Given as goal
 -- wherever the item begins
 abbrev pub invariant-loop-byte : goal.invariant-loop-byte
 invariant-loop-byte l =
-    (start : List PlacedByte) → ReadsSoFar start escape.Nothing 44 l.initial.source (item_piece [] 0) → ReadsSoFar start l.escape l.before l.source (item_piece l.text.items l.line)
+    (start : List PlacedByte) → ReadsSoFar start escape.Nothing 44 l.initial.source (item_piece [] 0)
+    → ReadsSoFar start l.escape l.before l.source (item_piece l.text.items l.line)
 
 abbrev pub decreases-loop-byte : goal.decreases-loop-byte
 decreases-loop-byte l = length l.source

@@ -6,7 +6,8 @@ use Rattle.ti_source.proofs.items.statement_of.Goals as goal
 pub returns-in-Some : goal.returns-in-Some
 returns-in-Some c =
     ap Some c.statement_with_value.ensures
-    ∙ sym (statement-statement_by_mark c.args.text.now c.in-Some.end _ _ c.in_ok-first.ensures.cases.0 c.if-first-eq46.false c.in-Some.ensures.0 c.in-Some.ensures.1)
+    ∙ sym (statement-statement_by_mark c.args.text.now c.in-Some.end _ _ c.in_ok-first.ensures.cases.0 c.if-first-eq46.false c.in-Some.ensures.0
+    c.in-Some.ensures.1)
 
 pub returns-in-None : goal.returns-in-None
 returns-in-None c =

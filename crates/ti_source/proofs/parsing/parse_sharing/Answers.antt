@@ -12,7 +12,8 @@ read_items-requires c =
 
 pub returns-clause-computed : goal.returns-clause-computed
 returns-clause-computed c =
-    parsed_by_parts c.args.block.now _ _ _ _ _ c.new-source.ensures.value c.in_ok-field.ensures.field c.in_ok-field.ensures.rest c.in_ok-parsed.ensures c.in_ok-read_items.ensures
+    parsed_by_parts c.args.block.now _ _ _ _ _ c.new-source.ensures.value c.in_ok-field.ensures.field c.in_ok-field.ensures.rest c.in_ok-parsed.ensures
+    c.in_ok-read_items.ensures
 
 pub returns-clause-reading : goal.returns-clause-reading
 returns-clause-reading c =

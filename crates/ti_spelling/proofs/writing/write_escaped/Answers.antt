@@ -13,7 +13,8 @@ loop-i-preserved c =
       | else-i-eq0 w ↦ w.edge-is ∙ sym (ap (λ first. first || eqb c.loop-i.i (length c.args.value.now - 1)) (ne_eqb _ _ w.if-i-eq0.false))
     ] in
     record {
-      done = rw (c.write_byte.ensures.items, edge) (writes_on c.loop-i.text.items c.args.value.now _ c.loop-i.before c.loop-i.i c.loop-i-test.true c.loop-i.invariant.done);
+      done = rw (c.write_byte.ensures.items, edge)
+          (writes_on c.loop-i.text.items c.args.value.now _ c.loop-i.before c.loop-i.i c.loop-i-test.true c.loop-i.invariant.done);
       len = omega (arith, c.write_byte.ensures.len, c.loop-i.invariant.len);
       capacity = omega (arith, c.write_byte.ensures.capacity, c.loop-i.invariant.capacity);
     }

@@ -6,4 +6,5 @@ use Rattle.tools_devices.proofs.directories.part_at.Goals as goal
 pub returns : goal.returns
 returns c =
     nth_from_yields_List _ _ c.args.index c.nth.ensures.ran
-    (YieldsList-from_slice_split _ (λ b. b == 58) c.args.dirs.now c.split.ensures.rest c.split.ensures.done c.split.ensures.closure (λ x r q k. search (rules, tests)))
+    (YieldsList-from_slice_split _ (λ b. b == 58) c.args.dirs.now c.split.ensures.rest c.split.ensures.done c.split.ensures.closure
+    (λ x r q k. search (rules, tests)))

@@ -25,5 +25,6 @@ pub returns : goal.returns
 returns g c =
     let whole = positions_text-some c.args.positions.now c.in-Some.others.now c.in-Some.first.now c.in-Some.ensures.cases.0
     ∙ sym (append_assoc (decimal c.in-Some.first.now) (flat_map next_position c.in-Some.others.now) (10 ∷ [])) in
-    let front = TakesAll-then _ _ _ _ _ (rw (c.as_bytes.ensures.value, c.format.ensures.text) at c.in_ok-write_out.ensures) c.in_ok-write_next_positions.ensures in
+    let front =
+    TakesAll-then _ _ _ _ _ (rw (c.as_bytes.ensures.value, c.format.ensures.text) at c.in_ok-write_out.ensures) c.in_ok-write_next_positions.ensures in
     Wrote-whole _ _ _ _ _ _ c.write_out-3.result front c.write_out-3.ensures whole

@@ -9,7 +9,8 @@ returns-then-is_ended-clause-number c =
 
 pub returns-else-is_ended-clause-number : goal.returns-else-is_ended-clause-number
 returns-else-is_ended-clause-number c =
-    first_after-open c.lines_add.ensures c.args.source.now c.preface-preface.result.now c.count_lines-lines.result (c.preface-preface.ensures ∙ c.blocks-2.ensures.preface)
+    first_after-open c.lines_add.ensures c.args.source.now c.preface-preface.result.now c.count_lines-lines.result
+    (c.preface-preface.ensures ∙ c.blocks-2.ensures.preface)
     (sym c.is_ended.ensures ∙ c.if-is_ended.false) c.count_lines-lines.ensures.lines
 
 pub returns-else-is_ended-clause-bound : goal.returns-else-is_ended-clause-bound

@@ -30,12 +30,18 @@ returns-clause-added c = λ text stands.
     let block = reading_of_text text in
     let old = map fault_seen c.args.faults.now.items in
     let seen = map profile_fault_seen c.split_at.result.0.now in
-    let codes : List ℕ → List ExtendedSourceFault = λ t. replaced (front_faults blocks at block) (pairs (warning_ordinals (reading_of_text t).faults) (user_reading_of_text t).faults) in
+    let codes : List ℕ → List ExtendedSourceFault =
+    λ t. replaced (front_faults blocks at block) (pairs (warning_ordinals (reading_of_text t).faults) (user_reading_of_text t).faults) in
     let same : c.text.result.now ≡ text = same_Some c.text.result.now text (sym c.text.ensures ∙ stands) in
     let front : seen ≡ front_faults blocks at block = ap (map profile_fault_seen) c.split_at.ensures.front ∙ c.front_len.ensures.front text stands in
-    let paired = c.in_ok-codes.ensures seen refl ∙ ap (λ fs. replaced fs (pairs (warning_ordinals (reading_of_text c.text.result.now).faults) (user_reading_of_text c.text.result.now).faults)) front ∙ ap codes same in
-    four_added old (map fault_seen c.replace.new.faults.items) (map fault_seen c.add_entry_fault.new.faults.items) (map of_profile (local_faults true at block.faults)) (map of_profile (name_faults blocks at block.names)) (extended_item_faults blocks at text) (map of_profile (entry_faults at block.names (state_seen c.args.state.now)))
-    (c.in_ok-replace.ensures ∙ ap (λ cs. old ++ replaced seen cs) c.deref.ensures.value ∙ ap (λ xs. old ++ xs) (paired ∙ front_replaced c.warnings_are_of_defining_items.ensures c.item_faults_are_in_order.ensures blocks at text))
+    let paired = c.in_ok-codes.ensures seen refl
+    ∙ ap (λ fs. replaced fs (pairs (warning_ordinals (reading_of_text c.text.result.now).faults) (user_reading_of_text c.text.result.now).faults)) front
+    ∙ ap codes same in
+    four_added old (map fault_seen c.replace.new.faults.items) (map fault_seen c.add_entry_fault.new.faults.items)
+    (map of_profile (local_faults true at block.faults)) (map of_profile (name_faults blocks at block.names)) (extended_item_faults blocks at text)
+    (map of_profile (entry_faults at block.names (state_seen c.args.state.now)))
+    (c.in_ok-replace.ensures ∙ ap (λ cs. old ++ replaced seen cs) c.deref.ensures.value
+    ∙ ap (λ xs. old ++ xs) (paired ∙ front_replaced c.warnings_are_of_defining_items.ensures c.item_faults_are_in_order.ensures blocks at text))
     (c.in_ok-add_entry_fault.ensures text stands)
 
 pub returns-clause-placed : goal.returns-clause-placed
@@ -45,11 +51,16 @@ returns-clause-placed c = λ profile_placed old_placed.
     let n = length db in
     let text = c.text.result.now in
     let profile = c.args.profile.now in
-    let front_is : map profile_fault_seen c.split_at.result.0.now ≡ take c.front_len.result (map profile_fault_seen profile) = ap (map profile_fault_seen) c.split_at.ensures.front ∙ sym (take-map profile_fault_seen c.front_len.result profile) in
-    let front_placed = subst (λ (fs : List SourceFault). All (IsPlaced n) fs) (sym front_is) (All-take (IsPlaced n) c.front_len.result (map profile_fault_seen profile) profile_placed) in
+    let front_is : map profile_fault_seen c.split_at.result.0.now ≡ take c.front_len.result (map profile_fault_seen profile) =
+    ap (map profile_fault_seen) c.split_at.ensures.front ∙ sym (take-map profile_fault_seen c.front_len.result profile) in
+    let front_placed = subst (λ (fs : List SourceFault). All (IsPlaced n) fs) (sym front_is)
+    (All-take (IsPlaced n) c.front_len.result (map profile_fault_seen profile) profile_placed) in
     let Placed : List ExtendedSourceFault → Type 0 = All (IsExtendedPlaced n) in
     let one : Placed (map fault_seen c.replace.new.faults.items) =
-    subst Placed (sym c.in_ok-replace.ensures) (All-append (IsExtendedPlaced n) (map fault_seen c.args.faults.now.items) (replaced (map profile_fault_seen c.split_at.result.0.now) c.deref.result.now) old_placed (placed_replaced n (map profile_fault_seen c.split_at.result.0.now) c.deref.result.now front_placed)) in
+    subst Placed (sym c.in_ok-replace.ensures) (All-append (IsExtendedPlaced n) (map fault_seen c.args.faults.now.items)
+    (replaced (map profile_fault_seen c.split_at.result.0.now) c.deref.result.now) old_placed
+    (placed_replaced n (map profile_fault_seen c.split_at.result.0.now) c.deref.result.now front_placed)) in
     let last = map of_profile (entry_faults at (reading_of_text text).names (state_seen c.args.state.now)) in
     subst Placed (sym (c.in_ok-add_entry_fault.ensures text c.text.ensures))
-    (All-append (IsExtendedPlaced n) (map fault_seen c.replace.new.faults.items) last one (placed_entry n at (reading_of_text text).names (state_seen c.args.state.now) c.requires.within))
+    (All-append (IsExtendedPlaced n) (map fault_seen c.replace.new.faults.items) last one
+    (placed_entry n at (reading_of_text text).names (state_seen c.args.state.now) c.requires.within))

@@ -14,4 +14,5 @@ pub returns : goal.returns
 returns c = λ fs e.
     let quiet : list_any is_user_warning fs ≡ false = sym (c.if-has_user_warning.ensures ∙ ap (list_any is_user_warning) e) in
     let text = c.args.text.now in
-    ap (replaced fs) c.new.ensures.items ∙ no_warnings fs [] quiet ∙ sym (no_warnings fs (pairs (warning_ordinals (reading_of_text text).faults) (user_reading_of_text text).faults) quiet)
+    ap (replaced fs) c.new.ensures.items ∙ no_warnings fs [] quiet
+    ∙ sym (no_warnings fs (pairs (warning_ordinals (reading_of_text text).faults) (user_reading_of_text text).faults) quiet)

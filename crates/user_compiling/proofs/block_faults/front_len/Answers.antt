@@ -11,4 +11,5 @@ pub returns-then-is_oversized-clause-front : goal.returns-then-is_oversized-clau
 returns-then-is_oversized-clause-front c = λ text stands.
     let blocks = readings c.args.database.now in
     let block = reading_of_text text in
-    front_but_one profile_fault_seen c.args.profile.now (front_faults blocks c.args.at block) (entry_faults c.args.at block.names (state_of blocks block)) _ (c.requires.profile text stands ∙ in_two blocks c.args.at block) (c.if-is_oversized.ensures text stands) (omega arith)
+    front_but_one profile_fault_seen c.args.profile.now (front_faults blocks c.args.at block) (entry_faults c.args.at block.names (state_of blocks block)) _
+    (c.requires.profile text stands ∙ in_two blocks c.args.at block) (c.if-is_oversized.ensures text stands) (omega arith)

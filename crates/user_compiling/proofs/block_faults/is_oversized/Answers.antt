@@ -15,5 +15,6 @@ returns-in-Some c = λ text stands. entry_none c.args.database.now c.args.at tex
 
 pub returns-in-None : goal.returns-in-None
 returns-in-None c = λ text stands.
-    entry_one contents c.args.database.now c.args.at text _ stands (c.values.ensures (reading_of_text text) (read_text c.args.database.now c.args.at text stands)) c.in-None.ensures
+    entry_one contents c.args.database.now c.args.at text _ stands
+    (c.values.ensures (reading_of_text text) (read_text c.args.database.now c.args.at text stands)) c.in-None.ensures
     ∙ ap (λ v. cond v 1 0) (some-map (λ t. t.now) c.values.result ∙ sym c.is_some.ensures)

@@ -14,6 +14,8 @@ pub returns : goal.returns
 returns c = λ text stands.
     let there = read_text c.args.database.now c.args.at text stands in
     let names : map rc_slice_items c.names.result.now ≡ (reading_of_text text).names =
-    same_Some (map rc_slice_items c.names.result.now) (reading_of_text text).names (sym c.names.ensures ∙ ap (option_map (λ (block : Reading). block.names)) there) in
-    entry_added c.args.at (reading_of_text text).names (option_map rc_slice_items c.in_ok-detail.detail) (map fault_seen c.args.faults.now.items) (map fault_seen c.push.new.self.items) (c.in_ok-detail.ensures ∙ ap (λ (xs : List (List ℕ)). slice_get xs 0) names)
+    same_Some (map rc_slice_items c.names.result.now) (reading_of_text text).names (sym c.names.ensures
+    ∙ ap (option_map (λ (block : Reading). block.names)) there) in
+    entry_added c.args.at (reading_of_text text).names (option_map rc_slice_items c.in_ok-detail.detail) (map fault_seen c.args.faults.now.items)
+    (map fault_seen c.push.new.self.items) (c.in_ok-detail.ensures ∙ ap (λ (xs : List (List ℕ)). slice_get xs 0) names)
     (ap (map fault_seen) c.in_ok-push.ensures.items ∙ map-append fault_seen c.args.faults.now.items _)

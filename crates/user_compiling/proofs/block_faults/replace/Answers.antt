@@ -11,7 +11,8 @@ loop-fault-preserved c =
     let i = c.loop-fault.fault-index in
     record {
       all = c.in_ok-replace_one.ensures.added (map profile_fault_seen (drop (i + 1) profile))
-          ∙ ap (λ fs. map fault_seen c.loop-fault.faults.items ++ replaced fs (drop c.loop-fault.next c.args.codes.now)) (sym (map-drop_item profile_fault_seen profile i c.fault-item.result c.loop-fault-test.true c.fault-item.is))
+          ∙ ap (λ fs. map fault_seen c.loop-fault.faults.items ++ replaced fs (drop c.loop-fault.next c.args.codes.now))
+          (sym (map-drop_item profile_fault_seen profile i c.fault-item.result c.loop-fault-test.true c.fault-item.is))
           ∙ c.loop-fault.invariant.all;
       few = omega (arith, c.replace_one.ensures.few, c.loop-fault.invariant.few);
     }

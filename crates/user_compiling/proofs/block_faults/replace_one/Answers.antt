@@ -12,4 +12,5 @@ returns-then-is_user_warning-clause-added c = λ fs.
     let next = c.args.next.now in
     let new = map fault_seen c.push_in_place.new.faults.items in
     ap (λ cs. new ++ replaced fs cs) (sym (tail_of_drop next codes))
-    ∙ one_replaced f fs (drop next codes) c.code_at.result (map fault_seen c.args.faults.now.items) new _ (sym c.if-is_user_warning.ensures) c.code_at.ensures refl c.in_ok-push_in_place.ensures
+    ∙ one_replaced f fs (drop next codes) c.code_at.result (map fault_seen c.args.faults.now.items) new _
+    (sym c.if-is_user_warning.ensures) c.code_at.ensures refl c.in_ok-push_in_place.ensures

@@ -11,12 +11,15 @@ pub compile_block-requires-clause-within : goal.compile_block-requires-clause-wi
 compile_block-requires-clause-within c = omega (arith, c.loop-at-test.true, c.requires.tables.as_many)
 
 pub compile_block-requires-clause-user : goal.compile_block-requires-clause-user
-compile_block-requires-clause-user c = λ text stands. table_at c.args.database.now c.args.tables.now c.loop-at.at text c.index-tables-at.result c.requires.tables stands c.loop-at-test.true c.index-tables-at.is
+compile_block-requires-clause-user c = λ text stands. table_at c.args.database.now c.args.tables.now c.loop-at.at text c.index-tables-at.result
+    c.requires.tables stands c.loop-at-test.true c.index-tables-at.is
 
 pub loop-at-preserved : goal.loop-at-preserved
 loop-at-preserved c =
-    one_more_state c.args.database.now c.loop-at.at (map state_seen c.loop-at.all.items) (map state_seen c.push.new.self.items) (state_seen c.in_ok-state.state) (omega (arith, c.loop-at-test.true, c.requires.tables.as_many)) c.loop-at.invariant c.in_ok-state.ensures
+    one_more_state c.args.database.now c.loop-at.at (map state_seen c.loop-at.all.items) (map state_seen c.push.new.self.items)
+    (state_seen c.in_ok-state.state) (omega (arith, c.loop-at-test.true, c.requires.tables.as_many)) c.loop-at.invariant c.in_ok-state.ensures
     (ap (map state_seen) c.in_ok-push.ensures.items ∙ map-append state_seen c.loop-at.all.items _)
 
 pub returns : goal.returns
-returns c = all_of_states c.args.database.now c.loop-at.at (map state_seen c.loop-at.all.items) (omega (arith, c.loop-at-test.false, c.requires.tables.as_many)) c.loop-at.invariant
+returns c = all_of_states c.args.database.now c.loop-at.at (map state_seen c.loop-at.all.items)
+    (omega (arith, c.loop-at-test.false, c.requires.tables.as_many)) c.loop-at.invariant

@@ -29,13 +29,15 @@ pub returns-then-is_empty : goal.returns-then-is_empty
 returns-then-is_empty c = λ text stands.
     let empty = none _ c.if-is_empty.ensures in
     let nothing : length c.in_ok-rows.rows.items ≡ 0 = omega (arith, empty, c.in_ok-rows.rows.ok.0) in
-    state_of_profile c.args.database.now c.args.at text (said_at c.args.user.now) (contents c.args.table.now) (rows_of c.in_ok-rows.rows.items) _ _ stands (c.requires.user text stands) c.in_ok-rows.ensures (no_rows_seen c.in_ok-rows.rows.items nothing)
+    state_of_profile c.args.database.now c.args.at text (said_at c.args.user.now) (contents c.args.table.now) (rows_of c.in_ok-rows.rows.items) _ _ stands
+    (c.requires.user text stands) c.in_ok-rows.ensures (no_rows_seen c.in_ok-rows.rows.items nothing)
     (c.requires.table text stands) c.compiled.ensures c.in_ok-state.ensures
 
 pub returns : goal.returns
 returns c = λ text stands.
     let same : c.text.result.now ≡ text = same_Some c.text.result.now text (sym c.text.ensures ∙ stands) in
-    state_of_rows c.args.database.now text (said_at c.args.user.now) (contents c.args.table.now) (rows_of c.in_ok-rows.rows.items) (state_seen c.in_ok-written.written) (c.requires.user text stands) c.in_ok-rows.ensures (c.requires.table text stands)
+    state_of_rows c.args.database.now text (said_at c.args.user.now) (contents c.args.table.now) (rows_of c.in_ok-rows.rows.items)
+    (state_seen c.in_ok-written.written) (c.requires.user text stands) c.in_ok-rows.ensures (c.requires.table text stands)
     (λ mentions says.
     c.in_ok-written.ensures mentions says ∙ ap (λ t. state_with (reading_of_text t) mentions (rows_of c.deref.result.now)) same
     ∙ ap (λ (rows : List UserDefined). state_with (reading_of_text text) mentions (rows_of rows)) c.deref.ensures.value)

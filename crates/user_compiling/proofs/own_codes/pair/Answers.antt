@@ -11,7 +11,8 @@ loop-local-preserved c =
     let i = c.loop-local.local-index in
     record {
       all = c.in_ok-add_code.ensures.added (map fault_of (drop (i + 1) locals))
-          ∙ ap (λ fs. c.loop-local.codes.items ++ pairs (warning_ordinals fs) (map user_fault_of (drop c.loop-local.next c.args.own.now))) (sym (map-drop_item fault_of locals i c.local-item.result c.loop-local-test.true c.local-item.is))
+          ∙ ap (λ fs. c.loop-local.codes.items ++ pairs (warning_ordinals fs) (map user_fault_of (drop c.loop-local.next c.args.own.now)))
+          (sym (map-drop_item fault_of locals i c.local-item.result c.loop-local-test.true c.local-item.is))
           ∙ c.loop-local.invariant.all;
       within = c.add_code.ensures.within;
     }

@@ -14,7 +14,8 @@ pub index-requires : goal.index-requires
 index-requires c =
     let db = c.args.database.now in
     let within : c.loop-fault.fault-index < length c.args.faults.now = omega arith in
-    let is_placed = All-map_item (IsExtendedPlaced (length db)) fault_seen c.args.faults.now c.loop-fault.fault-index c.fault-item.result within c.fault-item.is c.requires.placed in
+    let is_placed = All-map_item (IsExtendedPlaced (length db)) fault_seen c.args.faults.now c.loop-fault.fault-index c.fault-item.result within
+    c.fault-item.is c.requires.placed in
     let placed = placed_block (length db) (fault_seen c.fault-item.result) is_placed in
     let lines = placed_line (length db) (fault_seen c.fault-item.result) is_placed in
     let starts = length_starts db c.in_ok-starts.starts.items (length db) c.in_ok-starts.ensures.starts in
@@ -24,7 +25,8 @@ pub overflow_add-number : goal.overflow_add-number
 overflow_add-number c =
     let db = c.args.database.now in
     let within : c.loop-fault.fault-index < length c.args.faults.now = omega arith in
-    let is_placed = All-map_item (IsExtendedPlaced (length db)) fault_seen c.args.faults.now c.loop-fault.fault-index c.fault-item.result within c.fault-item.is c.requires.placed in
+    let is_placed = All-map_item (IsExtendedPlaced (length db)) fault_seen c.args.faults.now c.loop-fault.fault-index c.fault-item.result within
+    c.fault-item.is c.requires.placed in
     let placed = placed_block (length db) (fault_seen c.fault-item.result) is_placed in
     let lines = placed_line (length db) (fault_seen c.fault-item.result) is_placed in
     let starts = length_starts db c.in_ok-starts.starts.items (length db) c.in_ok-starts.ensures.starts in
@@ -37,7 +39,8 @@ pub overflow_add-number-in-loop-fault : goal.overflow_add-number-in-loop-fault
 overflow_add-number-in-loop-fault c =
     let db = c.args.database.now in
     let within : c.loop-fault.fault-index < length c.args.faults.now = omega arith in
-    let is_placed = All-map_item (IsExtendedPlaced (length db)) fault_seen c.args.faults.now c.loop-fault.fault-index c.fault-item.result within c.fault-item.is c.requires.placed in
+    let is_placed = All-map_item (IsExtendedPlaced (length db)) fault_seen c.args.faults.now c.loop-fault.fault-index c.fault-item.result within
+    c.fault-item.is c.requires.placed in
     let placed = placed_block (length db) (fault_seen c.fault-item.result) is_placed in
     let lines = placed_line (length db) (fault_seen c.fault-item.result) is_placed in
     let starts = length_starts db c.in_ok-starts.starts.items (length db) c.in_ok-starts.ensures.starts in
@@ -50,7 +53,8 @@ pub overflow_sub-number : goal.overflow_sub-number
 overflow_sub-number c =
     let db = c.args.database.now in
     let within : c.loop-fault.fault-index < length c.args.faults.now = omega arith in
-    let is_placed = All-map_item (IsExtendedPlaced (length db)) fault_seen c.args.faults.now c.loop-fault.fault-index c.fault-item.result within c.fault-item.is c.requires.placed in
+    let is_placed = All-map_item (IsExtendedPlaced (length db)) fault_seen c.args.faults.now c.loop-fault.fault-index c.fault-item.result within
+    c.fault-item.is c.requires.placed in
     let placed = placed_block (length db) (fault_seen c.fault-item.result) is_placed in
     let lines = placed_line (length db) (fault_seen c.fault-item.result) is_placed in
     let starts = length_starts db c.in_ok-starts.starts.items (length db) c.in_ok-starts.ensures.starts in
@@ -60,16 +64,21 @@ pub loop-fault-preserved : goal.loop-fault-preserved
 loop-fault-preserved c =
     let db = c.args.database.now in
     let within : c.loop-fault.fault-index < length c.args.faults.now = omega arith in
-    let is_placed = All-map_item (IsExtendedPlaced (length db)) fault_seen c.args.faults.now c.loop-fault.fault-index c.fault-item.result within c.fault-item.is c.requires.placed in
+    let is_placed = All-map_item (IsExtendedPlaced (length db)) fault_seen c.args.faults.now c.loop-fault.fault-index c.fault-item.result within
+    c.fault-item.is c.requires.placed in
     let placed = placed_block (length db) (fault_seen c.fault-item.result) is_placed in
     let lines = placed_line (length db) (fault_seen c.fault-item.result) is_placed in
     let starts = length_starts db c.in_ok-starts.starts.items (length db) c.in_ok-starts.ensures.starts in
     let fault = fault_seen c.fault-item.result in
     let start : c.index.result.now ≡ lines_before db (block_of fault) =
-    subst (λ at. c.index.result.now ≡ lines_before db at) c.block-at.ensures (start_read db c.in_ok-starts.starts.items (length db) c.block-at.result c.index.result.now c.in_ok-starts.ensures.starts (omega (arith, placed, c.block-at.ensures)) c.index.ensures) in
-    one_more_line db c.args.first_line (map fault_seen (take c.loop-fault.fault-index c.args.faults.now)) (map fault_seen (take (c.loop-fault.fault-index + 1) c.args.faults.now)) fault c.index.result.now c.loop-fault.out.items c.write_one.new.out.items
+    subst (λ at. c.index.result.now ≡ lines_before db at) c.block-at.ensures
+    (start_read db c.in_ok-starts.starts.items (length db) c.block-at.result c.index.result.now c.in_ok-starts.ensures.starts
+    (omega (arith, placed, c.block-at.ensures)) c.index.ensures) in
+    one_more_line db c.args.first_line (map fault_seen (take c.loop-fault.fault-index c.args.faults.now))
+    (map fault_seen (take (c.loop-fault.fault-index + 1) c.args.faults.now)) fault c.index.result.now c.loop-fault.out.items c.write_one.new.out.items
     c.loop-fault.invariant (map-take_item fault_seen c.args.faults.now c.loop-fault.fault-index c.fault-item.result within c.fault-item.is) start
-    (c.in_ok-write_one.ensures ∙ ap (λ line. c.loop-fault.out.items ++ line_with_number (c.args.first_line + c.index.result.now + line - 1) fault) c.line-line.ensures)
+    (c.in_ok-write_one.ensures ∙ ap (λ line. c.loop-fault.out.items ++ line_with_number (c.args.first_line + c.index.result.now + line - 1) fault)
+    c.line-line.ensures)
 
 pub loop-fault-init : goal.loop-fault-init
 loop-fault-init c = c.new-out.ensures.items

@@ -6,5 +6,6 @@ use Rattle.user_compiling.proofs.rows.rows_of.Goals as goal
 
 pub returns : goal.returns
 returns c =
-    rows_in_turn c.entries-entries.result.now.entries (said_at c.args.table.now) (rows_of c.in_ok-rows.rows.items) (rows_of c.push_kind.new.rows.items) (rows_of c.push_kind-2.new.rows.items) (rows_of c.push_kind-3.new.rows.items) c.len.ensures.ordered c.entries-entries.ensures
+    rows_in_turn c.entries-entries.result.now.entries (said_at c.args.table.now) (rows_of c.in_ok-rows.rows.items) (rows_of c.push_kind.new.rows.items)
+    (rows_of c.push_kind-2.new.rows.items) (rows_of c.push_kind-3.new.rows.items) c.len.ensures.ordered c.entries-entries.ensures
     (ap rows_of c.in_ok-rows.ensures.items) c.in_ok-push_kind.ensures c.in_ok-push_kind-2.ensures c.in_ok-push_kind-3.ensures

@@ -23,7 +23,8 @@ add_block_faults-requires-clause-profile c = λ text stands.
     let b = reading_of_text text in
     let two = left_in_two db at text (map profile_fault_seen rest) stands c.loop-at.invariant.left in
     let count = c.count_at.ensures.count ∙ ap (count_at at) two ∙ count_of_block (readings db) at b (drop (at + 1) (readings db)) in
-    ap (map profile_fault_seen) (c.split_at.ensures.front ∙ ap (λ n. take n rest) count) ∙ part_front profile_fault_seen rest (block_faults (readings db) at b) (faults_after (readings db) (suc at) (drop (at + 1) (readings db))) two
+    ap (map profile_fault_seen) (c.split_at.ensures.front ∙ ap (λ n. take n rest) count)
+    ∙ part_front profile_fault_seen rest (block_faults (readings db) at b) (faults_after (readings db) (suc at) (drop (at + 1) (readings db))) two
 
 pub loop-at-preserved : goal.loop-at-preserved
 loop-at-preserved c =
@@ -37,16 +38,20 @@ loop-at-preserved c =
     let b = reading_of_text text in
     let two = left_in_two db at text (map profile_fault_seen rest) stands i.left in
     let count = c.count_at.ensures.count ∙ ap (count_at at) two ∙ count_of_block (readings db) at b (drop (at + 1) (readings db)) in
-    let front_is : map profile_fault_seen c.split_at.result.0.now ≡ take c.count_at.result (map profile_fault_seen rest) = ap (map profile_fault_seen) c.split_at.ensures.front ∙ sym (take-map profile_fault_seen c.count_at.result rest) in
-    let back_is : map profile_fault_seen c.split_at.result.1.now ≡ drop c.count_at.result (map profile_fault_seen rest) = ap (map profile_fault_seen) c.split_at.ensures.back ∙ sym (drop-map profile_fault_seen c.count_at.result rest) in
+    let front_is : map profile_fault_seen c.split_at.result.0.now ≡ take c.count_at.result (map profile_fault_seen rest) =
+    ap (map profile_fault_seen) c.split_at.ensures.front ∙ sym (take-map profile_fault_seen c.count_at.result rest) in
+    let back_is : map profile_fault_seen c.split_at.result.1.now ≡ drop c.count_at.result (map profile_fault_seen rest) =
+    ap (map profile_fault_seen) c.split_at.ensures.back ∙ sym (drop-map profile_fault_seen c.count_at.result rest) in
     let Placed : List SourceFault → Type 0 = All (IsPlaced (length db)) in
     let front_placed = subst Placed (sym front_is) (All-take (IsPlaced (length db)) c.count_at.result (map profile_fault_seen rest) i.left_placed) in
     let state = slice_get-map_item state_seen c.args.compiled.now at c.index-compiled-at.result c.loop-at-test.true c.index-compiled-at.is in
     record {
       left = left_more db at (map profile_fault_seen c.split_at.result.1.now)
-          (ap (map profile_fault_seen) (c.split_at.ensures.back ∙ ap (λ n. drop n rest) count) ∙ part_back profile_fault_seen rest (block_faults (readings db) at b) (faults_after (readings db) (suc at) (drop (at + 1) (readings db))) two);
+          (ap (map profile_fault_seen) (c.split_at.ensures.back ∙ ap (λ n. drop n rest) count)
+          ∙ part_back profile_fault_seen rest (block_faults (readings db) at b) (faults_after (readings db) (suc at) (drop (at + 1) (readings db))) two);
       left_placed = subst Placed (sym back_is) (All-drop (IsPlaced (length db)) c.count_at.result (map profile_fault_seen rest) i.left_placed);
-      all = one_block_more db (map state_seen c.args.compiled.now) at text (state_seen c.index-compiled-at.result) (map fault_seen c.loop-at.all.items) (map fault_seen c.add_block_faults.new.faults.items) _ stands state i.all (c.in_ok-add_block_faults.ensures.added text stands);
+      all = one_block_more db (map state_seen c.args.compiled.now) at text (state_seen c.index-compiled-at.result) (map fault_seen c.loop-at.all.items)
+          (map fault_seen c.add_block_faults.new.faults.items) _ stands state i.all (c.in_ok-add_block_faults.ensures.added text stands);
       placed = c.in_ok-add_block_faults.ensures.placed front_placed i.placed;
     }
 
@@ -56,14 +61,17 @@ loop-at-init c =
     record {
       left = c.requires.profile;
       left_placed = c.requires.placed;
-      all = ap (λ (xs : List ExtendedFault). map fault_seen xs ++ extended_faults_after (readings db) 0 db (map state_seen c.args.compiled.now)) c.new-all.ensures.items;
-      placed = subst (λ (xs : List ExtendedFault). All (IsExtendedPlaced (length db)) (map fault_seen xs)) (sym c.new-all.ensures.items) (All-nil (IsExtendedPlaced (length db)));
+      all = ap (λ (xs : List ExtendedFault). map fault_seen xs ++ extended_faults_after (readings db) 0 db (map state_seen c.args.compiled.now))
+          c.new-all.ensures.items;
+      placed = subst (λ (xs : List ExtendedFault). All (IsExtendedPlaced (length db)) (map fault_seen xs)) (sym c.new-all.ensures.items)
+          (All-nil (IsExtendedPlaced (length db)));
     }
 
 pub returns-clause-all : goal.returns-clause-all
 returns-clause-all c =
     let db = c.args.database.now in
-    none_left (readings db) c.loop-at.at db (map state_seen c.args.compiled.now) (map fault_seen c.loop-at.all.items) _ (omega (arith, c.loop-at-test.false, c.requires.as_many)) c.loop-at.invariant.all
+    none_left (readings db) c.loop-at.at db (map state_seen c.args.compiled.now) (map fault_seen c.loop-at.all.items) _
+    (omega (arith, c.loop-at-test.false, c.requires.as_many)) c.loop-at.invariant.all
 
 pub returns-clause-placed : goal.returns-clause-placed
 returns-clause-placed c = c.loop-at.invariant.placed

@@ -13,6 +13,7 @@ abbrev pub invariant-loop-at : goal.invariant-loop-at
 invariant-loop-at l = record {
   left : map profile_fault_seen l.rest ≡ faults_after (readings l.database) l.at (drop l.at (readings l.database));
   left_placed : All (IsPlaced (length l.database)) (map profile_fault_seen l.rest);
-  all : map fault_seen l.all.items ++ extended_faults_after (readings l.database) l.at (drop l.at l.database) (drop l.at (map state_seen l.compiled)) ≡ extended_faults l.database (map state_seen l.compiled);
+  all : map fault_seen l.all.items ++ extended_faults_after (readings l.database) l.at (drop l.at l.database) (drop l.at (map state_seen l.compiled))
+      ≡ extended_faults l.database (map state_seen l.compiled);
   placed : All (IsExtendedPlaced (length l.database)) (map fault_seen l.all.items);
 }

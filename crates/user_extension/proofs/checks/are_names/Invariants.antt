@@ -12,5 +12,6 @@ invariant-loop-place l = record {
   before : (k : ℕ) → k < l.place → word_at (2 * k) l.names < l.ends;
   user_defined : (k : ℕ) → k < l.place → IsTrue (is_user_defined_name (name_in l.names l.table k));
   adjoin : (k : ℕ) → suc k < l.place → word_at (2 * suc k) l.names ≡ word_at (2 * k) l.names + length (name_in l.names l.table k) + 1;
-  rise : (k : ℕ) → suc k < l.place → suc k ≢ l.second → suc k ≢ l.third → IsTrue (is_lt (slice_cmp nat_cmp (name_in l.names l.table k) (name_in l.names l.table (suc k))));
+  rise : (k : ℕ) → suc k < l.place → suc k ≢ l.second → suc k ≢ l.third
+      → IsTrue (is_lt (slice_cmp nat_cmp (name_in l.names l.table k) (name_in l.names l.table (suc k))));
 }

@@ -34,7 +34,8 @@ loop-row-preserved c =
           let next = text_here rows k _ blank c.loop-row-test.true w.in-Text.is in
           record {
             so_far = ap (λ im. im.items) w.image-is
-                ∙ number_put Legacy _ _ _ _ _ c.loop-row.offset i.so_far w.in_ok-push_number.ensures (next.places_are ∙ ap (λ n. places 0 (texts (front k rows)) ++ n ∷ []) (sym i.counted));
+                ∙ number_put Legacy _ _ _ _ _ c.loop-row.offset i.so_far w.in_ok-push_number.ensures
+                (next.places_are ∙ ap (λ n. places 0 (texts (front k rows)) ++ n ∷ []) (sym i.counted));
             counted = omega (arith, next.size, i.counted, w.offset-is);
           }
       | in_default w ↦

@@ -8,7 +8,8 @@ use Rattle.user_items.specs.Parsing.{ReadsUserItems}
 use Rattle.user_items.proofs.Readings.{all_read}
 use Rattle.user_items.proofs.reading.user_items.Goals as goal
 
-ended : {X : Type 0} (f : X → ItemPiece) (o : Option X) (old new : List (List PlacedByte)) → ((x : X) → o ≡ Some x → ⊥) → TakesNext old (option_map f o) new → old ≡ []
+ended : {X : Type 0} (f : X → ItemPiece) (o : Option X) (old new : List (List PlacedByte)) → ((x : X) → o ≡ Some x → ⊥) → TakesNext old (option_map f o) new
+    → old ≡ []
 ended f None old new never taken = taken.0
 ended f (Some x) old new never taken = absurd (never x refl)
 

@@ -10,7 +10,8 @@ pub loop-place-preserved : goal.loop-place-preserved
 loop-place-preserved c =
     table-row c.args.mode (view_contents c.args.one.now.view) (view_contents c.args.other.now.view)
     (in_order c.args.order c.args.kind) c.loop-place.place c.cap_at-cap.result _ _ _ _ c.loop-place.out.items _ _
-    c.cap_at-cap.ensures c.kind.ensures.value (c.as_bytes.ensures.value ∙ c.name.ensures) c.get.ensures c.get-in-loop-place.ensures c.in_ok-push_row.ensures c.loop-place.invariant
+    c.cap_at-cap.ensures c.kind.ensures.value (c.as_bytes.ensures.value ∙ c.name.ensures) c.get.ensures c.get-in-loop-place.ensures c.in_ok-push_row.ensures
+    c.loop-place.invariant
 
 pub returns : goal.returns
 returns c =

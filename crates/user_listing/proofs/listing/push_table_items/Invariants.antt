@@ -11,4 +11,5 @@ abbrev pub invariant-loop-place : goal.invariant-loop-place
 invariant-loop-place l =
     let table = differing_contents (view_contents l.entry.view) (entries_in (all_seen l.others)) in
     let caps = in_order l.layout.order l.kind in
-    (later : List (List ℕ)) → l.out.items ++ flow l.layout l.line (table_from table caps l.place ++ later) ≡ l.initial.out.items ++ flow l.layout None (table_from table caps 0 ++ later)
+    (later : List (List ℕ)) → l.out.items ++ flow l.layout l.line (table_from table caps l.place ++ later) ≡ l.initial.out.items
+    ++ flow l.layout None (table_from table caps 0 ++ later)

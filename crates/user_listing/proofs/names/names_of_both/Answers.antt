@@ -13,11 +13,13 @@ returns c =
     let left = c.loop-left.left in
     let right = c.loop-left.right in
     let f : Bor (List ℕ) → List ℕ = λ name. name.now in
-    let first = ap (map f) (c.in_ok-extend_from_slice.ensures.items ∙ ap (λ (xs : List (Bor (List ℕ))). names ++ xs) (take_rest one left)) ∙ map-append f names (drop left one) in
+    let first = ap (map f) (c.in_ok-extend_from_slice.ensures.items ∙ ap (λ (xs : List (Bor (List ℕ))). names ++ xs) (take_rest one left))
+    ∙ map-append f names (drop left one) in
     let both = ap (map f) (c.in_ok-extend_from_slice-2.ensures.items
     ∙ ap (λ (xs : List (Bor (List ℕ))). c.extend_from_slice.new.self.items ++ xs) (take_rest other right))
     ∙ map-append f c.extend_from_slice.new.self.items (drop right other) ∙ ap (λ (t : List (List ℕ)). t ++ map f (drop right other)) first in
     elim c.loop-left-test.branch [
-      | then-loop-left-test+else-right-other w ↦ both ∙ both-ended f one other left right (map f names) _ (inr w.if-right-other.false) c.loop-left.invariant.done
+      | then-loop-left-test+else-right-other w ↦ both ∙ both-ended f one other left right (map f names) _
+          (inr w.if-right-other.false) c.loop-left.invariant.done
       | else-loop-left-test w ↦ both ∙ both-ended f one other left right (map f names) _ (inl w.loop-left-test.false) c.loop-left.invariant.done
     ]

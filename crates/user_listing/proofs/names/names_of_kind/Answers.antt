@@ -14,8 +14,10 @@ loop-place-preserved c =
     elim c.if-is_of_kind.branch [
       | then-is_of_kind+in_ok-push w ↦
           rw (w.names-is, w.in_ok-push.ensures.items, map-append (λ (name : Bor (List ℕ)). name.now) c.loop-place.names.items (w.name.result ∷ []))
-          (names-there c.args.kind rows c.loop-place.place w.name.result.now _ before _ within w.name.ensures.name c.value.ensures.value (sym c.is_of_kind.ensures
+          (names-there c.args.kind rows c.loop-place.place w.name.result.now _ before _ within w.name.ensures.name c.value.ensures.value
+          (sym c.is_of_kind.ensures
           ∙ w.if-is_of_kind.true) c.loop-place.invariant)
       | else-is_of_kind w ↦
-          rw w.names-is (names-not c.args.kind rows c.loop-place.place _ before _ within c.value.ensures.value (sym c.is_of_kind.ensures ∙ w.if-is_of_kind.false) c.loop-place.invariant)
+          rw w.names-is (names-not c.args.kind rows c.loop-place.place _ before _ within c.value.ensures.value
+          (sym c.is_of_kind.ensures ∙ w.if-is_of_kind.false) c.loop-place.invariant)
     ]

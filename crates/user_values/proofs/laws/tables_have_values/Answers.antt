@@ -5,7 +5,8 @@ use Rattle.user_values.specs.Expansion.{UserMention, first_said, expansion, user
 use Rattle.user_values.specs.Tables.{said_at, IsUserTableOf, AreUserTables}
 use Rattle.user_values.proofs.laws.tables_have_values.Goals as goal
 
-one_value : (texts : List (List ℕ)) (at : ℕ) (text : List ℕ) (table : UserTable) (name : List ℕ) → slice_get texts at ≡ Some text → IsUserTableOf texts text (said_at table) → without_cancel (said_at table name) ≡ user_value texts at name
+one_value : (texts : List (List ℕ)) (at : ℕ) (text : List ℕ) (table : UserTable) (name : List ℕ) → slice_get texts at ≡ Some text
+    → IsUserTableOf texts text (said_at table) → without_cancel (said_at table name) ≡ user_value texts at name
 one_value texts at text table name stands is =
     ap without_cancel (is.2 name)
     ∙ sym (ap (λ o. option_and_then (λ mentions. without_cancel (first_said mentions name)) (option_and_then (expansion texts) o)) stands

@@ -14,7 +14,8 @@ loop-at-preserved c =
     let front = distinct_after [] (names_in (map user_reading_of (take k reads))) in
     let t : c.in_ok-find_names.field-0 ≡ true = cc in
     let now : AreFound (distinct_after front (names_of (map user_item_of c.deref.result.now))) c.find_names.new.found =
-    subst (λ b. AreCounted b (distinct_after front (names_of (map user_item_of c.deref.result.now))) c.find_names.new.found) t (c.in_ok-find_names.ensures front c.loop-at.invariant) in
+    subst (λ b. AreCounted b (distinct_after front (names_of (map user_item_of c.deref.result.now))) c.find_names.new.found) t
+    (c.in_ok-find_names.ensures front c.loop-at.invariant) in
     let same : AreFound (distinct_after front (names_of (user_reading_of read).items)) c.find_names.new.found =
     subst (λ (items : List UserItem). AreFound (distinct_after front (names_of (map user_item_of items))) c.find_names.new.found) c.deref.ensures.value now in
     subst (λ ns. AreFound ns c.find_names.new.found) (sym (found_in_more reads k read [] c.loop-at-test.true c.index-reads-at.is)) same
@@ -27,7 +28,8 @@ returns-then-not-branch-clause-too_many c = λ at e.
     let front = distinct_after [] (names_in (map user_reading_of (take k reads))) in
     let t : c.in_ok-find_names.field-0 ≡ false = cc in
     let over : name_limit < length (distinct_after front (names_of (map user_item_of c.deref.result.now))) =
-    subst (λ b. AreCounted b (distinct_after front (names_of (map user_item_of c.deref.result.now))) c.find_names.new.found) t (c.in_ok-find_names.ensures front c.loop-at.invariant) in
+    subst (λ b. AreCounted b (distinct_after front (names_of (map user_item_of c.deref.result.now))) c.find_names.new.found) t
+    (c.in_ok-find_names.ensures front c.loop-at.invariant) in
     let same : name_limit < length (distinct_after front (names_of (user_reading_of read).items)) =
     subst (λ (items : List UserItem). name_limit < length (distinct_after front (names_of (map user_item_of items)))) c.deref.ensures.value over in
     let more = ap (λ (xs : List (List ℕ)). length xs) (found_in_more reads k read [] c.loop-at-test.true c.index-reads-at.is) in

@@ -13,7 +13,8 @@ loop-item-preserved c = λ names h.
     let front = distinct_after names (names_of (map user_item_of (take k items))) in
     let t : c.in_ok-find_item.field-0 ≡ true = cc in
     let now : AreFound (distinct_after front (name_said (user_item_of item).said)) c.find_item.new.found =
-    subst (λ b. AreCounted b (distinct_after front (name_said (user_item_of item).said)) c.find_item.new.found) t (c.in_ok-find_item.ensures front (c.loop-item.invariant names h)) in
+    subst (λ b. AreCounted b (distinct_after front (name_said (user_item_of item).said)) c.find_item.new.found) t
+    (c.in_ok-find_item.ensures front (c.loop-item.invariant names h)) in
     subst (λ ns. AreFound ns c.find_item.new.found) (sym (found_more items k item names c.loop-item-test.true c.item-item.is)) now
 
 pub returns-then-not-branch : goal.returns-then-not-branch
@@ -24,6 +25,7 @@ returns-then-not-branch c = λ names h.
     let front = distinct_after names (names_of (map user_item_of (take k items))) in
     let t : c.in_ok-find_item.field-0 ≡ false = cc in
     let over : name_limit < length (distinct_after front (name_said (user_item_of item).said)) =
-    subst (λ b. AreCounted b (distinct_after front (name_said (user_item_of item).said)) c.find_item.new.found) t (c.in_ok-find_item.ensures front (c.loop-item.invariant names h)) in
+    subst (λ b. AreCounted b (distinct_after front (name_said (user_item_of item).said)) c.find_item.new.found) t
+    (c.in_ok-find_item.ensures front (c.loop-item.invariant names h)) in
     let more = ap (λ (xs : List (List ℕ)). length xs) (found_more items k item names c.loop-item-test.true c.item-item.is) in
     omega (arith, over, more, longer_with_all items (k + 1) names)

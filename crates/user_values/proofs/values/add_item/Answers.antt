@@ -7,11 +7,13 @@ use Rattle.user_items.specs.Verdicts.{says}
 use Rattle.user_values.specs.Tables.{Said, AddsSaid, said_at, said_once}
 use Rattle.user_values.proofs.values.add_item.Goals as goal
 
-added_one : (texts : List (List ℕ)) (name : List ℕ) (content : Content) (old new : Said) → ((q : List ℕ) → new q ≡ option_or (old q) (said_once name content q)) → AddsSaid texts (says name content) old new
+added_one : (texts : List (List ℕ)) (name : List ℕ) (content : Content) (old new : Said)
+    → ((q : List ℕ) → new q ≡ option_or (old q) (said_once name content q)) → AddsSaid texts (says name content) old new
 added_one texts name content old new h = ((name, content) ∷ [], refl, h)
 
 pub returns-in-Says : goal.returns-in-Says
 returns-in-Says c =
     rw c.in-Says.is
-    (on_ok_weaker c.add.result (added_one c.args.database.now (rc_slice_items c.in-Says.name) (content_of c.in-Says.value) (said_at c.args.table.now) (said_at c.add.new.self))
+    (on_ok_weaker c.add.result (added_one c.args.database.now (rc_slice_items c.in-Says.name) (content_of c.in-Says.value) (said_at c.args.table.now)
+    (said_at c.add.new.self))
     (rw (← c.as_slice.ensures.value) c.add.ensures))

@@ -17,4 +17,5 @@ make_table-requires-clause-whole c = λ text stands.
 pub make_table-requires-clause-owners : goal.make_table-requires-clause-owners
 make_table-requires-clause-owners c = λ text stands.
     let db = c.args.database.now in
-    c.requires.owners text stands (resolved db text (λ table. table.now) c.values.result c.if-is_none.ensures (c.values.ensures (reading_of_text text) (read_text db c.args.at text stands)))
+    c.requires.owners text stands (resolved db text (λ table. table.now) c.values.result c.if-is_none.ensures
+    (c.values.ensures (reading_of_text text) (read_text db c.args.at text stands)))

@@ -23,7 +23,8 @@ table_at-requires-clause-owners c = λ text stands some.
     let is : c.in_ok-uses.uses ≡ graph_of db = c.in_ok-uses.ensures ∙ ap (rows_of db) c.requires in
     let are : AreComponents (graph_of db) comps = subst (λ g. AreComponents g comps) is c.in_ok-components.ensures.components in
     let closing : IsClosingOrder (graph_of db) comps order =
-    subst (λ o. IsClosingOrder (graph_of db) comps o) (sym c.deref-node-items.ensures.value) (subst (λ g. IsClosingOrder g comps c.in_ok-components.components.order.items) is c.in_ok-components.ensures.order) in
+    subst (λ o. IsClosingOrder (graph_of db) comps o) (sym c.deref-node-items.ensures.value)
+    (subst (λ g. IsClosingOrder g comps c.in_ok-components.components.order.items) is c.in_ok-components.ensures.order) in
     let listed : slice_get order c.loop-node.node-index ≡ Some node = slice_get-get_or order c.loop-node.node-index 0 c.loop-node-test.true in
     rw c.deref.ensures.value
     (owners_made db comps order c.loop-node.tables.items c.loop-node.node-index node text are closing c.loop-node.invariant listed stands some)
@@ -36,7 +37,8 @@ index_mut-requires c =
     let comps = c.in_ok-components.components.component_of.items in
     let is : c.in_ok-uses.uses ≡ graph_of db = c.in_ok-uses.ensures ∙ ap (rows_of db) c.requires in
     let closing : IsClosingOrder (graph_of db) comps order =
-    subst (λ o. IsClosingOrder (graph_of db) comps o) (sym c.deref-node-items.ensures.value) (subst (λ g. IsClosingOrder g comps c.in_ok-components.components.order.items) is c.in_ok-components.ensures.order) in
+    subst (λ o. IsClosingOrder (graph_of db) comps o) (sym c.deref-node-items.ensures.value)
+    (subst (λ g. IsClosingOrder g comps c.in_ok-components.components.order.items) is c.in_ok-components.ensures.order) in
     let listed : slice_get order c.loop-node.node-index ≡ Some node = slice_get-get_or order c.loop-node.node-index 0 c.loop-node-test.true in
     let below = closing.nodes c.loop-node.node-index node listed in
     omega (arith, c.loop-node.tables.ok.0, c.loop-node.invariant.as_many, graph_length db)
@@ -49,7 +51,8 @@ loop-node-preserved c =
     let comps = c.in_ok-components.components.component_of.items in
     let is : c.in_ok-uses.uses ≡ graph_of db = c.in_ok-uses.ensures ∙ ap (rows_of db) c.requires in
     let closing : IsClosingOrder (graph_of db) comps order =
-    subst (λ o. IsClosingOrder (graph_of db) comps o) (sym c.deref-node-items.ensures.value) (subst (λ g. IsClosingOrder g comps c.in_ok-components.components.order.items) is c.in_ok-components.ensures.order) in
+    subst (λ o. IsClosingOrder (graph_of db) comps o) (sym c.deref-node-items.ensures.value)
+    (subst (λ g. IsClosingOrder g comps c.in_ok-components.components.order.items) is c.in_ok-components.ensures.order) in
     let listed : slice_get order c.loop-node.node-index ≡ Some node = slice_get-get_or order c.loop-node.node-index 0 c.loop-node-test.true in
     let below = closing.nodes c.loop-node.node-index node listed in
     let fits : node < length c.loop-node.tables.items = omega (arith, c.loop-node.invariant.as_many, graph_length db) in
@@ -62,5 +65,6 @@ returns c =
     let comps = c.in_ok-components.components.component_of.items in
     let is : c.in_ok-uses.uses ≡ graph_of db = c.in_ok-uses.ensures ∙ ap (rows_of db) c.requires in
     let closing : IsClosingOrder (graph_of db) comps order =
-    subst (λ o. IsClosingOrder (graph_of db) comps o) (sym c.deref-node-items.ensures.value) (subst (λ g. IsClosingOrder g comps c.in_ok-components.components.order.items) is c.in_ok-components.ensures.order) in
+    subst (λ o. IsClosingOrder (graph_of db) comps o) (sym c.deref-node-items.ensures.value)
+    (subst (λ g. IsClosingOrder g comps c.in_ok-components.components.order.items) is c.in_ok-components.ensures.order) in
     all_made db comps order c.loop-node.tables.items c.loop-node.node-index closing c.loop-node-test.false c.loop-node.invariant

@@ -8,7 +8,8 @@ invariant_of-self-2 c =
 
 pub returns-clause-ok : goal.returns-clause-ok
 returns-clause-ok c = λ before row e.
-    rw c.in_ok-push.ensures.items (rows_of-push_target c.self.inside.targets.items c.args.target c.self.inside.starts.items c.self.invariant before row (c.self.view_is ∙ e))
+    rw c.in_ok-push.ensures.items (rows_of-push_target c.self.inside.targets.items c.args.target c.self.inside.starts.items c.self.invariant before row
+    (c.self.view_is ∙ e))
 
 pub returns-clause-nodes : goal.returns-clause-nodes
 returns-clause-nodes c =

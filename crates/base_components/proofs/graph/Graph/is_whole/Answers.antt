@@ -22,5 +22,8 @@ loop-node-preserved c = λ from to l edge.
     ]
 
 pub returns : goal.returns
-returns c =
-    ((λ t. λ from to edge. c.loop-node.invariant from to (omega (arith, slice_get_within c.args.self.now from edge.row edge.stands, c.node_count-node-end.ensures)) edge), λ whole. refl)
+returns c = (
+  (λ t. λ from to edge. c.loop-node.invariant from to
+      (omega (arith, slice_get_within c.args.self.now from edge.row edge.stands, c.node_count-node-end.ensures)) edge),
+  λ whole. refl,
+)

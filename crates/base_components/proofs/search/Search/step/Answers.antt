@@ -34,7 +34,14 @@ follow-requires-clause-within c = λ target e.
     let last = c.len.result - 1 in
     let n : length s.active.items ≡ suc last = omega (arith, c.len.ensures, s.active.ok.0, c.requires.active) in
     let at_hand = is_at c.args.graph.now s last c.index-place.result.now c.index-node.result.now c.requires.walk n c.index-place.ensures c.index-node.ensures in
-    let within = c.requires.graph c.index-node.result.now target (record { row = c.row-row.result.now; place = c.index-next.result.now; stands = c.row-row.ensures; leads = slice_get-get_or c.row-row.result.now c.index-next.result.now None c.if-next-row.true ∙ ap (λ x. Some x) e }) in
+    let within = c.requires.graph c.index-node.result.now target
+    (record {
+      row = c.row-row.result.now;
+      place = c.index-next.result.now;
+      stands = c.row-row.ensures;
+      leads =
+          slice_get-get_or c.row-row.result.now c.index-next.result.now None c.if-next-row.true ∙ ap (λ x. Some x) e;
+    }) in
     omega (arith, within, c.requires.walk.going.nodes, s.progress.ok.0)
 
 pub index_mut-requires : goal.index_mut-requires
@@ -68,11 +75,20 @@ returns-in_ok-follow c =
     let last = c.len.result - 1 in
     let n : length s.active.items ≡ suc last = omega (arith, c.len.ensures, s.active.ok.0, c.requires.active) in
     let at_hand = is_at c.args.graph.now s last c.index-place.result.now c.index-node.result.now c.requires.walk n c.index-place.ensures c.index-node.ensures in
-    let cursor = slice_get_read s.cursors.items (vec_len s.cursors) c.index-node.result.now c.index-next.result.now s.cursors.ok.0 (omega (arith, at_hand.known, c.requires.walk.going.cursor_each, s.cursors.ok.0)) c.index-next.ensures in
+    let cursor = slice_get_read s.cursors.items (vec_len s.cursors) c.index-node.result.now c.index-next.result.now s.cursors.ok.0
+    (omega (arith, at_hand.known, c.requires.walk.going.cursor_each, s.cursors.ok.0)) c.index-next.ensures in
     let edge = slice_get-get_or c.row-row.result.now c.index-next.result.now None c.if-next-row.true in
     let mid = c.follow.new.self in
     step_followed c.args.graph.now s mid
-    (record { progress = mid.progress; cursors = with_item mid.cursors c.index-node.result.now (c.index-next.result.now + 1); path = mid.path; starts = mid.starts; active = mid.active; order = mid.order })
+    (record {
+      progress = mid.progress;
+      cursors = with_item mid.cursors c.index-node.result.now (c.index-next.result.now + 1);
+      path = mid.path;
+      starts =
+          mid.starts;
+      active = mid.active;
+      order = mid.order;
+    })
     c.index-place.result.now c.index-node.result.now c.index-next.result.now c.row-row.result.now (get_or c.row-row.result.now c.index-next.result.now None)
     c.requires.walk at_hand.top at_hand.here cursor c.row-row.ensures edge c.in_ok-follow.ensures refl refl refl refl refl refl
 
@@ -82,5 +98,7 @@ returns-in_ok-leave c =
     let last = c.len.result - 1 in
     let n : length s.active.items ≡ suc last = omega (arith, c.len.ensures, s.active.ok.0, c.requires.active) in
     let at_hand = is_at c.args.graph.now s last c.index-place.result.now c.index-node.result.now c.requires.walk n c.index-place.ensures c.index-node.ensures in
-    let cursor = slice_get_read s.cursors.items (vec_len s.cursors) c.index-node.result.now c.index-next.result.now s.cursors.ok.0 (omega (arith, at_hand.known, c.requires.walk.going.cursor_each, s.cursors.ok.0)) c.index-next.ensures in
-    step_left c.args.graph.now s c.leave.new.self c.index-place.result.now c.index-node.result.now c.index-next.result.now c.row-row.result.now c.requires.walk at_hand.top at_hand.here cursor c.row-row.ensures c.if-next-row.false c.in_ok-leave.ensures
+    let cursor = slice_get_read s.cursors.items (vec_len s.cursors) c.index-node.result.now c.index-next.result.now s.cursors.ok.0
+    (omega (arith, at_hand.known, c.requires.walk.going.cursor_each, s.cursors.ok.0)) c.index-next.ensures in
+    step_left c.args.graph.now s c.leave.new.self c.index-place.result.now c.index-node.result.now c.index-next.result.now c.row-row.result.now
+    c.requires.walk at_hand.top at_hand.here cursor c.row-row.ensures c.if-next-row.false c.in_ok-leave.ensures

@@ -11,5 +11,6 @@ returns-clause-count c =
     let found = c.partition_point in
     let before : ListsBefore o.ids.items list c.args.id found.result =
     counted o.ids.items o.labels.items list c.args.id found.result c.self.invariant.labelled c.self.invariant.ids_known found.ensures.bound
-    (λ parted. IsPartitionPoint-from_clause (is_below o.labels.items (get_or o.labels.items c.args.id 0)) list found.result found.ensures.partitioned parted (λ a r f k. search rules)) in
+    (λ parted. IsPartitionPoint-from_clause (is_below o.labels.items (get_or o.labels.items c.args.id 0)) list found.result found.ensures.partitioned parted
+    (λ a r f k. search rules)) in
     rw (← c.self.view_is) before

@@ -17,7 +17,8 @@ invariant_of-self c =
     let popped : o.free.items ≡ c.pop.new.self.items ++ c.unwrap-id.result ∷ [] = rw c.unwrap-id.ensures at c.pop.ensures.items in
     let put : c.insert.new.self.items ≡ insert o.ids.items c.args.position c.unwrap-id.result = rw c.unwrap.ensures at c.insert.ensures.items in
     let within : c.args.position ≤ length o.ids.items = omega (arith, c.requires.within, ap (λ x. length x.listed) c.self.view_is) in
-    rw put (order_inserted o.ids.items new.items o.free.items c.pop.new.self.items (vec_capacity o.ids) (vec_capacity o.free) (vec_capacity c.insert.new.self) (vec_capacity c.pop.new.self) c.args.position c.unwrap-id.result c.make_label-label.result
+    rw put (order_inserted o.ids.items new.items o.free.items c.pop.new.self.items (vec_capacity o.ids) (vec_capacity o.free)
+    (vec_capacity c.insert.new.self) (vec_capacity c.pop.new.self) c.args.position c.unwrap-id.result c.make_label-label.result
     kept popped within fits c.insert.ensures.capacity (omega (arith, c.pop.ensures.capacity)))
 
 pub returns-clause-fresh : goal.returns-clause-fresh
@@ -25,4 +26,5 @@ returns-clause-fresh c = λ has.
     let o = c.self.inside in
     let popped : o.free.items ≡ c.pop.new.self.items ++ c.unwrap-id.result ∷ [] = rw c.unwrap-id.ensures at c.pop.ensures.items in
     let there : Has o.ids.items c.unwrap-id.result = rw (← c.self.view_is) at has in
-    order_fresh o.ids.items o.labels.items o.free.items c.pop.new.self.items (vec_capacity o.ids) (vec_capacity o.free) c.unwrap-id.result c.self.invariant popped there
+    order_fresh o.ids.items o.labels.items o.free.items c.pop.new.self.items (vec_capacity o.ids)
+    (vec_capacity o.free) c.unwrap-id.result c.self.invariant popped there

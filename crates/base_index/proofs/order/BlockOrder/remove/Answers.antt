@@ -10,7 +10,8 @@ invariant_of-self c =
     let within : c.args.position < length o.ids.items = omega (arith, c.requires, ap (λ x. length x.listed) c.self.view_is) in
     let here = slice_get_read o.ids.items (length o.ids.items) c.args.position c.remove-id.result refl within c.remove-id.ensures.value in
     rw (c.remove-id.ensures.items, c.push_reserved.ensures.items)
-    (order_removed o.ids.items o.labels.items o.free.items (vec_capacity o.ids) (vec_capacity o.free) (vec_capacity c.remove-id.new.self) (vec_capacity c.push_reserved.new.self) c.args.position c.remove-id.result
+    (order_removed o.ids.items o.labels.items o.free.items (vec_capacity o.ids) (vec_capacity o.free) (vec_capacity c.remove-id.new.self)
+    (vec_capacity c.push_reserved.new.self) c.args.position c.remove-id.result
     c.self.invariant here (omega (arith, c.remove-id.ensures.capacity)) (omega (arith, c.push_reserved.ensures.capacity)))
 
 pub returns-clause-id : goal.returns-clause-id

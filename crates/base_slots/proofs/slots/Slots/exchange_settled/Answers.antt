@@ -35,7 +35,13 @@ returns c =
     let there = has_slot c.self.inside c.args.self.now c.args.id c.self.view_is c.self.invariant c.requires in
     let known = known_slot slots c.args.id there in
     let read = read_slot slots c.args.id c.index_mut.result.now known c.index_mut.ensures.value in
-    let new : Inside = record { order = c.self.inside.order; names = c.self.inside.names; slots = with_item c.self.inside.slots c.args.id (Some (record { text = c.unwrap-slot.result.now.text; block = c.unwrap-slot.result.now.block; settled = c.swap.new.x })) } in
+    let new : Inside = record {
+      order = c.self.inside.order;
+      names = c.self.inside.names;
+      slots =
+          with_item c.self.inside.slots c.args.id
+          (Some (record { text = c.unwrap-slot.result.now.text; block = c.unwrap-slot.result.now.block; settled = c.swap.new.x }));
+    } in
     settled_shown c.self.inside new c.args.self.now c.args.id c.unwrap-slot.result.now c.swap.new.x c.self.view_is c.self.invariant
     (record { order = refl; names = refl; was = read ∙ (sym c.as_mut.ensures.value ∙ ap option_copied_mut c.unwrap-slot.ensures); known = known; slots = refl })
     ∙ ap (λ s. settled_in c.args.self.now c.args.id s) c.swap.ensures.x_after

@@ -28,19 +28,24 @@ add-requires-clause-stands c =
     stands_now c.self.inside.order.listed c.insert-id.new.self.listed c.args.at c.insert-id.result
     (omega (arith, c.requires.within, value_length c.self.inside c.args.self.now c.self.view_is c.self.invariant)) c.insert-id.ensures.listed
 
-parts : (slots : Inside) (listed : List ℕ) (at id : ℕ) → IsIndexed slots → listed ≡ insert slots.order.listed at id → (Has slots.order.listed id → ⊥) → (role : Role) (name : List ℕ) → IsPart listed (ids_at role slots.names name)
-parts slots listed at id h e fresh Holder name = ((λ x. not (nat_eq x id) && has_stored slots.slots.items name x), holders_before slots listed at id h e fresh name)
-parts slots listed at id h e fresh User name = ((λ x. not (nat_eq x id) && uses_stored slots.slots.items name x), users_before slots listed at id h e fresh name)
+parts : (slots : Inside) (listed : List ℕ) (at id : ℕ) → IsIndexed slots → listed ≡ insert slots.order.listed at id → (Has slots.order.listed id → ⊥)
+    → (role : Role) (name : List ℕ) → IsPart listed (ids_at role slots.names name)
+parts slots listed at id h e fresh Holder name =
+    ((λ x. not (nat_eq x id) && has_stored slots.slots.items name x), holders_before slots listed at id h e fresh name)
+parts slots listed at id h e fresh User name =
+    ((λ x. not (nat_eq x id) && uses_stored slots.slots.items name x), users_before slots listed at id h e fresh name)
 
 pub add-requires-clause-parts : goal.add-requires-clause-parts
-add-requires-clause-parts c = parts c.self.inside c.insert-id.new.self.listed c.args.at c.insert-id.result c.self.invariant c.insert-id.ensures.listed c.insert-id.ensures.fresh
+add-requires-clause-parts c =
+    parts c.self.inside c.insert-id.new.self.listed c.args.at c.insert-id.result c.self.invariant c.insert-id.ensures.listed c.insert-id.ensures.fresh
 
 room : (slots : Inside) (block : Parsed) → HasRoomStored slots (reading_of block) → HasRoomAt (says_of block) slots.names
 room slots block h Holder name said = h.holders name said
 room slots block h User name said = h.users name (any_use-used name (reading_of block).items said)
 
 pub add-requires-clause-room : goal.add-requires-clause-room
-add-requires-clause-room c = room c.self.inside c.args.slot.block (value_room c.self.inside c.args.self.now (reading_of c.args.slot.block) c.self.view_is c.self.invariant c.requires.room)
+add-requires-clause-room c = room c.self.inside c.args.slot.block
+    (value_room c.self.inside c.args.self.now (reading_of c.args.slot.block) c.self.view_is c.self.invariant c.requires.room)
 
 pub invariant_of-self : goal.invariant_of-self
 invariant_of-self c =
@@ -57,7 +62,8 @@ invariant_of-self c =
 
 pub returns : goal.returns
 returns c =
-    let new : Inside = record { order = c.insert-id.new.self; names = c.add.new.index; slots = with_item c.self.inside.slots c.insert-id.result (Some c.args.slot) } in
+    let new : Inside =
+    record { order = c.insert-id.new.self; names = c.add.new.index; slots = with_item c.self.inside.slots c.insert-id.result (Some c.args.slot) } in
     put_shown c.self.inside new c.args.self.now c.args.at c.insert-id.result c.args.slot c.self.view_is c.self.invariant
     (record {
       within = omega (arith, c.requires.within, value_length c.self.inside c.args.self.now c.self.view_is c.self.invariant);

@@ -21,7 +21,8 @@ returns-clause-slot c = λ at stands.
     let slots = c.self.inside.slots.items in
     let there = has_slot c.self.inside c.args.self.now c.args.id c.self.view_is c.self.invariant c.requires in
     let read = read_slot slots c.args.id c.index.result.now (known_slot slots c.args.id there) c.index.ensures in
-    value_slot c.self.inside c.args.self.now at c.args.id c.unwrap.result.now c.self.view_is c.self.invariant (read ∙ (sym c.as_ref.ensures.value ∙ ap option_copied c.unwrap.ensures)) stands
+    value_slot c.self.inside c.args.self.now at c.args.id c.unwrap.result.now c.self.view_is c.self.invariant
+    (read ∙ (sym c.as_ref.ensures.value ∙ ap option_copied c.unwrap.ensures)) stands
 
 pub returns-clause-distinct : goal.returns-clause-distinct
 returns-clause-distinct c = value_distinct c.self.inside c.args.self.now c.self.view_is c.self.invariant

@@ -22,7 +22,8 @@ bounds-ids-at c = omega (arith, c.requires, value_length c.self.inside c.args.se
 
 pub offset_bounds-ids-at : goal.offset_bounds-ids-at
 offset_bounds-ids-at c =
-    let within : c.args.at < length c.ids.result.now = omega (arith, c.requires, value_length c.self.inside c.args.self.now c.self.view_is c.self.invariant, ap length c.ids.ensures.ids) in
+    let within : c.args.at < length c.ids.result.now =
+    omega (arith, c.requires, value_length c.self.inside c.args.self.now c.self.view_is c.self.invariant, ap length c.ids.ensures.ids) in
     search rules
 
 pub index_mut-requires : goal.index_mut-requires
@@ -46,7 +47,8 @@ unwrap-slot-requires c =
 
 pub remove-requires-clause-stands : goal.remove-requires-clause-stands
 remove-requires-clause-stands c =
-    let within : c.args.at < length c.self.inside.order.listed = omega (arith, c.requires, value_length c.self.inside c.args.self.now c.self.view_is c.self.invariant) in
+    let within : c.args.at < length c.self.inside.order.listed =
+    omega (arith, c.requires, value_length c.self.inside c.args.self.now c.self.view_is c.self.invariant) in
     (c.args.at, stood_at c.self.inside.order.listed c.ids.result.now c.args.at c.ids.ensures.ids within)
 
 parts : (slots : Inside) → IsIndexed slots → (role : Role) (name : List ℕ) → IsPart slots.order.listed (ids_at role slots.names name)

@@ -8,12 +8,14 @@ use Rattle.ti_base.proofs.database.Database.compiled.Goals as goal
 pub returns-in-Compiled : goal.returns-in-Compiled
 returns-in-Compiled c =
     let kept = entry_of_slot c.self.inside.slots c.args.at c.slot_of.result.now c.self.invariant c.slot_of.ensures in
-    ap (λ x. Some x) c.bytes.ensures.image ∙ (ap (λ e. entry_seen (state_seen e)) (sym c.in-Compiled.is) ∙ (kept ∙ ap (λ texts. compiled texts c.args.at) c.self.view_is))
+    ap (λ x. Some x) c.bytes.ensures.image ∙ (ap (λ e. entry_seen (state_seen e)) (sym c.in-Compiled.is)
+    ∙ (kept ∙ ap (λ texts. compiled texts c.args.at) c.self.view_is))
 
 pub returns-in_default : goal.returns-in_default
 returns-in_default c =
     let kept = entry_of_slot c.self.inside.slots c.args.at c.slot_of.result.now c.self.invariant c.slot_of.ensures in
-    shown_other c.slot_of.result.now.settled.state (λ entry e. c.in_default.not-Compiled entry e) ∙ (kept ∙ ap (λ texts. compiled texts c.args.at) c.self.view_is)
+    shown_other c.slot_of.result.now.settled.state (λ entry e. c.in_default.not-Compiled entry e)
+    ∙ (kept ∙ ap (λ texts. compiled texts c.args.at) c.self.view_is)
 
 pub slot_of-requires : goal.slot_of-requires
 slot_of-requires c = within_list c.self.inside.slots c.args.self.now c.args.at (length c.args.self.now) c.self.view_is refl c.requires

@@ -19,4 +19,5 @@ pub returns-clause-placed : goal.returns-clause-placed
 returns-clause-placed c =
     let slots = c.self.inside.slots in
     placed_as (length (blocks_of slots)) (length c.args.self.now) (faults (blocks_of slots)) (map fault_seen c.in_ok-faults.faults.items)
-    (length_blocks slots ∙ sym (length_texts slots) ∙ ap length c.self.view_is) c.in_ok-faults.ensures (faults_placed (blocks_of slots) (all_usable slots c.self.invariant.read))
+    (length_blocks slots ∙ sym (length_texts slots) ∙ ap length c.self.view_is) c.in_ok-faults.ensures
+    (faults_placed (blocks_of slots) (all_usable slots c.self.invariant.read))

@@ -19,11 +19,13 @@ write_report-requires-clause-placed c =
     let slots = c.self.inside.slots in
     let read = c.self.invariant.read in
     let texts_read = blocks_read slots read ∙ ap readings c.self.view_is in
-    placed_as (length (blocks_of slots)) (length (slot_texts slots)) (faults (blocks_of slots)) (map fault_seen c.args.found.now) (length_blocks slots ∙ sym (length_texts slots))
+    placed_as (length (blocks_of slots)) (length (slot_texts slots)) (faults (blocks_of slots)) (map fault_seen c.args.found.now)
+    (length_blocks slots ∙ sym (length_texts slots))
     (c.requires.all ∙ ap faults (sym texts_read)) (faults_placed (blocks_of slots) (all_usable slots read))
 
 pub returns : goal.returns
 returns c =
     let slots = c.self.inside.slots in
     let found = c.requires.all ∙ ap (λ texts. faults (readings texts)) (sym c.self.view_is) in
-    c.in_ok-report.ensures ∙ (ap (flat_map (report_line (slot_texts slots) c.args.first_line)) found ∙ ap (λ texts. report texts c.args.first_line) c.self.view_is)
+    c.in_ok-report.ensures ∙ (ap (flat_map (report_line (slot_texts slots) c.args.first_line)) found
+    ∙ ap (λ texts. report texts c.args.first_line) c.self.view_is)

@@ -12,5 +12,7 @@ pub returns-clause-within : goal.returns-clause-within
 returns-clause-within c =
     let bytes = c.self.inside.bytes.items in
     let limits = ap image_limit (sym (seen_says bytes c.self.invariant)) ∙ ap (λ (i : NamedTable). image_limit (held_by i)) c.self.view_is in
-    let small : length bytes ≤ image_limit (contents_in bytes) = subst (λ (b : List ℕ). length b ≤ image_limit (contents_in bytes)) (sym c.self.invariant.whole) c.self.invariant.imaged.within in
-    subst (λ n. length c.as_slice.result.now ≤ n) limits (subst (λ (b : List ℕ). length b ≤ image_limit (contents_in bytes)) (sym c.as_slice.ensures.value) small)
+    let small : length bytes ≤ image_limit (contents_in bytes) =
+    subst (λ (b : List ℕ). length b ≤ image_limit (contents_in bytes)) (sym c.self.invariant.whole) c.self.invariant.imaged.within in
+    subst (λ n. length c.as_slice.result.now ≤ n) limits (subst (λ (b : List ℕ). length b ≤ image_limit (contents_in bytes))
+    (sym c.as_slice.ensures.value) small)

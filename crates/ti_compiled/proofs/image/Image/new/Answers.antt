@@ -8,7 +8,8 @@ use Rattle.ti_compiled.proofs.image.Image.new.Goals.{In_ok-bytes}
 again : (c : In_ok-bytes) → Again c.in_ok-bytes.bytes.items c.args.names.now (contents c.args.table.now)
 again c =
     let ok = c.in_ok-bytes.ensures.ok in
-    read_again c.in_ok-bytes.bytes.items c.args.names.now (contents c.args.table.now) (some_bytes c.args.names.now c.requires.present) ok.1 c.requires.no_nul (λ k valid. c.values_agree.ensures k) ok.2 ok.0
+    read_again c.in_ok-bytes.bytes.items c.args.names.now (contents c.args.table.now) (some_bytes c.args.names.now c.requires.present) ok.1
+    c.requires.no_nul (λ k valid. c.values_agree.ensures k) ok.2 ok.0
 
 pub invariant_of-result : goal.invariant_of-result
 invariant_of-result c = (again c).is_image

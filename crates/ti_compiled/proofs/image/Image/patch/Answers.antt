@@ -9,7 +9,8 @@ use Rattle.ti_compiled.proofs.image.Image.patch.Goals as goal
 use Rattle.ti_compiled.proofs.image.Image.patch.Goals.{After-is_within_limit, After-new}
 
 written : (c : After-is_within_limit) → IsWrittenAs c.in-Some.image c.args.self.now.names (contents c.args.new.now)
-written c = written_as c.in-Some.image c.args.self.now.names (contents c.args.new.now) c.is_within_limit.ensures c.in-Some.ensures.names c.in-Some.ensures.contents
+written c =
+    written_as c.in-Some.image c.args.self.now.names (contents c.args.new.now) c.is_within_limit.ensures c.in-Some.ensures.names c.in-Some.ensures.contents
 
 pub returns-in-Some-clause-image : goal.returns-in-Some-clause-image
 returns-in-Some-clause-image c = (written c).whole
@@ -31,7 +32,8 @@ same_names : (c : After-new) → c.names_of.result.now ≡ c.args.self.now.names
 same_names c = c.names_of.ensures.names ∙ ap names_in c.deref.ensures.value ∙ ap (λ (i : NamedTable). i.names) c.self.view_is
 
 pub returns-in-None-clause-image : goal.returns-in-None-clause-image
-returns-in-None-clause-image c = subst (λ (x : List ℕ). IfOk c.new.result (λ i. bytes_of i ≡ image x (contents c.args.new.now))) (same_names c) c.new.ensures.image
+returns-in-None-clause-image c =
+    subst (λ (x : List ℕ). IfOk c.new.result (λ i. bytes_of i ≡ image x (contents c.args.new.now))) (same_names c) c.new.ensures.image
 
 pub returns-in-None-clause-names : goal.returns-in-None-clause-names
 returns-in-None-clause-names c = subst (λ (x : List ℕ). IfOk c.new.result (λ i. i.names ≡ x)) (same_names c) c.new.ensures.names

@@ -17,10 +17,14 @@ flag_present false = refl
 
 pub invariant_of-self : goal.invariant_of-self
 invariant_of-self c =
-    (after_giving c.set_flag.result c.self.inside.bytes.items c.args.self.now c.set_flag.new.bytes.items c.args.cap Flag c.index.result (flag_content c.args.on) c.self.view_is c.requires.kind c.index.ensures.value
-    c.self.invariant (flag_agrees c.index.result c.args.on) (flag_present c.args.on) c.set_flag.ensures.ok c.set_flag.ensures.within c.set_flag.ensures.too_large c.set_flag.ensures.memory c.set_flag.ensures.names_fit c.set_flag.ensures.err).is_image
+    (after_giving c.set_flag.result c.self.inside.bytes.items c.args.self.now c.set_flag.new.bytes.items c.args.cap Flag c.index.result
+    (flag_content c.args.on) c.self.view_is c.requires.kind c.index.ensures.value
+    c.self.invariant (flag_agrees c.index.result c.args.on) (flag_present c.args.on) c.set_flag.ensures.ok c.set_flag.ensures.within
+    c.set_flag.ensures.too_large c.set_flag.ensures.memory c.set_flag.ensures.names_fit c.set_flag.ensures.err).is_image
 
 pub returns : goal.returns
 returns c =
-    (after_giving c.set_flag.result c.self.inside.bytes.items c.args.self.now c.set_flag.new.bytes.items c.args.cap Flag c.index.result (flag_content c.args.on) c.self.view_is c.requires.kind c.index.ensures.value
-    c.self.invariant (flag_agrees c.index.result c.args.on) (flag_present c.args.on) c.set_flag.ensures.ok c.set_flag.ensures.within c.set_flag.ensures.too_large c.set_flag.ensures.memory c.set_flag.ensures.names_fit c.set_flag.ensures.err).sets
+    (after_giving c.set_flag.result c.self.inside.bytes.items c.args.self.now c.set_flag.new.bytes.items c.args.cap Flag c.index.result
+    (flag_content c.args.on) c.self.view_is c.requires.kind c.index.ensures.value
+    c.self.invariant (flag_agrees c.index.result c.args.on) (flag_present c.args.on) c.set_flag.ensures.ok c.set_flag.ensures.within
+    c.set_flag.ensures.too_large c.set_flag.ensures.memory c.set_flag.ensures.names_fit c.set_flag.ensures.err).sets

@@ -17,10 +17,14 @@ text_present None = refl
 
 pub invariant_of-self : goal.invariant_of-self
 invariant_of-self c =
-    (after_giving c.set_text.result c.self.inside.bytes.items c.args.self.now c.set_text.new.bytes.items c.args.cap Text c.index.result (text_lent c.args.text) c.self.view_is c.requires.kind c.index.ensures.value
-    c.self.invariant (text_agrees c.index.result c.args.text c.requires.no_nul) (text_present c.args.text) c.set_text.ensures.ok c.set_text.ensures.within c.set_text.ensures.too_large c.set_text.ensures.memory c.set_text.ensures.names_fit c.set_text.ensures.err).is_image
+    (after_giving c.set_text.result c.self.inside.bytes.items c.args.self.now c.set_text.new.bytes.items c.args.cap Text c.index.result
+    (text_lent c.args.text) c.self.view_is c.requires.kind c.index.ensures.value
+    c.self.invariant (text_agrees c.index.result c.args.text c.requires.no_nul) (text_present c.args.text) c.set_text.ensures.ok c.set_text.ensures.within
+    c.set_text.ensures.too_large c.set_text.ensures.memory c.set_text.ensures.names_fit c.set_text.ensures.err).is_image
 
 pub returns : goal.returns
 returns c =
-    (after_giving c.set_text.result c.self.inside.bytes.items c.args.self.now c.set_text.new.bytes.items c.args.cap Text c.index.result (text_lent c.args.text) c.self.view_is c.requires.kind c.index.ensures.value
-    c.self.invariant (text_agrees c.index.result c.args.text c.requires.no_nul) (text_present c.args.text) c.set_text.ensures.ok c.set_text.ensures.within c.set_text.ensures.too_large c.set_text.ensures.memory c.set_text.ensures.names_fit c.set_text.ensures.err).sets
+    (after_giving c.set_text.result c.self.inside.bytes.items c.args.self.now c.set_text.new.bytes.items c.args.cap Text c.index.result
+    (text_lent c.args.text) c.self.view_is c.requires.kind c.index.ensures.value
+    c.self.invariant (text_agrees c.index.result c.args.text c.requires.no_nul) (text_present c.args.text) c.set_text.ensures.ok c.set_text.ensures.within
+    c.set_text.ensures.too_large c.set_text.ensures.memory c.set_text.ensures.names_fit c.set_text.ensures.err).sets

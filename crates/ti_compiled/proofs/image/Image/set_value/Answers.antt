@@ -10,7 +10,9 @@ pub give-requires : goal.give-requires
 give-requires c = record { agrees = subst (λ (v : Option (Bor Value)). AgreesIfSome c.args.cap (content_lent v)) c.in-Some.is c.requires.agrees }
 
 pub returns-in-Some : goal.returns-in-Some
-returns-in-Some c = subst (λ (v : Option (Bor Value)). SetsContent c.args.self.now c.give.new.self c.args.cap (without_cancel (content_lent v)) c.give.result) (sym c.in-Some.is) c.give.ensures
+returns-in-Some c = subst (λ (v : Option (Bor Value)). SetsContent c.args.self.now c.give.new.self c.args.cap
+    (without_cancel (content_lent v)) c.give.result) (sym c.in-Some.is) c.give.ensures
 
 pub returns-in-None : goal.returns-in-None
-returns-in-None c = subst (λ (v : Option (Bor Value)). SetsContent c.args.self.now c.take_away.new.self c.args.cap (without_cancel (content_lent v)) c.take_away.result) (sym c.in-None.is) c.take_away.ensures
+returns-in-None c = subst (λ (v : Option (Bor Value)). SetsContent c.args.self.now c.take_away.new.self c.args.cap
+    (without_cancel (content_lent v)) c.take_away.result) (sym c.in-None.is) c.take_away.ensures

@@ -12,5 +12,6 @@ change_numbers-requires-clause-count c =
 pub change_numbers-requires-clause-room : goal.change_numbers-requires-clause-room
 change_numbers-requires-clause-room c =
     let change = c.args.self.now in
-    let fits = number_room c.args.bytes.now.items c.requires.image c.args.old.now c.requires.old change.index c.requires.suits.0 change.number c.args.new.now c.requires.new _ _ refl c.requires.room in
+    let fits = number_room c.args.bytes.now.items c.requires.image c.args.old.now c.requires.old change.index c.requires.suits.0 change.number
+    c.args.new.now c.requires.new _ _ refl c.requires.room in
     omega arith

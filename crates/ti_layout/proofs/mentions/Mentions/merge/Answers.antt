@@ -12,4 +12,5 @@ returns c =
     on_ok_weaker c.merge.result (λ merged d valid.
     added_all _ _ d c.in_ok-settle.ensures.none ∙ merged d
     ∙ ap (λ o. option_or o (contents c.args.used.now d))
-    (c.in_ok-settle.ensures.merged d valid ∙ sym (contents-append inside.table (entries_of inside.recent.items) d) ∙ ap (λ es. contents es d) c.self.view_is)) c.merge.ensures.merged
+    (c.in_ok-settle.ensures.merged d valid ∙ sym (contents-append inside.table (entries_of inside.recent.items) d)
+    ∙ ap (λ es. contents es d) c.self.view_is)) c.merge.ensures.merged

@@ -17,7 +17,8 @@ returns c d valid =
     let before : contents (now.table ++ entries_of now.recent.items) d ≡ contents c.args.self.now d = elim c.if-len-ge-RECENT_MAX.branch [
       | then-len-ge-RECENT_MAX+in_ok-settle w ↦
           rw w.self-inside-is
-          (added_all _ _ d w.in_ok-settle.ensures.none ∙ w.in_ok-settle.ensures.merged d valid ∙ sym (contents-append inside.table (entries_of inside.recent.items) d) ∙ ap (λ es. contents es d) c.self.view_is)
+          (added_all _ _ d w.in_ok-settle.ensures.none ∙ w.in_ok-settle.ensures.merged d valid
+          ∙ sym (contents-append inside.table (entries_of inside.recent.items) d) ∙ ap (λ es. contents es d) c.self.view_is)
       | else-len-ge-RECENT_MAX w ↦ rw w.self-inside-is (ap (λ es. contents es d) c.self.view_is)
     ] in
     ap (λ xs. contents (now.table ++ entries_of xs) d) c.in_ok-push.ensures.items
@@ -51,7 +52,8 @@ invariant_of-self-2 c =
           let none = ap (λ (xs : List (Capability × Value)). length xs) w.in_ok-settle.ensures.none in
           rw w.self-inside-is (omega arith, w.settle.ensures.agree)
       | else-len-ge-RECENT_MAX w ↦
-          let room : length c.self.inside.recent.items < recent_max = let counted = c.self.inside.recent.ok in let some = c.len.ensures in let few = w.if-len-ge-RECENT_MAX.false in omega arith in
+          let room : length c.self.inside.recent.items < recent_max =
+          let counted = c.self.inside.recent.ok in let some = c.len.ensures in let few = w.if-len-ge-RECENT_MAX.false in omega arith in
           rw w.self-inside-is (room, c.self.invariant.1)
     ] in
     rw c.in_ok-push.ensures.items (one_longer now (c.args.cap, c.args.value) kept.0, agree_more now (c.args.cap, c.args.value) kept.1 c.requires)

@@ -13,11 +13,13 @@ returns-then-index-self c =
 pub returns-then-number-first_negative : goal.returns-then-number-first_negative
 returns-then-number-first_negative c =
     let v = c.args.self.now in
-    let p = number_place v.format v.numbers.now c.width-width.result c.args.cap.index _ _ _ c.width-width.ensures.value c.index.ensures.value c.if-index-self.false c.index-2.ensures.value c.number-number.ensures.value in
+    let p = number_place v.format v.numbers.now c.width-width.result c.args.cap.index _ _ _ c.width-width.ensures.value c.index.ensures.value
+    c.if-index-self.false c.index-2.ensures.value c.number-number.ensures.value in
     number_plain v.format v.flags.now v.numbers.now _ v.strings.now c.args.cap c.requires _ p.0 p.1 (omega arith)
 
 pub returns-else-number-first_negative : goal.returns-else-number-first_negative
 returns-else-number-first_negative c =
     let v = c.args.self.now in
-    let p = number_place v.format v.numbers.now c.width-width.result c.args.cap.index _ _ _ c.width-width.ensures.value c.index.ensures.value c.if-index-self.false c.index-2.ensures.value c.number-number.ensures.value in
+    let p = number_place v.format v.numbers.now c.width-width.result c.args.cap.index _ _ _ c.width-width.ensures.value c.index.ensures.value
+    c.if-index-self.false c.index-2.ensures.value c.number-number.ensures.value in
     number_void v.format v.flags.now v.numbers.now _ v.strings.now c.args.cap c.requires _ p.0 p.1 (omega arith)

@@ -18,11 +18,13 @@ returns-clause-found c =
     let r = is_read c.args.bytes.now s.format s.names.now s.flags.now s.numbers.now s.offsets.now s.strings.now (λ i. omega (arith, c.type_inv.bytes i))
     h.long h.known h.names_fit h.flags_fit h.numbers_fit h.texts_fit h.strings_fit cut.whole cut.format cut.names cut.flags cut.numbers cut.offsets cut.strings
     c.if-not-are_names.ensures c.if-not-are_flags.ensures c.if-not-are_numbers.ensures c.if-not-are_offsets.ensures in
-    reads c.args.bytes.now s.format s.names.now s.flags.now s.numbers.now s.offsets.now s.strings.now r cut.format cut.names cut.flags cut.numbers cut.offsets cut.strings
+    reads c.args.bytes.now s.format s.names.now s.flags.now s.numbers.now s.offsets.now s.strings.now r cut.format cut.names cut.flags cut.numbers
+    cut.offsets cut.strings
 
 pub returns-then-not-are_offsets-clause-refused : goal.returns-then-not-are_offsets-clause-refused
 returns-then-not-are_offsets-clause-refused c =
-    refused_offsets _ _ c.in_ok-sections.ensures.found c.if-not-are_names.ensures c.if-not-are_flags.ensures c.if-not-are_numbers.ensures c.if-not-are_offsets.ensures
+    refused_offsets _ _ c.in_ok-sections.ensures.found c.if-not-are_names.ensures c.if-not-are_flags.ensures c.if-not-are_numbers.ensures
+    c.if-not-are_offsets.ensures
 
 pub returns-then-not-are_names-clause-refused : goal.returns-then-not-are_names-clause-refused
 returns-then-not-are_names-clause-refused c = refused_names _ _ c.in_ok-sections.ensures.found c.if-not-are_names.ensures

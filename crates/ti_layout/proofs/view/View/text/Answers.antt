@@ -19,10 +19,12 @@ pub returns-in-Some : goal.returns-in-Some
 returns-in-Some c =
     let v = c.args.self.now in
     let word = c.word-offset.ensures.value ∙ ap (λ i. word_at (2 * i) v.offsets.now) c.index-2.ensures.value in
-    text_plain v.format v.flags.now _ v.offsets.now v.strings.now c.args.cap c.requires _ _ (omega arith) word (omega arith) (first_byte-found 0 _ c.in-Some.len c.in-Some.ensures)
+    text_plain v.format v.flags.now _ v.offsets.now v.strings.now c.args.cap c.requires _ _ (omega arith) word (omega arith)
+    (first_byte-found 0 _ c.in-Some.len c.in-Some.ensures)
 
 pub returns-in-None : goal.returns-in-None
 returns-in-None c =
     let v = c.args.self.now in
     let word = c.word-offset.ensures.value ∙ ap (λ i. word_at (2 * i) v.offsets.now) c.index-2.ensures.value in
-    text_plain v.format v.flags.now _ v.offsets.now v.strings.now c.args.cap c.requires _ _ (omega arith) word (omega arith) (first_byte-none 0 _ c.in-None.ensures)
+    text_plain v.format v.flags.now _ v.offsets.now v.strings.now c.args.cap c.requires _ _ (omega arith) word (omega arith)
+    (first_byte-none 0 _ c.in-None.ensures)

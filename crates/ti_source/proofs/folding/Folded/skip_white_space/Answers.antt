@@ -11,7 +11,8 @@ loop-byte-preserved-then-is_white_space c =
     let f = c.loop-byte.self-inside in
     let parts = c.in-Some.ensures.cases.0 in
     record {
-      skips = skips-white f.joining f.before (f.newlines + 1) c.in-Some.byte.now c.in-Some.rest.now (sym c.is_white_space.ensures ∙ c.if-is_white_space.true) (rw parts at c.loop-byte.invariant.skips);
+      skips = skips-white f.joining f.before (f.newlines + 1) c.in-Some.byte.now c.in-Some.rest.now
+          (sym c.is_white_space.ensures ∙ c.if-is_white_space.true) (rw parts at c.loop-byte.invariant.skips);
       fits = omega (arith, ap length parts, c.loop-byte.invariant.fits);
     }
 
@@ -19,7 +20,8 @@ pub loop-byte-preserved : goal.loop-byte-preserved
 loop-byte-preserved c =
     let f = c.loop-byte.self-inside in
     let parts = c.in-Some.ensures.cases.0 in
-    let same = folded-comment f.joining f.before (f.newlines + 1) c.in-Some.byte.now c.in-Some.rest.now (sym c.begins_comment.ensures ∙ c.if-begins_comment.true) in
+    let same = folded-comment f.joining f.before (f.newlines + 1) c.in-Some.byte.now c.in-Some.rest.now
+    (sym c.begins_comment.ensures ∙ c.if-begins_comment.true) in
     let skips = rw parts at c.loop-byte.invariant.skips in
     record {
       skips = rw (c.after_comment.ensures.rest, c.after_comment.ensures.newlines) (rw same at skips);

@@ -6,7 +6,8 @@ pub loop-byte-preserved-then-begins_comment : goal.loop-byte-preserved-then-begi
 loop-byte-preserved-then-begins_comment c =
     let f = c.loop-byte.self-inside in
     let parts = c.in-Some.ensures.cases.0 in
-    let same = folded-comment f.joining f.before (f.newlines + 1) c.in-Some.byte.now c.in-Some.rest.now (sym c.begins_comment.ensures ∙ c.if-begins_comment.true) in
+    let same = folded-comment f.joining f.before (f.newlines + 1) c.in-Some.byte.now c.in-Some.rest.now
+    (sym c.begins_comment.ensures ∙ c.if-begins_comment.true) in
     record {
       same = rw (c.after_comment.ensures.rest, c.after_comment.ensures.newlines) (sym same ∙ (rw parts at c.loop-byte.invariant.same));
       fits = omega (arith, ap length parts, c.loop-byte.invariant.fits, c.after_comment.ensures.shorter, c.after_comment.ensures.newlines);

@@ -16,7 +16,8 @@ some_more a n h = omega arith
 few_items : (by : Escape) (before : ℕ) (text : List PlacedByte) → length (items_of by before text) ≤ length text + 1
 few_items by before [] = omega arith
 few_items by before (x ∷ xs) =
-    elim (cuts by x.0) as (λ b. length (if b then [] ∷ items_of escape.Nothing 44 xs else with_first x (items_of (escape_after by before x.0) x.0 xs)) ≤ length (x ∷ xs) + 1) [
+    elim (cuts by x.0) as (λ b. length (if b then [] ∷ items_of escape.Nothing 44 xs else with_first x
+    (items_of (escape_after by before x.0) x.0 xs)) ≤ length (x ∷ xs) + 1) [
       | true ↦ (let h = few_items escape.Nothing 44 xs in omega arith)
       | false ↦ (let h = one_first x (items_of (escape_after by before x.0) x.0 xs) (length xs) (few_items (escape_after by before x.0) x.0 xs) in omega arith)
     ]

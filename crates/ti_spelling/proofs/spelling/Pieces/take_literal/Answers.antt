@@ -13,6 +13,7 @@ returns c =
     let within : len ≤ length text = c.literal_len-len.ensures.len in
     let some : 0 < len = omega (arith, c.if-len-eq0.false) in
     record {
-      taken = rw (c.split_at.ensures.front, c.split_at.ensures.back) (takes_literals len c.args.self.now.before text some within c.literal_len-len.ensures.literal);
+      taken = rw (c.split_at.ensures.front, c.split_at.ensures.back)
+          (takes_literals len c.args.self.now.before text some within c.literal_len-len.ensures.literal);
       len = omega (arith, c.split_at.ensures.back_len);
     }

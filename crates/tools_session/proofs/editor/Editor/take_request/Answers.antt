@@ -1,5 +1,6 @@
 use Rattle.std.proofs.Common.{refl, sym}
-use Rattle.tools_session.proofs.Leading.{HasState-opened, HasState-outside, ActsOn-asks, ActsOn-edits, ActsOn-on, ActsOn-prints, ActsOn-rebuilds, ActsOn-reports}
+use Rattle.tools_session.proofs.Leading.{HasState-opened, HasState-outside, ActsOn-asks, ActsOn-edits, ActsOn-on, ActsOn-prints, ActsOn-rebuilds}
+use Rattle.tools_session.proofs.Leading.{ActsOn-reports}
 use Rattle.tools_session.proofs.editor.Editor.take_request.Goals as goal
 
 pub returns-in-Open : goal.returns-in-Open

@@ -20,8 +20,10 @@ loop-first-preserved-in-Less c =
     let high = i.high_end in
     let test = c.loop-first-test.true in
     let all : Rises f c.args.low c.args.high =
-    rises e.format (parts_of e) e.tail.now e.rest c.args.low c.args.high c.requires.within (length e.flags.now) (length e.flags.now + count_in e.format e.numbers.now) e.rise c.requires.kind in
-    let less : slice_cmp nat_cmp (f m) c.args.name.now ≡ Less = ap (λ n. slice_cmp nat_cmp n c.args.name.now) (sym c.name_at.ensures) ∙ sym c.cmp.ensures ∙ c.in-Less.is in
+    rises e.format (parts_of e) e.tail.now e.rest c.args.low c.args.high c.requires.within (length e.flags.now)
+    (length e.flags.now + count_in e.format e.numbers.now) e.rise c.requires.kind in
+    let less : slice_cmp nat_cmp (f m) c.args.name.now ≡ Less =
+    ap (λ n. slice_cmp nat_cmp n c.args.name.now) (sym c.name_at.ensures) ∙ sym c.cmp.ensures ∙ c.in-Less.is in
     record {
       low_end = omega arith;
       high_end = high;
@@ -39,8 +41,10 @@ loop-first-preserved c =
     let high = i.high_end in
     let test = c.loop-first-test.true in
     let all : Rises f c.args.low c.args.high =
-    rises e.format (parts_of e) e.tail.now e.rest c.args.low c.args.high c.requires.within (length e.flags.now) (length e.flags.now + count_in e.format e.numbers.now) e.rise c.requires.kind in
-    let greater : slice_cmp nat_cmp (f m) c.args.name.now ≡ Greater = ap (λ n. slice_cmp nat_cmp n c.args.name.now) (sym c.name_at.ensures) ∙ sym c.cmp.ensures ∙ c.in-Greater.is in
+    rises e.format (parts_of e) e.tail.now e.rest c.args.low c.args.high c.requires.within (length e.flags.now)
+    (length e.flags.now + count_in e.format e.numbers.now) e.rise c.requires.kind in
+    let greater : slice_cmp nat_cmp (f m) c.args.name.now ≡ Greater =
+    ap (λ n. slice_cmp nat_cmp n c.args.name.now) (sym c.name_at.ensures) ∙ sym c.cmp.ensures ∙ c.in-Greater.is in
     record {
       low_end = low;
       high_end = omega arith;

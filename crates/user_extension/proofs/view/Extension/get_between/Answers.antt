@@ -11,7 +11,8 @@ returns-in-Some-clause-value c =
     let e = c.args.self.now in
     let f = c.in-Some.ensures.found in
     c.value_at.ensures
-    ∙ sym (one_between e.format (parts_of e) e.tail.now e.rest c.args.low c.args.high c.requires.within (length e.flags.now) (length e.flags.now + count_in e.format e.numbers.now) e.rise c.requires.kind
+    ∙ sym (one_between e.format (parts_of e) e.tail.now e.rest c.args.low c.args.high c.requires.within (length e.flags.now)
+    (length e.flags.now + count_in e.format e.numbers.now) e.rise c.requires.kind
     c.args.name.now c.in-Some.place f.0 f.1 f.2)
 
 pub returns-in-Some-clause-sound : goal.returns-in-Some-clause-sound

@@ -15,8 +15,10 @@ returns-then-not-are_names-clause-none c =
     let s = c.in_ok-sections.sections in
     let tail = tail_is s.table.now c.values_size-size.result c.min.result c.min.ensures ∙ ap (λ (n : ℕ). drop n s.table.now) c.values_size-size.ensures in
     λ e.
-    let names = names_of c.args.format _ s c.in_ok-sections.ensures.found _ _ refl (ap (λ (n : ℕ). length s.flags.now + length s.numbers.now / n) c.width.ensures.value) e in
-    let never : false ≡ true = c.if-not-are_names.ensures.1 (subst (λ t. AreNames (length s.flags.now) (length s.flags.now + length s.numbers.now / c.width.result) s.names.now t) (sym tail) names) in
+    let names = names_of c.args.format _ s c.in_ok-sections.ensures.found _ _ refl
+    (ap (λ (n : ℕ). length s.flags.now + length s.numbers.now / n) c.width.ensures.value) e in
+    let never : false ≡ true = c.if-not-are_names.ensures.1
+    (subst (λ t. AreNames (length s.flags.now) (length s.flags.now + length s.numbers.now / c.width.result) s.names.now t) (sym tail) names) in
     absurd cc
 
 pub invariant_of-result : goal.invariant_of-result
@@ -33,7 +35,8 @@ invariant_of-result c =
       rest = tail;
       lead = λ k lt. leads _ _ (names.ended k lt);
       user_defined = names.user_defined;
-      rise = subst (λ (k : ℕ). RiseByKind (length s.flags.now) k s.names.now (take (length s.table.now - c.min.result) (drop c.min.result s.table.now))) third names.rise;
+      rise = subst (λ (k : ℕ). RiseByKind (length s.flags.now) k s.names.now (take (length s.table.now - c.min.result) (drop c.min.result s.table.now)))
+          third names.rise;
       few = omega (arith, n.names_are, cut.few_names);
       named = omega (arith, n.names_are, n.flags_are, n.numbers_are, n.values_are);
     }
@@ -43,4 +46,6 @@ returns-clause-found c =
     let s = c.in_ok-sections.sections in
     let tail = tail_is s.table.now c.values_size-size.result c.min.result c.min.ensures ∙ ap (λ (n : ℕ). drop n s.table.now) c.values_size-size.ensures in
     is_extension c.args.format _ s c.in_ok-sections.ensures.found _ _ refl (ap (λ (n : ℕ). length s.flags.now + length s.numbers.now / n) c.width.ensures.value)
-    c.if-not-are_flags.ensures c.if-not-are_numbers.ensures c.if-not-are_offsets.ensures (subst (λ t. AreNames (length s.flags.now) (length s.flags.now + length s.numbers.now / c.width.result) s.names.now t) tail (c.if-not-are_names.ensures.0 refl))
+    c.if-not-are_flags.ensures c.if-not-are_numbers.ensures c.if-not-are_offsets.ensures
+    (subst (λ t. AreNames (length s.flags.now) (length s.flags.now + length s.numbers.now / c.width.result) s.names.now t) tail
+    (c.if-not-are_names.ensures.0 refl))

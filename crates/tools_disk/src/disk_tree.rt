@@ -9,7 +9,7 @@ use std::alloc::Global;
 use std::fs;
 use std::io::{self, ErrorKind};
 use std::rt::{Clock, Files};
-use ti_tools::{Tally, Tree, TreeFault};
+use tools_devices::{Tally, Tree, TreeFault};
 
 // How many bytes of a file are asked for at a time. Most entries have at most twice as many, and
 // to make room for more would take longer than to read them.
@@ -25,6 +25,7 @@ pub struct DiskTree<'a, R: Files + Clock + AllocGlobal> {
     rt: &'a R,
     failures: Tally,
     made: MadeDirectories,
+    last: Option<io::Error>,
 }
 
 impl<'a, R: Files + Clock + AllocGlobal> DiskTree<'a, R> {
@@ -35,7 +36,13 @@ impl<'a, R: Files + Clock + AllocGlobal> DiskTree<'a, R> {
             rt,
             failures: Tally::zero(),
             made: MadeDirectories::new(rt),
+            last: None,
         }
+    }
+
+    /// Why the last of the calls that failed did so, if one did.
+    pub fn last_error(&self) -> Option<&io::Error> {
+        self.last.as_ref()
     }
 
     // What a failure of the system is to the tools.
@@ -46,6 +53,7 @@ impl<'a, R: Files + Clock + AllocGlobal> DiskTree<'a, R> {
             return TreeFault::Memory;
         }
         self.failures = self.failures.plus_one();
+        self.last = Some(error);
         TreeFault::Failed
     }
 }
@@ -95,9 +103,12 @@ fn read_file<R: Files>(
 
 // Opens a regular file.
 fn open_regular<R: Files>(rt: &R, path: &str) -> io::Result<R::File> {
-    if fs::metadata(rt, path)?.is_file() {
-        fs::open(rt, path)
-    } else {
-        Err(io::Error::from(ErrorKind::InvalidInput))
+    let found = fs::metadata(rt, path)?;
+    if found.is_file() {
+        return fs::open(rt, path);
     }
+    if found.is_dir() {
+        return Err(io::Error::from(ErrorKind::IsADirectory));
+    }
+    Err(io::Error::from(ErrorKind::InvalidInput))
 }

@@ -1,5 +1,5 @@
 use Rattle.std.proofs.Common.{◌≤◌, length}
-use Rattle.ti.proofs.whole.read_up_to.Given as goal
+use Rattle.tools_disk.proofs.whole.read_up_to.Given as goal
 
 -- what was read before is within the limit
 abbrev pub invariant-loop : goal.invariant-loop

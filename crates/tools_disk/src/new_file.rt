@@ -41,6 +41,17 @@ pub fn replace_file<R: Files + Clock + AllocGlobal>(
     replaced
 }
 
+/// Whether files can be put into a directory. A new file is made there, and removed at once.
+pub fn takes_files<R: Files + Clock + AllocGlobal>(rt: &R, directory: &str) -> bool {
+    let Ok(path) = format!(in rt.alloc(); "{directory}/") else {
+        return false;
+    };
+    match create_beside(rt, path.as_str()) {
+        Ok((new_path, _)) => fs::remove_file(rt, new_path.as_str()).is_ok(),
+        Err(_) => false,
+    }
+}
+
 /// Whether a file is not there, since its name or a directory on its path is missing.
 pub fn is_absent(error: &io::Error) -> bool {
     matches!(error.kind(), ErrorKind::NotFound | ErrorKind::NotADirectory)

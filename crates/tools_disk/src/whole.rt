@@ -5,8 +5,7 @@ use std::alloc::Global;
 use std::fs;
 use std::io::{self, ErrorKind, Read};
 use std::rt::Files;
-use ti_tools::ToolError;
-use tools_devices::READS_MAX;
+use tools_devices::{READS_MAX, ToolError};
 
 // How many bytes of a source are asked for at a time.
 const PIECE: usize = 16_384;
@@ -42,6 +41,25 @@ pub fn read_up_to(
     Err(io::Error::from(ErrorKind::Other))
 }
 
+/// All bytes of the file at `path`, or of standard input if there is none.
+///
+/// # Errors
+/// What the system says, at opening or at a read; `OutOfMemory` if a growth of memory was refused.
+pub fn read_whole<R: Files + Input>(
+    rt: &R,
+    alloc: Global,
+    path: Option<&str>,
+) -> io::Result<Vec<u8>> {
+    let mut piece = [0u8; PIECE];
+    match path {
+        Some(path) => {
+            let mut file = fs::open(rt, path)?;
+            read_up_to(alloc, &mut file, &mut piece, usize::MAX)
+        }
+        None => read_up_to(alloc, &mut rt.reader(), &mut piece, usize::MAX),
+    }
+}
+
 /// The source of `tic`: all bytes of the file at `path`, or of standard input if there is none.
 ///
 /// # Errors
@@ -51,15 +69,7 @@ pub fn read_source<R: Files + Input>(
     alloc: Global,
     path: Option<&str>,
 ) -> Result<Vec<u8>, ToolError> {
-    let mut piece = [0u8; PIECE];
-    let whole = match path {
-        Some(path) => match fs::open(rt, path) {
-            Ok(mut file) => read_up_to(alloc, &mut file, &mut piece, usize::MAX),
-            Err(error) => Err(error),
-        },
-        None => read_up_to(alloc, &mut rt.reader(), &mut piece, usize::MAX),
-    };
-    match whole {
+    match read_whole(rt, alloc, path) {
         Ok(source) => Ok(source),
         Err(error) if error.kind() == ErrorKind::OutOfMemory => Err(ToolError::Memory),
         Err(_) => Err(ToolError::ReadFault),
