@@ -21,8 +21,14 @@ from crates import read_crates
 from repository import TOP
 
 SONAME = "libti.so.1"
-FLAGS = ["-std=c99", "-O2", "-fPIC", "-fvisibility=default", "-Wall", "-Wextra", "-Wpedantic"]
-SHARED = ["-shared", f"-Wl,-soname,{SONAME}", "-Wl,-z,defs", "-Wl,-z,text"]
+FLAGS = [
+    "-std=c99", "-O2", "-fPIC", "-fvisibility=default", "-Wall", "-Wextra", "-Wpedantic",
+    "-fstack-protector-strong", "-fstack-clash-protection",
+]
+SHARED = [
+    "-shared", f"-Wl,-soname,{SONAME}", f"-Wl,--version-script={TOP}/include/ti.map", "-Wl,-z,defs", "-Wl,-z,text",
+    "-Wl,-z,relro", "-Wl,-z,now", "-Wl,-z,noexecstack",
+]
 
 
 def compiler():

@@ -1,28 +1,29 @@
 /*
  * libti: terminfo entries and parameter strings, for programs in C99 and C++17.
  *
- * A program finds and reads the entry of its terminal (ti_open), asks it for booleans, numbers and
+ * A program finds and reads the entry of its terminal (ti_open), looks up booleans, numbers and
  * strings (ti_capability, ti_flag, ti_number, ti_string), expands a string with its parameters
- * (ti_expand) and writes the bytes with their delays (ti_pad, ti_puts). See ti(3).
+ * (ti_expand) and writes the bytes with their delays (ti_pad, ti_puts). ti_send does all of this
+ * for one string. <ti_names.h> has a constant for each capability. See ti(3).
  *
- * Each function of the first part is written in Rattle and proved against its contract, in
- * crates/ti_c of the sources; crates/ti_c/specs has the definitions. Those of the last part,
- * "Files and output", are written in C over the first part, and are tested and not proved.
+ * The functions of the first part are written in Rattle and proved against their contracts, in
+ * crates/ti_c of the sources; the definitions are in crates/ti_c/specs. Those of the last part,
+ * "Files and output", are written in C on top of the first part, and are tested but not proved.
  *
- * What nothing checks, and what a caller has to uphold:
+ * Nothing checks the following, so callers must make sure of it:
  *
- * - A pointer is to a whole value, and is not NULL. If a size is 0 the pointer next to it is not
- *   NULL either, also in a `struct ti_text`, which begins as TI_NOTHING.
- * - What a call writes overlaps none of its other arguments.
- * - An entry begins as TI_ENTRY_EMPTY. Its fields are not to be changed, and it may be copied.
- * - An entry that ti_entry_read gave points into the bytes that it was read from, and so do its
- *   texts: the bytes must not change while either is used. An entry of ti_entry_new or ti_open, and
- *   its texts, are in memory of their own until ti_entry_free.
+ * - A pointer refers to a whole value and is not NULL. Next to a size of 0 it may be NULL: that is
+ *   the empty text, no parameters, or no room.
+ * - What a call writes does not overlap any of its other arguments.
+ * - An entry starts out as TI_ENTRY_EMPTY. Its fields must not be changed; it may be copied.
+ * - An entry from ti_entry_read points into the bytes that it was read from, as do its texts:
+ *   the bytes must not change while either is in use. An entry from ti_entry_new or ti_open, and
+ *   its texts, have memory of their own until ti_entry_free.
  * - A `bool` is 0 or 1.
  *
- * No function keeps anything between calls, so threads may call them at once, each with values
- * of its own; one entry may be read by several threads. None may be called from a signal handler.
- * Memory comes from malloc, realloc and free.
+ * No function keeps state between calls, so threads may call them at the same time, each with
+ * values of its own; several threads may read one entry. None may be called from a signal handler.
+ * Memory is allocated with malloc and realloc and released with free.
  */
 #ifndef TI_H
 #define TI_H
@@ -32,7 +33,10 @@
 #include <stdint.h>
 #include <string.h>
 
-/* The version of this interface, as text and as a number that grows. */
+/*
+ * The version of this interface, as text and as a number that grows. The calls and structs that are
+ * there, and the name of the shared library, change only with the major version.
+ */
 #define TI_VERSION "1.0.0"
 #define TI_VERSION_MAJOR 1
 #define TI_VERSION_MINOR 0
@@ -43,7 +47,7 @@
 extern "C" {
 #endif
 
-/* Bytes, which need not end with a NUL. */
+/* A string of bytes, not necessarily followed by a NUL. */
 struct ti_text {
     const uint8_t *bytes;
     size_t size;
@@ -53,30 +57,37 @@ struct ti_text {
 /* ---- capabilities: terminfo(5), "Predefined Capabilities" */
 
 enum { TI_FLAG = 0, TI_NUMBER = 1, TI_STRING = 2 };
-/* How many there are of each kind. */
+/* The number of capabilities of each kind. */
 enum { TI_FLAGS = 44, TI_NUMBERS = 39, TI_STRINGS = 414 };
 
-/* A capability: its kind, and its index in the kind, from 0, in the order of <term.h>. */
+/* A capability: its kind, and its index within the kind, from 0, in the order of <term.h>. */
 struct ti_place {
     uint32_t kind;
     uint32_t index;
 };
 
+/* A place with this kind and index. The constants of <ti_names.h> are such, as TI_CUP. */
+#ifdef __cplusplus
+#define TI_PLACE(kind, index) (ti_place{ kind, index })
+#else
+#define TI_PLACE(kind, index) ((struct ti_place){ kind, index })
+#endif
+
 /*
- * Gives in *found the capability of a name, as "setaf", byte for byte. False if no capability has
- * the name, and *found is then as it was.
+ * Looks up a capability by its name, such as "setaf", and stores it in *found. Returns false and
+ * leaves *found unchanged if no capability has exactly this name.
  */
 bool ti_capability(const uint8_t *name, size_t size, struct ti_place *found);
 
 /*
- * Gives in *text the name of the capability of a kind at an index; the text is in the library.
- * False if there is none, and *text is then as it was.
+ * Stores the name of the capability with this kind and index in *text, which then points into the
+ * library. Returns false and leaves *text unchanged if there is no such capability.
  */
 bool ti_name(uint32_t kind, uint32_t index, struct ti_text *text);
 
 /* ---- entries: term(5) */
 
-/* A compiled entry that was read. The fields are the library's. */
+/* A compiled entry. The fields are private to the library. */
 struct ti_entry {
     bool wide;
     struct ti_text names;
@@ -90,90 +101,145 @@ struct ti_entry {
     { false, TI_NOTHING, TI_NOTHING, TI_NOTHING, TI_NOTHING, TI_NOTHING, TI_NOTHING }
 
 /*
- * Why bytes are no entry, in the order of the checks. The last three are no refusals of bytes:
- * TI_ENTRY_MEMORY is of ti_entry_new and ti_open, the others only of ti_open.
+ * Why bytes are not an entry, in the order of the checks. Only ti_entry_new and ti_open return
+ * TI_ENTRY_MEMORY, only ti_open returns TI_NO_TERMINAL and TI_READ_FAILED, and only
+ * ti_extension_read returns TI_BAD_EXTENSION.
  */
 enum {
     TI_SHORT = 1,     /* fewer bytes than a header */
-    TI_MAGIC,         /* the first number is that of neither format */
-    TI_COUNTS,        /* a size or a count is negative or too great */
+    TI_MAGIC,         /* the first number belongs to neither format */
+    TI_COUNTS,        /* a size or a count is negative or too large */
     TI_TRUNCATED,     /* the bytes end before the string table does */
     TI_BAD_NAMES,     /* no names, or their only NUL is not their last byte */
-    TI_BAD_FLAG,      /* a boolean is none of 0, 1, 0xFE and 0xFF */
+    TI_BAD_FLAG,      /* a boolean is not 0, 1, 0xFE or 0xFF */
     TI_BAD_NUMBER,    /* a number is below -2 */
     TI_BAD_OFFSET,    /* an offset is below -2, or no NUL follows it in the string table */
-    TI_ENTRY_MEMORY,  /* memory was refused */
+    TI_ENTRY_MEMORY,  /* out of memory */
     TI_NO_TERMINAL,   /* no terminal has the name */
-    TI_READ_FAILED    /* a file could not be read; errno says why */
+    TI_READ_FAILED,   /* a file could not be read; errno says why */
+    TI_BAD_EXTENSION  /* the user-defined capabilities after the entry are malformed */
 };
 
 /*
- * Reads a compiled entry, of the legacy storage format or of the extended number format, in place,
- * in one pass and without memory. 0, or the first of the refusals TI_SHORT to TI_BAD_OFFSET that
- * holds, and *entry is then as it was. Bytes after the string table, as the extended storage format
- * of ncurses has them, are not looked at. The bytes have to stay, and to stay as they are, as long
- * as the entry is used.
+ * Reads a compiled entry in the legacy storage format or the extended number format, in place, in
+ * one pass and without allocating memory. Returns 0; or the first of TI_SHORT to TI_BAD_OFFSET that
+ * applies, and *entry is unchanged. Bytes after the string table, which the extended storage format
+ * of ncurses has, are ignored: see ti_extension_read. The bytes must stay in place and unchanged as
+ * long as the entry is in use.
  */
 uint32_t ti_entry_read(const uint8_t *bytes, size_t size, struct ti_entry *entry);
 
 /*
- * Reads an entry of a copy of the bytes, which need not stay. *entry is then to be given to
- * ti_entry_free. 0, or as ti_entry_read, or TI_ENTRY_MEMORY; if not 0, *entry is as it was.
+ * Reads an entry from a copy of the bytes, which the caller may then release. Returns 0, and *entry
+ * must later be passed to ti_entry_free; or, with *entry unchanged, what ti_entry_read returns or
+ * TI_ENTRY_MEMORY.
  */
 uint32_t ti_entry_new(const uint8_t *bytes, size_t size, struct ti_entry **entry);
 
 /*
- * What follows reads an entry that ti_entry_read, ti_entry_new or ti_open gave, or TI_ENTRY_EMPTY.
- * A text that it gives is in the entry's bytes, and may be used no longer than these.
+ * The following functions read an entry from ti_entry_read, ti_entry_new or ti_open, or
+ * TI_ENTRY_EMPTY. A text that they store points into the entry's bytes, and is valid as long as
+ * these are. An index is within the kind of the function, which cannot know what kind it was meant
+ * for: ti_flag_at, ti_number_at and ti_string_at take a place, and look at its kind.
  */
 
-/* Gives in *text the names field, as "xterm|xterm terminal emulator", without its NUL. */
+/* Stores the names field, such as "xterm|xterm terminal emulator", without its NUL, in *text. */
 void ti_names(const struct ti_entry *entry, struct ti_text *text);
 
-/* Gives in *text the first name: the names field up to its first `|`, or the whole of it. */
+/* Stores the first name in *text: the names field up to its first `|`, or all of it. */
 void ti_first_name(const struct ti_entry *entry, struct ti_text *text);
 
-/* Gives in *text the description: the names field after its last `|`, or the whole of it. */
+/* Stores the description in *text: the names field after its last `|`, or all of it. */
 void ti_long_name(const struct ti_entry *entry, struct ti_text *text);
 
-/* Whether a boolean is set: 1, or 0 if it is absent or cancelled; -1 if the index has none. */
+/* Returns 1 if a boolean is set, 0 if it is absent or cancelled, -1 if the index is invalid. */
 int32_t ti_flag(const struct ti_entry *entry, uint32_t index);
 
-/* A number; -1 if it is absent or cancelled; -2 if the index is not that of a number. */
+/* Returns a number, -1 if it is absent or cancelled, -2 if the index is invalid. */
 int64_t ti_number(const struct ti_entry *entry, uint32_t index);
 
 /*
- * Gives in *text a string, without its NUL: 1; 0 if it is absent or cancelled, and -1 if there is
- * no string of the index, and *text is then as it was.
+ * Stores a string in *text and returns 1. The size does not count the NUL that follows the string
+ * in the entry. Returns 0 if it is absent or cancelled, -1 if the index is invalid; *text is then
+ * unchanged.
  */
 int32_t ti_string(const struct ti_entry *entry, uint32_t index, struct ti_text *text);
 
+/* ---- user-defined capabilities: user_caps(5); term(5), "Extended storage format" */
+
+/* The user-defined capabilities of an entry. The fields are private to the library. */
+struct ti_extension {
+    bool wide;
+    struct ti_text flags;
+    struct ti_text numbers;
+    struct ti_text values;
+    struct ti_text names;
+    struct ti_text table;
+    struct ti_text tail;
+};
+#define TI_EXTENSION_EMPTY \
+    { false, TI_NOTHING, TI_NOTHING, TI_NOTHING, TI_NOTHING, TI_NOTHING, TI_NOTHING }
+
+/* The value of a user-defined capability. */
+struct ti_value {
+    uint32_t kind;       /* TI_FLAG, TI_NUMBER or TI_STRING */
+    bool is_present;     /* false if it is absent or cancelled */
+    uint32_t number;     /* the value of a number; 1 for a boolean; else 0 */
+    struct ti_text text; /* the value of a string, without its NUL; else empty */
+};
+#define TI_VALUE_EMPTY { 0, false, 0, TI_NOTHING }
+
+/*
+ * Reads the user-defined capabilities of an entry in place, in one pass and without allocating
+ * memory. Returns 0, also for an entry that has none; or, with *extension unchanged, what
+ * ti_entry_read returns or TI_BAD_EXTENSION. *extension and its texts are valid as long as the
+ * entry is.
+ */
+uint32_t ti_extension_read(const struct ti_entry *entry, struct ti_extension *extension);
+
+/* Returns how many there are. */
+size_t ti_user_defined_count(const struct ti_extension *extension);
+
+/*
+ * Stores the user-defined capability at an index, from 0, in *name and *value: booleans come first,
+ * then numbers, then strings, each sorted by name. In the entry a NUL follows the name, and each
+ * string. Returns false and leaves *name and *value unchanged if the index is too large.
+ */
+bool ti_user_defined(const struct ti_extension *extension, size_t index, struct ti_text *name,
+                     struct ti_value *value);
+
+/*
+ * Looks up a user-defined capability by its name, such as "Tc", and stores its value in *value.
+ * Returns false and leaves *value unchanged if it is absent or cancelled. The search is binary.
+ */
+bool ti_user_defined_named(const struct ti_extension *extension, const uint8_t *name, size_t size,
+                           struct ti_value *value);
+
 /* ---- parameters: terminfo(5), "Parameterized Strings" */
 
-/* A parameter: a number if `kind` is 0, else a string. */
+/* A parameter: a number if `kind` is 0, otherwise a string. */
 struct ti_parameter {
     uint32_t kind;
     int32_t number;
     struct ti_text text;
 };
 
-/*
- * The static variables `A` to `Z`, all 0 at first: each expansion finds them as the last one left
- * them.
- */
+/* The static variables `A` to `Z`, initially 0. They keep their values between expansions. */
 struct ti_variables {
     int32_t values[26];
 };
 
-/* How a call that writes bytes ended, and what `size` is then. */
+/* The status of a call that writes bytes, and the meaning of `size`. */
 enum {
-    TI_OK = 0,      /* how many bytes were written */
-    TI_BAD_FORMAT,  /* the index of the first `%` that begins no code that may come there */
-    TI_STACK_FULL,  /* the index of the `%` of a code that pushes when 20 values are there */
-    TI_NO_MEMORY,   /* 0 */
-    TI_NO_ROOM,     /* how many bytes are needed */
+    TI_OK = 0,      /* the number of bytes written */
+    TI_BAD_FORMAT,  /* the index of the first `%` that does not begin a valid code */
+    TI_STACK_FULL,  /* the index of the `%` of a code that pushes onto 20 values */
+    TI_NO_MEMORY,   /* 0: out of memory */
+    TI_NO_ROOM,     /* the number of bytes needed */
     TI_TOO_MUCH,    /* 0: more than 65,536 pad bytes */
-    TI_BAD_NAME     /* 0: no terminal can have the name */
+    TI_BAD_NAME,    /* 0: not a valid name of a terminal */
+    TI_ABSENT,      /* 0: the terminal does not have the string */
+    TI_NOT_TAKEN    /* the number of bytes that were taken; there were more */
 };
 struct ti_outcome {
     uint32_t status;
@@ -181,11 +247,11 @@ struct ti_outcome {
 };
 
 /*
- * Expands a string: writes to `out`, which has room for `room` bytes, the bytes that the format
- * sends for these parameters. A parameter that is not given is the number 0, and those after the
- * ninth are not looked at. Padding `$<..>` stays as it is: see ti_pad. TI_OK, TI_BAD_FORMAT,
- * TI_STACK_FULL, TI_NO_MEMORY or TI_NO_ROOM; after all but TI_OK *variables and `out` are as they
- * were, so that the call can be made again with the room that is needed.
+ * Expands a string: writes the bytes that the format produces for these parameters to `out`, which
+ * has room for `room` bytes. Missing parameters are the number 0, and those after the ninth are
+ * ignored. Padding `$<..>` is copied: see ti_pad. Returns TI_OK, TI_BAD_FORMAT, TI_STACK_FULL,
+ * TI_NO_MEMORY or TI_NO_ROOM. After all but TI_OK, *variables and `out` are unchanged, so the call
+ * can be repeated with enough room.
  */
 struct ti_outcome ti_expand(const uint8_t *format, size_t format_size,
                             const struct ti_parameter *params, size_t count,
@@ -196,66 +262,132 @@ struct ti_outcome ti_expand(const uint8_t *format, size_t format_size,
 /* The line to the terminal. */
 struct ti_line {
     uint32_t rate;      /* in bits per second; a byte takes ten bits */
-    uint32_t pad_from;  /* the least rate at which padding is written (`pb`) */
-    bool xon;           /* the terminal stops the line, so only mandatory padding is written */
-    bool has_pad_byte;  /* false: no padding is written (`npc`) */
-    uint8_t pad_byte;   /* the byte that passes the time (`pad`) */
+    uint32_t pad_from;  /* the lowest rate at which padding is written (`pb`) */
+    bool xon;           /* the terminal controls the flow: only mandatory padding is written */
+    bool has_pad_byte;  /* if false, no padding is written (`npc`) */
+    uint8_t pad_byte;   /* the byte that padding consists of (`pad`) */
 };
 #define TI_LINE_EMPTY { 0, 0, false, false, 0 }
 
-/* Gives in *line the line to the terminal of an entry, at a rate in bits per second. */
+/* Stores the line to a terminal with this entry and a rate in bits per second in *line. */
 void ti_line(const struct ti_entry *entry, uint32_t rate, struct ti_line *line);
 
 /*
- * Writes to `out`, which has room for `room` bytes, a text with each padding `$<..>` as pad bytes,
- * if it takes effect on `lines` lines of the screen. TI_OK, TI_NO_MEMORY, TI_NO_ROOM or
- * TI_TOO_MUCH; after all but TI_OK `out` is as it was.
+ * Writes a text that affects `lines` lines of the screen to `out`, which has room for `room` bytes,
+ * with each padding `$<..>` replaced by pad bytes. Returns TI_OK; or TI_NO_MEMORY, TI_NO_ROOM or
+ * TI_TOO_MUCH, and `out` is unchanged.
  */
 struct ti_outcome ti_pad(const uint8_t *text, size_t size, uint32_t lines,
                          const struct ti_line *line, uint8_t *out, size_t room);
 
+/* A text cut at its first delay `$<..>`. */
+struct ti_delay {
+    struct ti_text before; /* the bytes before the delay */
+    struct ti_text after;  /* the bytes after it, which may have further delays */
+    uint64_t tenths;       /* the time that is due, in tenths of a millisecond */
+};
+#define TI_DELAY_EMPTY { TI_NOTHING, TI_NOTHING, 0 }
+
+/*
+ * Cuts a text that affects `lines` lines of the screen at its first delay and stores the parts,
+ * which point into the text, in *delay. The time is 0 unless the delay is mandatory, or the
+ * terminal does not control the flow and the rate is at least `pad_from`; the pad byte does not
+ * matter. Returns false and leaves *delay unchanged if the text has no delay.
+ */
+bool ti_first_delay(const uint8_t *text, size_t size, uint32_t lines, const struct ti_line *line,
+                    struct ti_delay *delay);
+
 /* ---- where entries are: term(5), "Storage location" */
 
 /*
- * Gives in *found the directory at an index of the order in which entries are looked for: what
- * TERMINFO is set to, if it is not empty; the parts of TERMINFO_DIRS between colons, if that is
- * set, an empty part being /usr/share/terminfo; and /usr/share/terminfo. False if they are not
- * that many, and *found is then as it was. The text is in an argument or in the library.
+ * Stores the directory at an index of the search order in *found: the value of TERMINFO, if it is
+ * not empty; the parts of TERMINFO_DIRS between colons, if that is set, an empty part meaning
+ * /usr/share/terminfo; and /usr/share/terminfo. Returns false and leaves *found unchanged if the
+ * index is too large. The text points into an argument or the library.
  */
 bool ti_places(const uint8_t *terminfo, size_t terminfo_size, bool dirs_set, const uint8_t *dirs,
                size_t dirs_size, uint32_t index, struct ti_text *found);
 
 /*
- * Writes to `out`, which has room for `room` bytes, the path of a name's entry below a directory,
- * with a NUL after it, which `size` counts too. TI_OK, TI_NO_MEMORY, TI_NO_ROOM or TI_BAD_NAME (the
- * name is empty, `.` or `..`, or has a byte that is not printable, a space or one of `,/|`); after
- * all but TI_OK `out` is as it was.
+ * Stores the directory at an index of the system's list, in which Debian keeps its entries, in
+ * *found: /etc/terminfo, /lib/terminfo or /usr/share/terminfo. Returns false and leaves *found
+ * unchanged if the index is too large. The text points into the library.
+ */
+bool ti_system_directories(uint32_t index, struct ti_text *found);
+
+/*
+ * Writes the path of the entry with this name below a directory, with a NUL after it, to `out`,
+ * which has room for `room` bytes; `size` counts the NUL. Returns TI_OK; or, with `out` unchanged,
+ * TI_NO_MEMORY, TI_NO_ROOM or TI_BAD_NAME (the name is empty, `.` or `..`, or has a byte that is
+ * not printable, a space, or one of `,/|`).
  */
 struct ti_outcome ti_path(const uint8_t *dir, size_t dir_size, const uint8_t *name,
                           size_t name_size, uint8_t *out, size_t room);
 
-/* ---- Files and output: in C over the functions above, tested and not proved */
+/* ---- Files and output: in C on top of the functions above, tested but not proved */
 
 /*
- * Finds, opens and reads the entry of a terminal as ti-tput(1) does: in each directory of ti_places
- * by the variables of the environment, of which the first that has a file of the name decides. If
- * `name` is NULL, TERM is taken. 0, and *entry is then to be given to ti_entry_free; else as
- * ti_entry_new, TI_NO_TERMINAL or TI_READ_FAILED, and *entry is as it was. Of a file of more than
- * 65,536 bytes the first 65,537 are looked at, and it is refused, as TI_COUNTS if not otherwise.
- * What is no regular file is not opened: TI_READ_FAILED. The variables are trusted, so that a
- * setuid program must not call it.
+ * Finds and reads the entry of a terminal: in the directories of ti_places, with the variables of
+ * the environment; then in $HOME/.terminfo; then in those of ti_system_directories. The first
+ * directory that has a file with this name decides; one that cannot be searched is skipped. If
+ * `name` is NULL, TERM is used. Returns 0, and *entry must later be passed to ti_entry_free; or,
+ * with *entry unchanged, what ti_entry_new returns, TI_NO_TERMINAL or TI_READ_FAILED. A file of
+ * more than 65,536 bytes is refused, by its first 65,537 bytes or else as TI_COUNTS; anything but a
+ * regular file as TI_READ_FAILED. The variables are trusted, so a setuid program must not call it.
  */
 uint32_t ti_open(const char *name, struct ti_entry **entry);
+
+/* Returns an English sentence for what ti_open or ti_extension_read returned; never NULL. */
+const char *ti_strerror(uint32_t answer);
+
+/* Returns the version of the library at run time: TI_VERSION of its header. */
+const char *ti_version(void);
 
 /* Frees an entry of ti_entry_new or ti_open, and its texts. NULL is a no-op. */
 void ti_entry_free(struct ti_entry *entry);
 
 /*
- * Hands the bytes of ti_pad to `put`, one after the other, until it gives a negative number.
- * TI_OK, with how many were handed over, or as ti_pad, and then none was.
+ * Passes the bytes that ti_pad writes to `put`, one at a time, until that returns a negative
+ * number. Returns TI_OK with the number of bytes passed; or what ti_pad returns, and none was.
  */
 struct ti_outcome ti_puts(const uint8_t *text, size_t size, uint32_t lines,
                           const struct ti_line *line, int (*put)(int));
+
+/*
+ * Where bytes go. `put` is passed a block of bytes and returns how many it took; if these are
+ * fewer, nothing more is passed. If the line has no pad byte or its rate is 0, so that no pad bytes
+ * pass the time, `wait` is called at each delay that is due: it sends on what `put` has kept, and
+ * waits this many tenths of a millisecond. If it is NULL, nothing waits. Both get `context`.
+ */
+struct ti_output {
+    size_t (*put)(const uint8_t *bytes, size_t size, void *context);
+    void (*wait)(uint64_t tenths, void *context);
+    void *context;
+};
+
+/*
+ * Passes on a text that affects `lines` lines of the screen, with its delays as pad bytes or waited
+ * for. Returns TI_OK or TI_NOT_TAKEN with the number of bytes taken; or what ti_pad returns, and
+ * none was passed.
+ */
+struct ti_outcome ti_write(const uint8_t *text, size_t size, uint32_t lines,
+                           const struct ti_line *line, const struct ti_output *output);
+
+/*
+ * Sends a string of the terminal, also a user-defined one, by its name: expands it with `count`
+ * numbers and passes it to ti_write. A string that takes no parameter is not expanded if `count` is
+ * 0: a `%` in it is a plain byte. Returns what ti_write returns; what ti_expand returns, or
+ * TI_ABSENT, and nothing was passed. After all but TI_OK and TI_NOT_TAKEN *variables is unchanged.
+ */
+struct ti_outcome ti_send(const struct ti_entry *entry, struct ti_variables *variables,
+                          const struct ti_line *line, const char *name, const int32_t *numbers,
+                          size_t count, uint32_t lines, const struct ti_output *output);
+
+/*
+ * Returns the rate in bits per second of a speed of termios(3), such as the B9600 that cfgetospeed
+ * returns; 0 if it has none.
+ */
+uint32_t ti_rate(uint32_t speed);
 
 /* ---- calls with strings of C */
 
@@ -277,7 +409,29 @@ static inline struct ti_parameter ti_text_given(const uint8_t *bytes, size_t siz
     return given;
 }
 
-/* The boolean of a name, as ti_flag gives it; -1 if no boolean has the name. */
+/* What the following return for a place of another kind. */
+enum { TI_WRONG_KIND = -3 };
+
+/* The boolean at a place, as ti_flag returns it; TI_WRONG_KIND. */
+static inline int32_t ti_flag_at(const struct ti_entry *entry, struct ti_place place) {
+    if (place.kind != TI_FLAG) return TI_WRONG_KIND;
+    return ti_flag(entry, place.index);
+}
+
+/* The number at a place, as ti_number returns it; TI_WRONG_KIND. */
+static inline int64_t ti_number_at(const struct ti_entry *entry, struct ti_place place) {
+    if (place.kind != TI_NUMBER) return TI_WRONG_KIND;
+    return ti_number(entry, place.index);
+}
+
+/* The string at a place, as ti_string returns it; TI_WRONG_KIND, and *found is unchanged. */
+static inline int32_t ti_string_at(const struct ti_entry *entry, struct ti_place place,
+                                   struct ti_text *found) {
+    if (place.kind != TI_STRING) return TI_WRONG_KIND;
+    return ti_string(entry, place.index, found);
+}
+
+/* The boolean with this name, as ti_flag returns it; -1 if no boolean has the name. */
 static inline int32_t ti_flag_named(const struct ti_entry *entry, const char *name) {
     struct ti_text text = ti_text_of(name);
     struct ti_place place = { 0, 0 };
@@ -285,7 +439,7 @@ static inline int32_t ti_flag_named(const struct ti_entry *entry, const char *na
     return is_flag ? ti_flag(entry, place.index) : -1;
 }
 
-/* The number of a name, as ti_number gives it; -2 if no number has the name. */
+/* The number with this name, as ti_number returns it; -2 if no number has the name. */
 static inline int64_t ti_number_named(const struct ti_entry *entry, const char *name) {
     struct ti_text text = ti_text_of(name);
     struct ti_place place = { 0, 0 };
@@ -293,7 +447,7 @@ static inline int64_t ti_number_named(const struct ti_entry *entry, const char *
     return is_number ? ti_number(entry, place.index) : -2;
 }
 
-/* The string of a name, as ti_string gives it; -1 if no string has the name. */
+/* The string with this name, as ti_string returns it; -1 if no string has the name. */
 static inline int32_t ti_string_named(const struct ti_entry *entry, const char *name,
                                       struct ti_text *found) {
     struct ti_text text = ti_text_of(name);

@@ -5,9 +5,7 @@
  *
  * This file is C over ti.h. It is tested (tests/tinfo) and not proved. libti reads entries, finds
  * capabilities, expands and pads; what is here is the current terminal, the types of C, and what
- * ti.h does not give yet. Each place that does the latter says so: "User-defined capabilities",
- * "Directories", `taken_by` and `put_waiting`. names.h, which build/tinfo.py writes, has the tables
- * of names.
+ * ti.h does not give, `taken_by`. names.h, which build/tinfo.py writes, has the tables of names.
  *
  * As in ncurses there is one current terminal, and no two threads may call at once.
  */
@@ -110,76 +108,43 @@ __attribute__((constructor)) static void leave_to_others(void) {
     *kept = NULL;
 }
 
-/* ---- User-defined capabilities: ti.h does not give them yet. term(5), "Extended Storage" */
+/* ---- User-defined capabilities: user_caps(5) */
 
-/* The part of an entry with them. */
+/* Those of an entry, and how many there are of each kind. */
 struct extension {
-    bool wide;
-    unsigned flags, numbers, strings, size; /* how many there are, and the bytes of the table */
-    const uint8_t *flag, *number, *offset, *table;
+    struct ti_extension rows;
+    size_t flags, numbers, strings;
 };
 
-static unsigned word_at(const uint8_t *at) { return at[0] | (unsigned)at[1] << 8; }
-
-/* The extension of an entry; one that has nothing if there is none, or no whole one. */
+/* The extension of an entry; one that has nothing if there is none, or no sound one. */
 static struct extension extension_of(const struct ti_entry *entry) {
-    enum { HEADER = 10 };
-    struct extension none = { false, 0, 0, 0, 0, NULL, NULL, NULL, NULL };
-    const uint8_t *start = entry->bytes.bytes;
-    size_t left = entry->bytes.size;
-    size_t at = (size_t)(entry->strings.bytes - start) + entry->strings.size;
-    at += at % 2;
-    if (at > left || left - at < HEADER) return none;
-    const uint8_t *header = start + at, *flag = header + HEADER;
-    struct extension found = { entry->wide, word_at(header), word_at(header + 2),
-                               word_at(header + 4), word_at(header + 8), flag, NULL, NULL, NULL };
-    if (found.flags > SHRT_MAX || found.numbers > SHRT_MAX || found.strings > SHRT_MAX) return none;
-    size_t names = (size_t)found.flags + found.numbers + found.strings;
-    size_t flag_bytes = found.flags + found.flags % 2;
-    size_t number_bytes = found.numbers * (found.wide ? (size_t)4 : 2);
-    size_t before = HEADER + flag_bytes + number_bytes + 2 * (found.strings + names);
-    left -= at;
-    if (names > SHRT_MAX || before > left || found.size > left - before) return none;
-    found.number = flag + flag_bytes;
-    found.offset = found.number + number_bytes;
-    found.table = header + before;
-    /* each text then ends in the table */
-    return found.size && found.table[found.size - 1] ? none : found;
-}
-
-static char *text_at(const struct extension *of, size_t offset) {
-    return offset < of->size ? (char *)of->table + offset : NULL;
-}
-
-/* Fills in the texts; the names are after the last of them. Gives where the names begin. */
-static size_t fill_texts(const struct extension *of, char **strings) {
-    size_t names = 0;
-    for (unsigned i = 0; i < of->strings; i++) {
-        char *text = strings[i] = text_at(of, word_at(of->offset + 2 * i));
-        size_t end = text ? (size_t)(text - (char *)of->table) + strlen(text) + 1 : 0;
-        if (end > names) names = end;
+    struct extension found = { TI_EXTENSION_EMPTY, 0, 0, 0 };
+    struct ti_text name = TI_NOTHING;
+    struct ti_value value = TI_VALUE_EMPTY;
+    if (ti_extension_read(entry, &found.rows)) return found;
+    for (size_t i = 0; ti_user_defined(&found.rows, i, &name, &value); i++) {
+        found.flags += value.kind == TI_FLAG;
+        found.numbers += value.kind == TI_NUMBER;
+        found.strings += value.kind == TI_STRING;
     }
-    return names;
+    return found;
 }
 
-static int number_at(const struct extension *of, unsigned index) {
-    const uint8_t *at = of->number + index * (of->wide ? 4 : 2);
-    int number = of->wide ? (int32_t)(word_at(at) | word_at(at + 2) << 16) : (int16_t)word_at(at);
-    return number < 0 ? -1 : number;
-}
-
-/* Fills in what an extension says; nothing if a name is not in its table. */
+/* Fills in what an extension says. A NUL follows each of its texts in the entry. */
 static void fill_extension(TERMINAL *terminal, const struct extension *of) {
     TERMTYPE *type = &terminal->type;
-    unsigned names = of->flags + of->numbers + of->strings;
-    size_t base = fill_texts(of, type->Strings + TI_STRINGS);
-    for (unsigned i = 0; i < names; i++) {
-        type->ext_Names[i] = text_at(of, base + word_at(of->offset + 2 * (of->strings + i)));
-        if (!type->ext_Names[i]) return;
+    char *flags = type->Booleans + TI_FLAGS, **strings = type->Strings + TI_STRINGS;
+    int *numbers = terminal->numbers + TI_NUMBERS;
+    struct ti_text name = TI_NOTHING;
+    struct ti_value value = TI_VALUE_EMPTY;
+    for (size_t i = 0; ti_user_defined(&of->rows, i, &name, &value); i++) {
+        type->ext_Names[i] = (char *)name.bytes;
+        if (value.kind == TI_FLAG) *flags++ = value.is_present;
+        if (value.kind == TI_NUMBER) *numbers++ = value.is_present ? (int)value.number : -1;
+        if (value.kind != TI_STRING) continue;
+        *strings++ = value.is_present ? (char *)value.text.bytes : NULL;
     }
-    for (unsigned i = 0; i < of->flags; i++) type->Booleans[TI_FLAGS + i] = of->flag[i] == 1;
-    for (unsigned i = 0; i < of->numbers; i++) terminal->numbers[TI_NUMBERS + i] = number_at(of, i);
-    type->ext_str_table = (char *)of->table;
+    type->ext_str_table = (char *)of->rows.table.bytes;
     type->ext_Booleans = (unsigned short)of->flags;
     type->ext_Numbers = (unsigned short)of->numbers;
     type->ext_Strings = (unsigned short)of->strings;
@@ -211,11 +176,7 @@ static int user_string(const char *asked, same_name *same) {
     return user_index(asked, same, from, type->ext_Strings, TI_STRINGS);
 }
 
-/* ---- Directories: those of Debian's ncurses, which ti.h does not give yet */
-
-static const char *const system_directories[] = {
-    "/etc/terminfo", "/lib/terminfo", "/usr/share/terminfo", NULL,
-};
+/* ---- Directories: those of Debian's ncurses */
 
 /*
  * Reads a regular file, but no more than one byte over ENTRY_MAX. Gives its bytes, which are to be
@@ -252,8 +213,9 @@ static struct ti_entry *entry_below(struct ti_text dir, struct ti_text name) {
 
 static struct ti_entry *entry_of_system(struct ti_text name) {
     struct ti_entry *entry = NULL;
-    for (const char *const *dir = system_directories; *dir && !entry; dir++)
-        entry = entry_below(ti_text_of(*dir), name);
+    struct ti_text dir = TI_NOTHING;
+    for (uint32_t i = 0; !entry && ti_system_directories(i, &dir); i++)
+        entry = entry_below(dir, name);
     return entry;
 }
 
@@ -287,26 +249,6 @@ static struct ti_entry *entry_named(const char *given) {
 }
 
 /* ---- the line to the terminal */
-
-static const struct {
-    speed_t code;
-    uint32_t rate;
-} speeds[] = {
-    { B50, 50 }, { B75, 75 }, { B110, 110 }, { B134, 134 }, { B150, 150 }, { B200, 200 },
-    { B300, 300 }, { B600, 600 }, { B1200, 1200 }, { B1800, 1800 }, { B2400, 2400 },
-    { B4800, 4800 }, { B9600, 9600 }, { B19200, 19200 }, { B38400, 38400 }, { B57600, 57600 },
-    { B115200, 115200 }, { B230400, 230400 }, { B460800, 460800 }, { B500000, 500000 },
-    { B576000, 576000 }, { B921600, 921600 }, { B1000000, 1000000 }, { B1152000, 1152000 },
-    { B1500000, 1500000 }, { B2000000, 2000000 }, { B2500000, 2500000 }, { B3000000, 3000000 },
-    { B3500000, 3500000 }, { B4000000, 4000000 },
-};
-
-/* The bits per second of a code of termios(3), as in ospeed; 0 if there is no such code. */
-static uint32_t rate_of(short code) {
-    for (size_t i = 0; i < sizeof speeds / sizeof speeds[0]; i++)
-        if (speeds[i].code == (speed_t)code) return speeds[i].rate;
-    return 0;
-}
 
 static short speed_of(int fd) {
     struct termios mode;
@@ -358,7 +300,7 @@ static TERMINAL *terminal_for(const struct extension *of) {
     TERMINAL *made = (TERMINAL *)calloc(1, sizeof *made);
     if (!made) return NULL;
     TERMTYPE *type = &made->type;
-    size_t names = (size_t)of->flags + of->numbers + of->strings;
+    size_t names = of->flags + of->numbers + of->strings;
     type->Booleans = (char *)calloc(TI_FLAGS + of->flags, 1);
     type->Numbers = (short *)calloc(TI_NUMBERS + of->numbers, sizeof *type->Numbers);
     made->numbers = (int *)calloc(TI_NUMBERS + of->numbers, sizeof *made->numbers);
@@ -696,7 +638,7 @@ EXPORTED char *tgoto(const char *format, int column, int line) {
 static struct ti_line current_line(void) {
     struct ti_line line = TI_LINE_EMPTY;
     if (!cur_term) return line;
-    ti_line(cur_term->entry, rate_of(ospeed), &line);
+    ti_line(cur_term->entry, ti_rate((uint32_t)ospeed), &line);
     line.pad_byte = (uint8_t)PC;
     return line;
 }
@@ -727,45 +669,30 @@ static void drop_padded(struct padded *made) {
     if (made->bytes != made->small) free(made->bytes);
 }
 
-/* A byte that a text does not have; 0, which no text of C has. */
-enum { MARK = 0 };
-/* At this rate a pad byte takes a tenth of a millisecond. */
-enum { TENTHS_RATE = 100000, TENTHS_A_SECOND = 10000 };
+enum { TENTHS_A_SECOND = 10000 };
 
 /* Waits, once what was written is on its way. */
-static void wait_for(size_t tenths) {
+static void wait_for(uint64_t tenths) {
     struct timespec left = { (time_t)(tenths / TENTHS_A_SECOND),
                              (long)(tenths % TENTHS_A_SECOND) * 100000 };
-    if (!tenths) return;
     fflush(stdout);
     nanosleep(&left, NULL);
 }
 
-/*
- * Hands over a text for a terminal without a pad byte (`npc`), and waits at each delay. ti.h does
- * not give delays, but the pad bytes of a line of TENTHS_RATE are them. False if they are too many.
- */
-static bool put_waiting(struct ti_text text, uint32_t lines, struct ti_line line, int (*put)(int)) {
-    line.xon = line.xon || line.rate < line.pad_from;
-    line.pad_from = 0;
-    line.rate = TENTHS_RATE;
-    line.has_pad_byte = true;
-    line.pad_byte = MARK;
-    struct padded made;
-    size_t tenths = 0;
-    if (!pad(&made, text, lines, &line)) return false;
-    for (size_t i = 0; i < made.size; i++) {
-        if (made.bytes[i] == MARK) {
-            tenths++;
-            continue;
-        }
-        wait_for(tenths);
-        tenths = 0;
-        put(made.bytes[i]);
+static void put_all(struct ti_text text, int (*put)(int)) {
+    for (size_t i = 0; i < text.size; i++) put(text.bytes[i]);
+}
+
+/* Hands over a text for a terminal without a pad byte (`npc`), and waits at each delay. */
+static void put_waiting(struct ti_text text, uint32_t lines, const struct ti_line *line,
+                        int (*put)(int)) {
+    struct ti_delay delay = TI_DELAY_EMPTY;
+    while (ti_first_delay(text.bytes, text.size, lines, line, &delay)) {
+        put_all(delay.before, put);
+        if (delay.tenths) wait_for(delay.tenths);
+        text = delay.after;
     }
-    drop_padded(&made);
-    wait_for(tenths);
-    return true;
+    put_all(text, put);
 }
 
 /* The answer of `put` is not looked at: programs let it give anything. */
@@ -783,9 +710,12 @@ EXPORTED int tputs(const char *given, int lines, int (*put)(int)) {
     /* what is to be seen or heard takes its time on any line */
     if (cur_term && (given == string_at(STR_bel) || given == string_at(STR_flash)))
         line.xon = false, line.pad_from = 0;
-    if (cur_term && !line.has_pad_byte && put_waiting(text, affected, line, put)) return OK;
+    if (cur_term && !line.has_pad_byte) {
+        put_waiting(text, affected, &line, put);
+        return OK;
+    }
     if (!pad(&made, text, affected, &line)) return ERR;
-    for (size_t i = 0; i < made.size; i++) put(made.bytes[i]);
+    put_all((struct ti_text){ made.bytes, made.size }, put);
     drop_padded(&made);
     return OK;
 }

@@ -1,10 +1,10 @@
 /*
- * Compares ti_pad with the tputs of ncurses: each string of each entry, at several rates, on one
- * and on 24 lines. Standard input is as that of against_ncurses.c. The bytes that are no padding
- * are to be the same, and the pad bytes are to be at the same places. How many they are differs:
- * ncurses takes whole milliseconds and nine bits a byte, and rounds down; libti takes tenths and
- * ten bits, and rounds up, so that its count is the one that follows from the other within these
- * bounds.
+ * Compares ti_send and ti_pad with the tputs of ncurses: each string of each entry, at several
+ * rates, on one and on 24 lines. A string without parameters is sent by its name. Standard input is
+ * as that of against_ncurses.c. The bytes that are no padding are to be the same, and the pad bytes
+ * are to be at the same places. How many they are differs: ncurses takes whole milliseconds and
+ * nine bits a byte, and rounds down; libti takes tenths and ten bits, and rounds up, so that its
+ * count is the one that follows from the other within these bounds.
  */
 #include "ti.h"
 
@@ -22,7 +22,7 @@ static const struct { speed_t code; uint32_t rate; } speeds[] = { { B1200, 1200 
 
 static uint8_t ours[ROOM], theirs[ROOM];
 static size_t their_size;
-static long compared, differences, padded, apart;
+static long compared, differences, padded, apart, with_percent;
 
 static int put(int byte) {
     if (their_size < ROOM) theirs[their_size++] = (uint8_t)byte;
@@ -50,9 +50,26 @@ static bool is_alike(size_t size, uint32_t rate) {
     return true;
 }
 
-static void compare_text(const char *name, const char *text, struct ti_line line, int affected) {
+static size_t take(const uint8_t *bytes, size_t size, void *context) {
+    memcpy((uint8_t *)context, bytes, size);
+    return size;
+}
+
+/* What libti makes of a string of an entry. */
+static struct ti_outcome ours_of(const struct ti_entry *entry, const char *name, const char *text,
+                                 struct ti_line line, int affected) {
     struct ti_text given = ti_text_of(text);
-    struct ti_outcome o = ti_pad(given.bytes, given.size, (uint32_t)affected, &line, ours, ROOM);
+    struct ti_output output = { take, NULL, ours };
+    struct ti_variables variables = { { 0 } };
+    if (strstr(text, "%p"))
+        return ti_pad(given.bytes, given.size, (uint32_t)affected, &line, ours, ROOM);
+    with_percent += strchr(text, '%') != NULL;
+    return ti_send(entry, &variables, &line, name, NULL, 0, (uint32_t)affected, &output);
+}
+
+static void compare_text(const struct ti_entry *entry, const char *name, const char *text,
+                         struct ti_line line, int affected) {
+    struct ti_outcome o = ours_of(entry, name, text, line, affected);
     their_size = 0;
     tputs(text, affected, put);
     compared++;
@@ -82,7 +99,7 @@ static void compare_entry(const struct ti_entry *entry) {
             /* without a screen tputs pads whatever `pb` and `xon` say */
             line.pad_from = 0, line.xon = false;
             for (int affected = 1; affected < 25; affected += 23)
-                compare_text(strnames[i], text, line, affected);
+                compare_text(entry, strnames[i], text, line, affected);
         }
     }
 }
@@ -110,7 +127,7 @@ int main(void) {
         if (differences != before) printf("of %s\n", blank + 1);
         del_curterm(cur_term);
     }
-    printf("%ld comparisons, %ld differences; %ld paddings alike; %ld taken otherwise\n", compared,
-           differences, padded, apart);
+    printf("%ld comparisons, %ld differences; %ld paddings alike; %ld with a %% of its own; "
+           "%ld taken otherwise\n", compared, differences, padded, with_percent, apart);
     return differences != 0;
 }

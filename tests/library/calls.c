@@ -367,6 +367,91 @@ static void paths(void) {
     CHECK(outcome.status == TI_OK && wrote("/d/./...\0", 9));
 }
 
+static bool system_is(uint32_t index, const char *wanted) {
+    struct ti_text found = ti_text_of("as it was");
+    bool is = ti_system_directories(index, &found);
+    return is == (wanted != NULL) && is_text(found, wanted ? wanted : "as it was", wanted ? strlen(wanted) : 9);
+}
+
+static void system_directories(void) {
+    CHECK(system_is(0, "/etc/terminfo") && system_is(1, "/lib/terminfo"));
+    CHECK(system_is(2, "/usr/share/terminfo"));
+    CHECK(system_is(3, NULL) && system_is(UINT32_MAX, NULL));
+}
+
+/* ---- user-defined capabilities: term(5), "Extended storage format" */
+
+/*
+ * An entry without capabilities and, after it, the extension of `AX` (set), `XT` (cancelled),
+ * `U8#1`, `Se=\E[2 q` and `Ss` (absent). Gives its size.
+ */
+static size_t put_extended(uint8_t *bytes) {
+    static const uint8_t extension[] = {
+        2, 0, 1, 0, 2, 0, 6, 0, 21, 0, /* booleans, numbers, strings, texts in the table, its size */
+        1, 0xfe, 1, 0, 0, 0, 0xff, 0xff, 0, 0, 3, 0, 6, 0, 9, 0, 12, 0,
+        033, '[', '2', ' ', 'q', 0, 'A', 'X', 0, 'X', 'T', 0, 'U', '8', 0, 'S', 'e', 0, 'S', 's', 0
+    };
+    struct parts parts = { false, "t", 0, 0, 0, 0, NULL, NULL, NULL, "" };
+    uint8_t nothing[1] = { 0 };
+    int32_t number[1] = { 0 };
+    int16_t offset[1] = { 0 };
+    parts.flags = nothing, parts.numbers = number, parts.offsets = offset;
+    size_t size = put_entry(bytes, &parts);
+    memcpy(bytes + size, extension, sizeof extension);
+    return size + sizeof extension;
+}
+
+static bool is_named(const struct ti_extension *extension, const char *name, const struct ti_value *wanted) {
+    struct ti_value value = TI_VALUE_EMPTY;
+    bool is = ti_user_defined_named(extension, (const uint8_t *)name, strlen(name), &value);
+    if (!wanted->is_present) return !is && !value.is_present && value.text.size == 0;
+    return is && value.is_present && value.kind == wanted->kind && value.number == wanted->number
+           && is_text(value.text, (const char *)wanted->text.bytes, wanted->text.size);
+}
+
+static void user_defined(void) {
+    uint8_t bytes[200];
+    struct ti_entry entry = TI_ENTRY_EMPTY;
+    struct ti_extension extension = TI_EXTENSION_EMPTY;
+    size_t size = put_extended(bytes);
+    CHECK(ti_entry_read(bytes, size, &entry) == 0 && ti_extension_read(&entry, &extension) == 0);
+    CHECK(ti_user_defined_count(&extension) == 5);
+    static const char *const names[] = { "AX", "XT", "U8", "Se", "Ss" };
+    static const uint32_t kinds[] = { TI_FLAG, TI_FLAG, TI_NUMBER, TI_STRING, TI_STRING };
+    for (size_t i = 0; i < 5; i++) {
+        struct ti_text name = TI_NOTHING;
+        struct ti_value value = TI_VALUE_EMPTY;
+        CHECK(ti_user_defined(&extension, i, &name, &value) && is_text(name, names[i], 2));
+        CHECK(value.kind == kinds[i] && value.is_present == (i != 1 && i != 4));
+        CHECK(value.number == (i == 0 || i == 2) && is_text(value.text, "\033[2 q", i == 3 ? 5 : 0));
+        CHECK(is_named(&extension, names[i], &value));
+    }
+    struct ti_text name = ti_text_of("as it was");
+    struct ti_value value = { TI_NUMBER, true, 7, ti_text_of("as it was") };
+    CHECK(!ti_user_defined(&extension, 5, &name, &value) && is_text(name, "as it was", 9));
+    CHECK(!ti_user_defined_named(&extension, (const uint8_t *)"Tc", 2, &value));
+    CHECK(value.kind == TI_NUMBER && value.number == 7 && is_text(value.text, "as it was", 9));
+    /* a table that is cut, and an entry without an extension, or none at all */
+    CHECK(ti_entry_read(bytes, size - 1, &entry) == 0);
+    CHECK(ti_extension_read(&entry, &extension) == TI_BAD_EXTENSION);
+    CHECK(ti_user_defined_count(&extension) == 5);
+    struct ti_entry none = TI_ENTRY_EMPTY;
+    CHECK(ti_extension_read(&none, &extension) == TI_SHORT);
+    struct parts parts = { false, "t", 0, 0, 0, 0, bytes, NULL, NULL, "" };
+    CHECK(ti_entry_read(bytes, put_entry(bytes, &parts), &entry) == 0);
+    CHECK(ti_extension_read(&entry, &extension) == 0 && ti_user_defined_count(&extension) == 0);
+}
+
+/* ---- errors and versions */
+
+static void sentences(void) {
+    for (uint32_t i = 0; i <= TI_BAD_EXTENSION; i++)
+        for (uint32_t j = 0; j < i; j++) CHECK(strcmp(ti_strerror(i), ti_strerror(j)) != 0);
+    CHECK(!strcmp(ti_strerror(TI_NO_TERMINAL), "No terminal has the name"));
+    CHECK(!strcmp(ti_strerror(TI_BAD_EXTENSION + 1), ti_strerror(UINT32_MAX)));
+    CHECK(!strcmp(ti_version(), TI_VERSION));
+}
+
 /* ---- output */
 
 static char written[70000];
@@ -398,6 +483,45 @@ static void output(void) {
     CHECK(outcome.status == TI_OK && outcome.size == 0);
 }
 
+/* ---- an empty text without a pointer */
+
+static void empties(void) {
+    struct ti_place place = { 7, 8 };
+    struct ti_entry entry = TI_ENTRY_EMPTY, *copy = NULL;
+    struct ti_extension extension = TI_EXTENSION_EMPTY;
+    struct ti_value value = TI_VALUE_EMPTY;
+    struct ti_line line = { 9600, 0, false, true, '.' };
+    struct ti_variables none = { { 0 } };
+    CHECK(!ti_capability(NULL, 0, &place) && place.kind == 7);
+    CHECK(ti_entry_read(NULL, 0, &entry) == TI_SHORT && ti_entry_new(NULL, 0, &copy) == TI_SHORT);
+    CHECK(!ti_user_defined_named(&extension, NULL, 0, &value));
+    clear_out();
+    struct ti_outcome outcome = ti_expand(NULL, 0, NULL, 0, &none, NULL, 0);
+    CHECK(outcome.status == TI_OK && outcome.size == 0);
+    outcome = ti_expand((const uint8_t *)"a%p1%d", 6, NULL, 0, &none, NULL, 0);
+    CHECK(outcome.status == TI_NO_ROOM && outcome.size == 2);
+    struct ti_parameter text = ti_text_given(NULL, 0);
+    CHECK(gives("[%p1%s:%p1%l%d:%p1%d]", &text, 1, "[:0:0]") && gives("%p1%3s", &text, 1, "   "));
+    outcome = ti_pad(NULL, 0, 1, &line, NULL, 0);
+    CHECK(outcome.status == TI_OK && outcome.size == 0);
+    outcome = ti_puts(NULL, 0, 1, &line, put);
+    CHECK(outcome.status == TI_OK && outcome.size == 0);
+    outcome = ti_pad((const uint8_t *)"a$<2>", 5, 1, &line, NULL, 0);
+    CHECK(outcome.status == TI_NO_ROOM && outcome.size == 3);
+    clear_out();
+    outcome = ti_path(NULL, 0, (const uint8_t *)"a", 1, out, sizeof out);
+    CHECK(outcome.status == TI_OK && wrote("/a/a\0", 5));
+    CHECK(ti_path((const uint8_t *)"/d", 2, NULL, 0, NULL, 0).status == TI_BAD_NAME);
+    static const char *const system = "/usr/share/terminfo";
+    for (uint32_t i = 0; i < 3; i++) {
+        struct ti_text found = TI_NOTHING;
+        CHECK(ti_places(NULL, 0, false, NULL, 0, i, &found) == (i < 1));
+        if (i < 1) CHECK(is_text(found, system, strlen(system)));
+        CHECK(ti_places(NULL, 0, true, NULL, 0, i, &found) == (i < 2));
+        if (i < 2) CHECK(is_text(found, system, strlen(system)));
+    }
+}
+
 int main(void) {
     CHECK(TI_VERSION_NUMBER == 10000 * TI_VERSION_MAJOR + 100 * TI_VERSION_MINOR + TI_VERSION_PATCH);
     capabilities();
@@ -408,6 +532,10 @@ int main(void) {
     lines();
     places();
     paths();
+    system_directories();
+    user_defined();
+    sentences();
     output();
+    empties();
     return close_checks();
 }

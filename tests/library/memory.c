@@ -94,6 +94,36 @@ static bool puts_bytes(void) {
     return outcome.status != TI_OK;
 }
 
+static size_t take(const uint8_t *given, size_t count, void *context) {
+    (void)given, (void)context;
+    handed += (int)count;
+    return count;
+}
+
+/* A string whose bytes are more than what ti_send has room for without memory of its own. */
+static bool sends(void) {
+    static const int32_t numbers[] = { 4, 9 };
+    static uint8_t long_entry[ROOM];
+    static char table[8 + 12 * 300];
+    static int16_t offsets[1] = { 0 };
+    static const uint8_t flags[1] = { 0 };
+    static const int32_t none[1] = { -1 };
+    struct ti_entry entry = TI_ENTRY_EMPTY;
+    struct ti_variables variables = { { 0 } };
+    struct ti_line line = { 9600, 0, false, true, 0 };
+    struct ti_output output = { take, NULL, NULL };
+    strcpy(table, "%p1%PA");
+    for (int i = 0; i < 300; i++) strcat(table, "ab%p2%d");
+    struct parts parts = { false, "long", 1, 1, 1, strlen(table) + 1, flags, none, offsets, table };
+    size_t count = put_entry(long_entry, &parts);
+    if (!CHECK(ti_entry_read(long_entry, count, &entry) == 0)) return false;
+    handed = 0;
+    struct ti_outcome outcome = ti_send(&entry, &variables, &line, "cbt", numbers, 2, 1, &output);
+    CHECK((outcome.status == TI_OK && handed == 900) ||
+          (outcome.status == TI_NO_MEMORY && !handed && !variables.values[0]));
+    return outcome.status != TI_OK;
+}
+
 /* Makes a call with each of its allocations refused, until none is. Gives how many it has. */
 static long refuse_each(call *made) {
     for (allowed = 0; allowed < MOST; allowed++) {
@@ -111,8 +141,8 @@ int main(void) {
     size = put_entry(bytes, &parts);
     /* run.py has put the same entry into the directory of TERMINFO */
     long counts[] = { refuse_each(copies), refuse_each(opens), refuse_each(expands), refuse_each(pads),
-                      refuse_each(finds_paths), refuse_each(puts_bytes) };
-    for (int i = 0; i < 6; i++) {
+                      refuse_each(finds_paths), refuse_each(puts_bytes), refuse_each(sends) };
+    for (int i = 0; i < 7; i++) {
         CHECK(counts[i] >= 1);
         printf("%ld allocations refused\n", counts[i]);
     }

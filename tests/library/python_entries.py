@@ -40,6 +40,12 @@ def faults_of(name):
     for cap in ti.STRING_NAMES:
         if ours_of(entry, cap, ti.STRING) != curses.tigetstr(cap):
             yield f"{name}: {cap}: {entry.get(cap)}, {curses.tigetstr(cap)}"
+    for cap, value in entry.items():
+        if cap in ti.FLAG_NAMES or cap in ti.NUMBER_NAMES or cap in ti.STRING_NAMES:
+            continue
+        asked = {bool: curses.tigetflag, int: curses.tigetnum, ti.String: curses.tigetstr}[type(value)]
+        if asked(cap) != value:
+            yield f"{name}: {cap}: {value}, {asked(cap)}"
     for cap, parameters in EXPANDED.items():
         text = entry.get(cap)
         # curses leaves padding as it is, and counts a second `%i` for nothing (docs/COMPARED.md)

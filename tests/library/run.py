@@ -5,19 +5,22 @@
 
 The archive of crates/ti_c is built already, by the gate or by `make library`. The cases:
 
-header        ti.h is C99 and C++17 without a warning
-symbols       both libraries export what ti.h declares, and nothing else
+header        ti.h and ti_names.h are C99 and C++17 without a warning
+symbols       both libraries export what ti.h declares, and nothing else; the shared one with a version
+names         ti_names.h follows from the tables of ti_caps, and its constants are the places of the
+              names
 calls         every call and every refusal (calls.c), from each library and under sanitizers
+sending       strings sent by name, delays, look-ups by place, rates (sending.c), likewise
 memory        each allocation refused in turn (memory.c), also under sanitizers
 damaged       damaged entries (damaged.c), under sanitizers
-open          ti_open answers as ti-tput(1) does, with the same refusals
+open          ti_open finds entries by the environment, and refuses what `ti tput` refuses
 tput          a program in C and `ti tput` write the same bytes
 ncurses       every entry of the system, compared with ncurses (against_ncurses.c)
 tputs         its padding, compared with tputs (against_tputs.c)
 unibilium     these entries, compared with unibilium (against_unibilium.c)
 page          the example of ti(3) is compiled, and writes what the page says
-commands      the commands of docs/LIBRARY.md for programs in C work on the installed library
-examples      the programs of examples/ in C and Python
+commands      the commands of docs/LIBRARY.md work on the installed library
+examples      the programs of README and docs/LIBRARY.md, and those of examples/, in C and Python
 python        the module of python/ti, compared with `curses` on every entry of the system
 install       `make install-library` puts what a program needs into the directories that it is given
 
@@ -33,6 +36,7 @@ import shutil
 import subprocess
 import sys
 import tempfile
+import time
 from concurrent.futures import ThreadPoolExecutor
 
 HERE = os.path.dirname(os.path.abspath(__file__))
@@ -68,6 +72,12 @@ class Room:
 
     def path(self, name):
         return os.path.join(self.directory, name)
+
+    def write(self, name, text):
+        """Writes a file. Gives its path."""
+        with open(self.path(name), "w", encoding="utf-8") as file:
+            file.write(text)
+        return self.path(name)
 
     def archive(self, words):
         """The static library, its part in C under sanitizers if a program is."""
@@ -109,7 +119,10 @@ def check_header(room):
     faults = []
     source = room.path("uses.c")
     with open(source, "w", encoding="utf-8") as file:
-        file.write('#include "ti.h"\n#include "ti.h"\nint main(void) { return TI_VERSION_MAJOR != 1; }\n')
+        file.write(
+            '#include "ti.h"\n#include "ti_names.h"\n#include "ti.h"\n#include "ti_names.h"\n'
+            "int main(void) { return TI_VERSION_MAJOR != 1 || TI_CUP.kind != TI_STRING; }\n"
+        )
     compilers = [("gcc", "g++"), ("clang", "clang++")]
     for pair in compilers:
         for name, words in zip(pair, (["-std=c99", "-x", "c"], ["-std=c++17", "-x", "c++"])):
@@ -129,24 +142,62 @@ def declared():
     return sorted(set(re.findall(r"\b(ti_\w+)\([^;{}]*\);", text)))
 
 
+def defined():
+    """The functions that ti.h defines itself."""
+    return re.findall(r"^static inline .*?\b(ti_\w+)\(", text_of("include", "ti.h"), re.M)
+
+
 def check_symbols(room):
     wanted, faults = declared(), []
     for option, name in (("-g", "libti.a"), ("-D", "libti.so.1")):
         _, said = run(["nm", option, "--defined-only", room.path(name)])
-        found = sorted(line.split()[2] for line in said.splitlines() if len(line.split()) == 3)
-        if found != wanted:
-            faults.append(f"{name}: {set(found) ^ set(wanted)}")
+        # the name of a version is there too, as a number
+        found = sorted(line.split()[2] for line in said.splitlines() if re.search(" [^A] ", line))
+        ending = "@@LIBTI_1" if name == "libti.so.1" else ""
+        if found != [f"{symbol}{ending}" for symbol in wanted]:
+            faults.append(f"{name}: {found}")
     _, said = run(["readelf", "-d", room.path("libti.so.1")])
     needed = re.findall(r"NEEDED.*\[(.*)\]", said)
-    if needed != ["libc.so.6"] or "[libti.so.1]" not in said or "TEXTREL" in said:
+    if needed != ["libc.so.6"] or "[libti.so.1]" not in said or "TEXTREL" in said or "BIND_NOW" not in said:
         faults.append(f"libti.so.1: {said}")
     return faults
 
 
+def check_names(room):
+    """Each constant is compared with what ti_capability finds for the name in its comment."""
+    status, said = run([sys.executable, os.path.join(TOP, "build", "names.py"), "--check"])
+    if status:
+        return [said]
+    rows = re.findall(r"^#define (TI_\w+) TI_PLACE\(.*?/\* (\w+),", text_of("include", "ti_names.h"), re.M)
+    lines = "".join(f'    CHECK(is_at("{name}", {constant}));\n' for constant, name in rows)
+    source = room.write("names.c", f"""#include "test.h"
+#include "ti_names.h"
+static bool is_at(const char *name, struct ti_place wanted) {{
+    struct ti_place place = {{ 9, 9 }};
+    bool found = ti_capability((const uint8_t *)name, strlen(name), &place);
+    return found && place.kind == wanted.kind && place.index == wanted.index;
+}}
+int main(void) {{
+    CHECK({len(rows)} == TI_FLAGS + TI_NUMBERS + TI_STRINGS);
+{lines}    return close_checks();
+}}
+""")
+    return room.faults([room.compile(source, "-I", HERE)])
+
+
+def check_all_ways(room, source):
+    """Runs a program with each library, and under sanitizers."""
+    faults = room.faults([room.compile(source)])
+    faults += room.faults([room.compile(source, shared=True)])
+    return faults + room.faults([room.compile(source, *SANITIZE)])
+
+
 def check_calls(room):
-    faults = room.faults([room.compile("calls.c")])
-    faults += room.faults([room.compile("calls.c", shared=True)])
-    return faults + room.faults([room.compile("calls.c", *SANITIZE)])
+    return check_all_ways(room, "calls.c")
+
+
+def check_sending(room):
+    return check_all_ways(room, "sending.c")
 
 
 def dumb_entry(room):
@@ -241,6 +292,12 @@ def check_open(room):
     expect([], 0, TERM="dumb")
     expect([], 10)
     expect([], 10, TERM="")
+    # after the places of the profile comes the directory of the user
+    os.makedirs(room.path("home"), exist_ok=True)
+    os.symlink(directory, room.path("home/.terminfo"))
+    expect(["good"], 0, TERMINFO="/no-such", HOME=room.path("home"))
+    expect(["good"], 10, TERMINFO="/no-such", HOME=room.path("no-home"))
+    expect(["good"], 10, TERMINFO="/no-such", HOME="")
     # the first directory with a file of the name decides
     os.makedirs(room.path("first/d"), exist_ok=True)
     with open(room.path("first/d/dumb"), "wb") as file:
@@ -334,38 +391,122 @@ def check_tput(room):
     return faults
 
 
+# what the second example of the page is compiled with
+DRAWING = """#include <stdio.h>
+#include <termios.h>
+#include <time.h>
+#include <ti.h>
+#include <unistd.h>
+
+%s
+int main(void) {
+    struct ti_entry *entry;
+    if (ti_open("xterm-256color", &entry)) return 1;
+    draw(entry);
+    ti_entry_free(entry);
+    return 0;
+}
+"""
+
+
+def drawing_faults(room, example):
+    """What is wrong with the example that moves the cursor and flashes the screen."""
+    if not entry_file("xterm-256color"):
+        return []
+    program = room.compile(room.write("drawing.c", DRAWING % example), *SANITIZE)
+    environment = clean_environment(TERMINFO_DIRS=":".join(ENTRY_DIRECTORIES))
+    began = time.monotonic()
+    status, said = run([program], env=environment)
+    faults = [] if (status, said) == (0, "\033[5;10H\033[?5h\033[?5l") else [f"drawing: {status}, {said!r}"]
+    # the delay of flash is 100 milliseconds
+    return faults + ([] if time.monotonic() - began >= 0.1 else ["flash is not to be seen"])
+
+
 def check_page(room):
-    """The example of the page is in it between `.Bd` and `.Ed`, with \\e for each backslash."""
+    """The examples of the page are in it between `.Bd` and `.Ed`, with \\e for each backslash."""
     page = text_of("man", "ti.3")
-    example = re.search(r"^\.Sh EXAMPLES\n.*?^\.Bd -literal[^\n]*\n(.*?)^\.Ed", page, re.S | re.M)[1]
-    source = room.path("page.c")
-    with open(source, "w", encoding="utf-8") as file:
-        file.write(example.replace("\\e", "\\").replace("\\(aq", "'").replace("\\&", ""))
+    section = re.search(r"^\.Sh EXAMPLES\n(.*?)^\.Sh ", page, re.S | re.M)[1]
+    section = section.replace("\\e", "\\").replace("\\(aq", "'").replace("\\&", "")
+    first, second = re.findall(r"^\.Bd -literal[^\n]*\n(.*?)^\.Ed", section, re.S | re.M)
     directory, _ = dumb_entry(room)
-    program = room.compile(source, *SANITIZE)
+    program = room.compile(room.write("page.c", first), *SANITIZE)
     status, said = run([program], env=clean_environment(TERMINFO=directory, TERM="dumb"))
     faults = [] if (status, said) == (0, "dumb: 80 columns\n") else [f"{status}, {said!r}"]
-    names = declared() + re.findall(r"static inline .*?\b(ti_\w+)\(", text_of("include", "ti.h"))
-    faults += [f"the page says nothing of {name}" for name in names if name not in page]
+    faults += drawing_faults(room, second)
+    faults += [f"the page says nothing of {name}" for name in [*declared(), *defined()] if name not in page]
     if shutil.which("mandoc"):
         status, said = run(["mandoc", "-T", "lint", "-W", "warning", os.path.join(TOP, "man", "ti.3")])
         faults += said.splitlines() if status or said else []
     return faults
 
 
+# What is put around the functions that docs/LIBRARY.md shows.
+AROUND = """#include <stdio.h>
+#include <ti.h>
+%s
+%s
+int main(void) {
+    struct ti_entry *entry;
+    struct ti_line line = TI_LINE_EMPTY;
+    if (ti_open(NULL, &entry)) return 1;
+    ti_line(entry, 38400, &line);
+    bool moved = move(entry, &line, 4, 9);
+    uint32_t refusal = print_names(entry);
+    ti_entry_free(entry);
+    return moved && !refusal ? 0 : 2;
+}
+"""
+
+
+def library_page_faults(room, environment):
+    """What is wrong with the programs of docs/LIBRARY.md, on the terminal of the environment."""
+    page = text_of("docs", "LIBRARY.md")
+    first, *functions = re.findall(r"^```c\n(.*?)^```", page, re.S | re.M)
+    programs = (
+        ("first", first, r"80 columns\n"),
+        ("functions", AROUND % tuple(functions), r"\033\[5;10H(.*\n)?XT\n.*"),
+    )
+    for name, source, wanted in programs:
+        with open(room.path(f"{name}.c"), "w", encoding="utf-8") as file:
+            file.write(source)
+        status, said = run([room.compile(room.path(f"{name}.c"))], env=environment)
+        if status or not re.fullmatch(wanted, said, re.S):
+            yield f"LIBRARY.md, {name}: {status}, {said!r}"
+    script = re.search(r"^```python\n(.*?)^```", page, re.S | re.M)[1]
+    given = {**environment, "LIBTI": room.path("libti.so.1"), "PYTHONPATH": os.path.join(TOP, "python")}
+    status, said = run([sys.executable, "-c", script], env={**given, "PYTHONDONTWRITEBYTECODE": "1"})
+    if (status, said) != (0, "\033[32m"):
+        yield f"LIBRARY.md, the script: {status}, {said!r}"
+
+
 def check_examples(room):
     if not entry_file("xterm-256color"):
         raise Skipped("the system has no entry of xterm-256color")
+    with open(room.path("colors.c"), "w", encoding="utf-8") as file:
+        file.write(re.search(r"^```c\n(.*?)^```", text_of("README.md"), re.S | re.M)[1])
     places = ":".join(ENTRY_DIRECTORIES)
     environment = clean_environment(TERMINFO_DIRS=places, TERM="xterm-256color", LD_LIBRARY_PATH=room.directory)
     faults = []
+    status, said = run([room.compile(room.path("colors.c"))], env=environment)
+    if (status, said) != (0, "256 colors\n"):
+        faults.append(f"README's program: {status}, {said!r}")
+    faults += library_page_faults(room, environment)
     program = room.compile(os.path.join(TOP, "examples", "colours.c"))
     status, said = run([program], env=environment)
     if status or "\033[38;5;200m" not in said or "\033[2;3H" not in said:
         faults.append(f"colours.c: {status}, {said!r}")
-    status, said = run([sys.executable, os.path.join(TOP, "examples", "colours.py")], env=environment)
+    script = [sys.executable, os.path.join(TOP, "examples", "colours.py")]
+    status, said = run(script, env=environment)
     if status or said != "\033[38;5;200mcolour 200\n":
         faults.append(f"colours.py: {status}, {said!r}")
+    directory, _ = dumb_entry(room)
+    for terminal, wanted in (("no-such", "No terminal has the name"), ("dumb", "the terminal ")):
+        given = {**environment, "TERMINFO": directory, "TERM": terminal}
+        for words in ([program], script):
+            status, said = run(words, env=given)
+            name = os.path.basename(words[-1]).partition("-")[0]
+            if status != 1 or not said.startswith(f"colours{'.py' if words is script else ''}: {wanted}"):
+                faults.append(f"{name} on {terminal}: {status}, {said!r}")
     return faults
 
 
@@ -379,7 +520,12 @@ def check_python(room):
         if not directories:
             raise Skipped("the system has no entries")
         ran = list(pool.map(lambda directory: room.faults([*words, directory], env=environment), directories))
-    return [fault for faults in ran for fault in faults]
+    faults = [fault for faults in ran for fault in faults]
+    if entry_file("xterm-256color"):
+        script = "import doctest, sys, ti; sys.exit(doctest.testmod(ti).failed)"
+        environment["TERMINFO_DIRS"] = ":".join(ENTRY_DIRECTORIES)
+        faults += room.faults([sys.executable, "-c", script], env=environment)
+    return faults
 
 
 def check_commands(room):
@@ -397,7 +543,7 @@ def check_commands(room):
         PKG_CONFIG_PATH=f"{prefix}/lib/pkgconfig", LD_LIBRARY_PATH=f"{prefix}/lib",
         TERMINFO_DIRS=":".join(ENTRY_DIRECTORIES), TERM="xterm-256color",
     )
-    for command in commands_of("docs/LIBRARY.md", "## From C"):
+    for command in commands_of("docs/LIBRARY.md", "## Build"):
         status, said = run(["sh", "-c", command], cwd=place, env=environment)
         if status or "\033[38;5;200m" not in said:
             faults.append(f"{command}: {status}, {said!r}")
@@ -414,9 +560,12 @@ def check_install(room):
     status, said = run([*words, "install-library"])
     if status:
         return [said]
-    wanted = ["opt/ti/include/ti.h", "opt/ti/lib64/libti.a", "opt/ti/lib64/libti.so", "opt/ti/lib64/libti.so.1",
-              "opt/ti/lib64/pkgconfig/ti.pc", "opt/ti/share/man/man3/ti.3"]
-    faults = [] if files_below(target) == wanted else [f"installed: {files_below(target)}"]
+    wanted = ["include/ti.h", "include/ti_names.h", "lib64/libti.a", "lib64/libti.so", "lib64/libti.so.1",
+              "lib64/pkgconfig/ti.pc", "share/man/man3/ti.3"]
+    # the page is found under the name of each call
+    wanted += [f"share/man/man3/{name}.3" for name in [*declared(), *defined()]]
+    wanted = sorted(f"opt/ti/{name}" for name in wanted)
+    faults = [] if files_below(target) == wanted else [f"installed: {set(files_below(target)) ^ set(wanted)}"]
     if shutil.which("pkg-config"):
         environment = {**os.environ, "PKG_CONFIG_PATH": f"{target}/opt/ti/lib64/pkgconfig"}
         status, said = run(["pkg-config", "--cflags", "--libs", "ti"], env=environment)
@@ -437,10 +586,11 @@ def check_install(room):
 
 
 CASES = {
-    "header": check_header, "symbols": check_symbols, "calls": check_calls, "memory": check_memory,
-    "damaged": check_damaged, "open": check_open, "tput": check_tput, "ncurses": check_ncurses,
-    "tputs": check_tputs, "unibilium": check_unibilium, "page": check_page, "examples": check_examples,
-    "python": check_python, "commands": check_commands, "install": check_install,
+    "header": check_header, "symbols": check_symbols, "names": check_names, "calls": check_calls,
+    "sending": check_sending, "memory": check_memory, "damaged": check_damaged, "open": check_open,
+    "tput": check_tput, "ncurses": check_ncurses, "tputs": check_tputs, "unibilium": check_unibilium,
+    "page": check_page, "examples": check_examples, "python": check_python, "commands": check_commands,
+    "install": check_install,
 }
 
 

@@ -1,32 +1,30 @@
 /*
  * What `tput` writes of a string, by libti alone: `tput TERM CAPABILITY [NUMBER..]`. The status is
- * 0; 1 if the string is absent, 3 if the entry is not opened, 4 if the capability is unknown.
+ * 0; 1 if the string is absent, 3 if the entry is not opened, 4 if the capability is unknown; 5 if
+ * ti_send says otherwise.
  */
 #include "test.h"
 
-static int put(int byte) { return putchar(byte); }
+static size_t put(const uint8_t *bytes, size_t size, void *context) {
+    return fwrite(bytes, 1, size, (FILE *)context);
+}
 
 int main(int argc, char **argv) {
-    static uint8_t out[65536];
+    struct ti_output output = { put, NULL, stdout };
     struct ti_entry *entry = NULL;
     struct ti_text text = TI_NOTHING;
     struct ti_line line = TI_LINE_EMPTY;
     struct ti_variables variables = { { 0 } };
-    struct ti_parameter params[9];
+    int32_t numbers[9];
     if (argc < 3 || argc > 12) return 2;
     if (ti_open(argv[1], &entry)) return 3;
     int32_t is = ti_string_named(entry, argv[2], &text);
-    if (is == 1) {
-        size_t count = (size_t)argc - 3;
-        for (size_t i = 0; i < count; i++) params[i] = ti_number_given(atoi(argv[i + 3]));
-        ti_line(entry, 0, &line);
-        if (count) {
-            struct ti_outcome outcome =
-                ti_expand(text.bytes, text.size, params, count, &variables, out, sizeof out);
-            text.bytes = out, text.size = outcome.size;
-        }
-        ti_puts(text.bytes, text.size, 1, &line, put);
-    }
+    size_t count = (size_t)argc - 3;
+    for (size_t i = 0; i < count; i++) numbers[i] = atoi(argv[i + 3]);
+    ti_line(entry, 0, &line);
+    struct ti_outcome sent =
+        ti_send(entry, &variables, &line, argv[2], numbers, count, 1, &output);
+    if (sent.status != (is == 1 ? TI_OK : TI_ABSENT)) return 5;
     ti_entry_free(entry);
     return is == 1 ? 0 : is == 0 ? 1 : 4;
 }

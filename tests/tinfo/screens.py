@@ -2,15 +2,17 @@
 over libti: the same keys are pressed, and the screens after each key are compared, and the bytes
 that the program wrote if these are the same each time with ncurses's."""
 
+import fcntl
 import os
 import re
 import shutil
 import subprocess
 import tempfile
+import termios
 import time
 from concurrent.futures import ThreadPoolExecutor
 
-from common import need
+from common import need, text_of
 
 TERMS = ["xterm-256color", "screen-256color"]
 LINES = "".join(f"line {number}, \u00e9 \t tab\n" for number in range(1, 100))
@@ -45,6 +47,10 @@ PROGRAMS = {
         ["C-n", "C-e", "M-b", "C-v", "M-<", "C-s", "line 9", "C-g", "C-x", "C-c"],
     ),
 }
+# in how many seconds a program begins, on a machine that has much else to do
+START = 60
+# how many times longer than a screen has to be quiet it may take to be like the others
+PATIENCE = 30
 TMUX_CONF = "set -g status-right ''\nset -g status-interval 0\nset -g default-terminal screen-256color\n"
 
 
@@ -64,14 +70,24 @@ class Screen:
             "HISTFILE": "", "SHELL": "/bin/sh",
         }
         words = " ".join(f"{name}='{value}'" for name, value in variables.items())
-        self.tmux = ["tmux", "-S", os.path.join(self.directory, "outer"), "-f", "/dev/null"]
-        self.written = os.path.join(self.directory, "written")
-        # it waits until what it writes is recorded
-        script = f"read go; clear=; stty sane; exec env -i {words} {ti_run} {command}"
-        self.run("new-session", "-d", "-x", "80", "-y", "24", "-c", here, f"exec sh -c \"{script}\"")
-        self.run("set-option", "-g", "remain-on-exit", "on")
-        self.run("pipe-pane", "-o", f"exec cat >>{self.written}")
+        # a shell waits for the program, since tmux may not see that a pane's own process has ended
+        started = self.write("program.sh", f"echo $$ >{self.path('process')}\nexec env -i {words} {ti_run} {command}\n")
+        # what the program writes is recorded before it begins
+        main = self.write("main.sh", f"read begin\nstty sane\nsh {started}\necho ended\nread end\n")
+        self.tmux = ["tmux", "-S", self.path("outer"), "-f", "/dev/null"]
+        self.run("new-session", "-d", "-x", "80", "-y", "24", "-c", here, f"exec sh {main}")
+        self.run("pipe-pane", "-o", f"exec cat >>{self.path('written')}")
+        self.terminal = self.run("display-message", "-p", "#{pane_tty}").decode().strip()
         self.run("send-keys", "Enter")
+
+    def path(self, name):
+        return os.path.join(self.directory, name)
+
+    def write(self, name, text):
+        """Writes a file above the directory in which the program is. Gives its path."""
+        with open(self.path(name), "w", encoding="utf-8") as file:
+            file.write(text)
+        return self.path(name)
 
     def run(self, *words):
         return subprocess.run([*self.tmux, *words], stdout=subprocess.PIPE, stderr=subprocess.DEVNULL, check=True).stdout
@@ -79,34 +95,42 @@ class Screen:
     def capture(self):
         """What is on the screen, with colours and attributes, and where the cursor is."""
         shown = self.run("capture-pane", "-p", "-e")
-        where = self.run("display-message", "-p", "#{cursor_x},#{cursor_y}")
-        # tmux's line on the end of a program has the time
-        return re.sub(rb"Pane is dead.*", b"ended", shown) + where
+        return shown + self.run("display-message", "-p", "#{cursor_x},#{cursor_y}")
 
-    def settled(self, quiet):
-        """The screen once it has not changed for `quiet` seconds."""
-        end, last, since = time.monotonic() + 10, b"", time.monotonic()
-        while time.monotonic() < end:
-            got = self.capture()
-            if got != last:
-                last, since = got, time.monotonic()
-            elif time.monotonic() - since > quiet:
-                break
-            time.sleep(0.03)
-        return last
+    def waits(self):
+        """Whether there are keys that the program has not read yet."""
+        try:
+            terminal = os.open(self.terminal, os.O_RDONLY | os.O_NOCTTY | os.O_NONBLOCK)
+        except OSError:
+            return False
+        try:
+            return fcntl.ioctl(terminal, termios.FIONREAD, b"\0" * 4) != b"\0" * 4
+        except OSError:
+            return False
+        finally:
+            os.close(terminal)
 
     def press(self, key):
         special = key[0].isupper() and len(key) > 1
         self.run("send-keys", *([key] if special else ["-l", key]))
 
     def libraries(self):
-        """The libraries named libtinfo.so.6 that the program has loaded."""
-        process = self.run("display-message", "-p", "#{pane_pid}").decode().strip()
-        with open(f"/proc/{process}/maps", encoding="utf-8") as file:
-            return {line.split()[-1] for line in file if "libtinfo" in line}
+        """The libraries named libtinfo.so.6 that the program has loaded, once it has begun."""
+        end = time.monotonic() + START
+        while time.monotonic() < end:
+            time.sleep(0.03)
+            try:
+                process = text_of(self.directory, "process").strip()
+                maps = text_of("/proc", process, "maps") if process else ""
+            except OSError:
+                continue
+            found = {line.split()[-1] for line in maps.splitlines() if "libtinfo" in line}
+            if found:
+                return found
+        return set()
 
     def bytes_written(self):
-        with open(self.written, "rb") as file:
+        with open(self.path("written"), "rb") as file:
             return file.read().replace(self.directory.encode(), b"")
 
     def close(self):
@@ -114,55 +138,75 @@ class Screen:
         shutil.rmtree(self.directory, ignore_errors=True)
 
 
-class Run:
-    """What a run of a program showed and wrote, and the libraries that it took; by ti-run, or with
-    ncurses's library if that is empty."""
-
-    def __init__(self, name, term, ti_run, quiet):
-        command, keys = PROGRAMS[name]
-        screen = Screen(command, term, ti_run)
-        try:
-            self.screens = [screen.settled(3 * quiet)]
-            self.libraries = screen.libraries()
-            for key in keys:
-                screen.press(key)
-                self.screens.append(screen.settled(quiet))
-            self.written = screen.bytes_written()
-        finally:
-            screen.close()
+def settled(screens, quiet):
+    """What is on each of these screens once all are alike and none has changed for `quiet` seconds;
+    or what is there when PATIENCE times as long has gone by."""
+    last, since = None, time.monotonic()
+    end = since + PATIENCE * quiet
+    while time.monotonic() < end:
+        shown = [screen.capture() for screen in screens]
+        if shown != last or any(screen.waits() for screen in screens):
+            last, since = shown, time.monotonic()
+        elif len(set(shown)) == 1 and time.monotonic() - since > quiet:
+            break
+        time.sleep(0.03)
+    return last
 
 
-def difference(name, term, ours, theirs):
-    """What differs first between the screens of two runs, or None."""
-    for key, one, other in zip(["at first", *PROGRAMS[name][1]], ours.screens, theirs.screens):
-        if one != other:
-            return f"{name} on {term}, {key}:\n{one.decode()}\n--- and with ncurses's\n{other.decode()}"
+def difference(name, term, key, shown):
+    """What differs between the screens after a key, the first with libti, or None."""
+    for other in shown[1:]:
+        if other != shown[0]:
+            return f"{name} on {term}, {key}:\n{shown[0].decode()}\n--- and with ncurses's\n{other.decode()}"
     return None
+
+
+class Run:
+    """A program that is run several times at once, first by ti-run and then with ncurses's library:
+    the keys are pressed in all of them, and each key waits until the screens are alike."""
+
+    def __init__(self, name, term, room, quiet):
+        command, keys = PROGRAMS[name]
+        self.shown, self.wrong, screens = [], None, []
+        try:
+            for ti_run in (room.ti_run, "", ""):
+                screens.append(Screen(command, term, ti_run))
+            self.libraries = [screen.libraries() for screen in screens]
+            for key in ("at first", *keys):
+                if self.shown:
+                    for screen in screens:
+                        screen.press(key)
+                shown = settled(screens, quiet if self.shown else 3 * quiet)
+                self.shown.append(shown[0])
+                self.wrong = difference(name, term, key, shown)
+                if self.wrong:
+                    break
+            self.written = [screen.bytes_written() for screen in screens]
+        finally:
+            for screen in screens:
+                screen.close()
 
 
 def compare(name, term, room):
     """What is wrong with a program on a terminal, and whether its bytes were compared. They are if
     those of each library are the same in all runs; more time is given if something differs."""
-    written = {room.ti_run: set(), "": set()}
+    ours, theirs = set(), set()
     for quiet in (0.15, 0.6, 2):
-        with ThreadPoolExecutor(3) as pool:
-            which = [room.ti_run, "", ""]
-            runs = list(pool.map(lambda ti_run: Run(name, term, ti_run, quiet), which))
-        for ti_run, ran in zip(which, runs):
-            written[ti_run].add(ran.written)
-        ours, theirs = runs[:2]
-        repeats = all(len(found) == 1 for found in written.values())
-        is_same_bytes = not repeats or ours.written == theirs.written
-        wrong = difference(name, term, ours, theirs)
-        if not wrong and is_same_bytes:
+        ran = Run(name, term, room, quiet)
+        ours.add(ran.written[0])
+        theirs.update(ran.written[1:])
+        repeats = len(ours) == len(theirs) == 1
+        is_same_bytes = not repeats or ours == theirs
+        if not ran.wrong and is_same_bytes:
             break
+    wrong = ran.wrong
     # the screens have to show that the keys were taken
-    if len({*ours.screens}) < 4:
-        wrong = f"{name} on {term} shows too little: {ours.screens}"
-    if ours.libraries != {f"{room.libraries}/libtinfo.so.6"}:
-        wrong = f"{name} has loaded {ours.libraries}"
+    if not wrong and len({*ran.shown}) < 4:
+        wrong = f"{name} on {term} shows too little: {ran.shown}"
+    if ran.libraries[0] != {f"{room.libraries}/libtinfo.so.6"}:
+        wrong = f"{name} has loaded {ran.libraries[0]}"
     if not wrong and not is_same_bytes:
-        wrong = f"{name} on {term} writes {ours.written!r}, and with ncurses's {theirs.written!r}"
+        wrong = f"{name} on {term} writes {ours!r}, and with ncurses's {theirs!r}"
     return wrong, repeats
 
 

@@ -1,6 +1,9 @@
 pub mod Answers
 pub mod Capabilities
+pub mod Delays
+pub mod Ends
 pub mod Entries
 pub mod Expanding
 pub mod Padding
 pub mod Places
+pub mod UserDefined

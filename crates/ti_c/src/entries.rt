@@ -19,8 +19,8 @@ use ti_layout::{Format, ReadError, View, ViewParts};
 // The answer of a call that was refused memory for an entry.
 const NO_MEMORY: u32 = 9;
 
-// The format of an entry.
-fn format_of(wide: bool) -> Format
+/// The format of an entry.
+pub(crate) fn format_of(wide: bool) -> Format
     ensures { result ≡ spec.format_of wide }
 {
     if wide {
@@ -30,8 +30,8 @@ fn format_of(wide: bool) -> Format
     }
 }
 
-// Whether numbers take four bytes.
-fn is_wide(format: Format) -> bool
+/// Whether numbers take four bytes.
+pub(crate) fn is_wide(format: Format) -> bool
     ensures { spec.format_of result ≡ format }
 {
     match format {
@@ -75,8 +75,8 @@ fn entry_of<'a>(view: &View<'a>, bytes: &'a [u8]) -> Entry<'a>
     }
 }
 
-// The number of a refusal: its place in the order in which they are looked for, counted from 1.
-fn rank(error: ReadError) -> u32
+/// The number of a refusal: its place in the order in which they are looked for, counted from 1.
+pub(crate) fn rank(error: ReadError) -> u32
     ensures { result ≡ reading.rank error }
 {
     match error {

@@ -4,9 +4,13 @@
 //! - `capabilities`: a capability by its name, and its name
 //! - `entry`: a compiled entry as C holds it; `entries`: reads one where its bytes are or as a
 //!   copy, and its values
+//! - `extension`: user-defined capabilities as C holds them; `user_defined`: reads them from an
+//!   entry, and their names and values
 //! - `expanding`: a string with parameters as the bytes for the terminal
 //! - `padding`: such bytes with their delays as pad bytes, and the line to the terminal of an entry
-//! - `places`: the directories in which entries are, and the file of one
+//! - `delays`: such bytes up to a delay, and its time
+//! - `places`: the directories in which entries are, those of the system, and the file of one
+//! - `laws`: that a NUL follows each string of an entry
 //! - `answers`: what a call says of the bytes that it wrote
 //!
 //! Nothing checks that a caller in C upholds what a type or a `requires` states: `include/ti.h`
@@ -15,19 +19,28 @@
 
 mod answers;
 mod capabilities;
+mod delays;
 mod entries;
 mod entry;
 mod expanding;
+mod extension;
+pub mod laws;
 mod padding;
 mod places;
+mod user_defined;
 
 pub use answers::Outcome;
 pub use capabilities::{Place, ti_capability, ti_name};
+pub use delays::{Delay, ti_first_delay};
 pub use entries::{
     ti_entry_new, ti_entry_read, ti_first_name, ti_flag, ti_long_name, ti_names, ti_number,
     ti_string,
 };
 pub use entry::Entry;
 pub use expanding::{Parameter, Variables, ti_expand};
+pub use extension::EntryExtension;
 pub use padding::{TerminalLine, ti_line, ti_pad};
-pub use places::{ti_path, ti_places};
+pub use places::{ti_path, ti_places, ti_system_directories};
+pub use user_defined::{
+    FoundValue, ti_extension_read, ti_user_defined, ti_user_defined_count, ti_user_defined_named,
+};

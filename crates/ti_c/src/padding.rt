@@ -26,8 +26,8 @@ pub struct TerminalLine {
     pub pad_byte: u8,
 }
 
-// The line, as the library has it.
-fn line_of(line: &TerminalLine) -> Line
+/// The line, as the library has it.
+pub(crate) fn line_of(line: &TerminalLine) -> Line
     ensures { result ≡ line_of line.now }
 {
     Line {

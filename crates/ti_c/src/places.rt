@@ -1,5 +1,6 @@
 //! The directories of entries, and the file of a name below one.
-ghost use Rattle.std.specs.Prelude.{◌≡◌, ◌≢◌, ◌⊎◌, IfOk, false, is_some, unwrap_or};
+ghost use Rattle.std.specs.Prelude.{◌≡◌, ◌≢◌, ◌⊎◌, IfOk, false, is_some, slice_get, unwrap_or};
+ghost use Rattle.everyday_directories.specs.Directories.{system_directories};
 ghost use Rattle.ti_source.specs.Header.{IsLookupName};
 ghost use Rattle.ti_c.specs.Places.{directory_at, path_bytes, IsPathWritten, IsTooLong};
 
@@ -26,6 +27,26 @@ pub extern "C" fn ti_places<'a>(
 {
     let listed = if dirs_set { Some(dirs) } else { None };
     match directory_at(Some(terminfo), listed, index as usize) {
+        Some(directory) => {
+            found.bytes = directory;
+            true
+        }
+        None => false,
+    }
+}
+
+// The directories of the system's entries, in order.
+const SYSTEM_DIRECTORIES: [&[u8]; 3] = [b"/etc/terminfo", b"/lib/terminfo", b"/usr/share/terminfo"];
+
+/// The system's directory at a place of the order in which entries are looked for on Debian. False
+/// if there are not that many, and `found` is then as it was.
+#[unsafe(no_mangle)]
+pub extern "C" fn ti_system_directories(index: u32, found: &mut Text<'static>) -> bool
+    ensures is { result ≡ is_some (slice_get system_directories index) }
+    ensures place { found.new.bytes.now ≡ unwrap_or (slice_get system_directories index) found.old.bytes.now }
+    ensures kept { result ≡ false → found.new ≡ found.old }
+{
+    match SYSTEM_DIRECTORIES.get(index as usize) {
         Some(directory) => {
             found.bytes = directory;
             true

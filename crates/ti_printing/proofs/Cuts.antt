@@ -8,7 +8,8 @@ use Rattle.ti_printing.specs.declared.padding.Line.{Line}
 use Rattle.ti_printing.specs.declared.padding.Padding.{Padding}
 use Rattle.ti_printing.specs.declared.padding.Part.{Part}
 use Rattle.ti_printing.specs.declared.padding.Part.TheVariants.{Literal, Delay}
-use Rattle.ti_printing.specs.Padding.{AsksForTooMuch, BeginsNoPadding, IsPadded, IsPadding, IsCutIntoParts, cut_nothing, cut_literal, cut_padding, pad_bytes_max, padded_parts, padding_of_parts, TextsHaveOneCut}
+use Rattle.ti_printing.specs.Padding.{AsksForTooMuch, BeginsNoPadding, IsPadded, IsPadding, IsCutIntoParts, cut_nothing, cut_literal, cut_padding}
+use Rattle.ti_printing.specs.Padding.{pad_bytes_max, padded_parts, padding_of_parts, TextsHaveOneCut}
 use Rattle.ti_printing.specs.inside.Padding.{first_part, taken_by, padding_at, padding_of, parts_after, parts_of, with_pad_bytes}
 use Rattle.ti_printing.proofs.Paddings.{padding_at-some, padding_at-found}
 
@@ -22,7 +23,8 @@ parts_after-drop (suc taken) (byte ∷ text) = parts_after-drop taken text
 padding_nonempty : (front : List ℕ) (padding : Padding) → IsPadding front padding → (byte : ℕ) × (text : List ℕ) × (front ≡ byte ∷ text)
 padding_nonempty front padding h = (36, 60 ∷ (h.milliseconds ++ (h.tenths ++ (h.marks ++ (62 ∷ [])))), h.spelled)
 
-parts_of-front : (byte : ℕ) (text rest : List ℕ) (padding : Padding) → padding_at (byte ∷ (text ++ rest)) ≡ Some (padding, rest) → parts_of (byte ∷ (text ++ rest)) ≡ Delay padding ∷ parts_of rest
+parts_of-front : (byte : ℕ) (text rest : List ℕ) (padding : Padding) → padding_at (byte ∷ (text ++ rest)) ≡ Some (padding, rest)
+    → parts_of (byte ∷ (text ++ rest)) ≡ Delay padding ∷ parts_of rest
 unfolding parts_of
 parts_of-front byte text rest padding h =
     let left : length (text ++ rest) - length rest ≡ length text = omega (arith, length-append text rest) in
@@ -45,7 +47,7 @@ parts_of-some text rest padding h =
     ap parts_of spelled ∙ parts_of-padding front rest padding is
 
 -- a byte at which none is found
-parts_of-none : (byte : ℕ) (text : List ℕ) → padding_at (byte ∷ text) ≡ None → parts_of (byte ∷ text) ≡ Literal byte ∷ parts_of text
+pub parts_of-none : (byte : ℕ) (text : List ℕ) → padding_at (byte ∷ text) ≡ None → parts_of (byte ∷ text) ≡ Literal byte ∷ parts_of text
 unfolding parts_of
 parts_of-none byte text h = ap (λ found. first_part found byte ∷ parts_after (taken_by found text) text) h
 
@@ -55,9 +57,11 @@ parts_of-nil [] short = refl
 parts_of-nil (byte ∷ text) short = absurd (omega arith)
 
 -- the first byte of a text, at which no padding is found
-pub parts_of-first : (text : List ℕ) → 1 ≤ length text → padding_at text ≡ None → parts_of text ≡ Literal (get_or text 0 0) ∷ parts_of (take (length text - 1) (drop 1 text))
+pub parts_of-first : (text : List ℕ) → 1 ≤ length text → padding_at text ≡ None → parts_of text ≡ Literal (get_or text 0 0)
+    ∷ parts_of (take (length text - 1) (drop 1 text))
 parts_of-first [] long h = absurd (omega arith)
-parts_of-first (byte ∷ text) long h = parts_of-none byte text h ∙ ap (λ t. Literal byte ∷ parts_of t) (sym (take_all (length (byte ∷ text) - 1) text (omega arith)))
+parts_of-first (byte ∷ text) long h =
+    parts_of-none byte text h ∙ ap (λ t. Literal byte ∷ parts_of t) (sym (take_all (length (byte ∷ text) - 1) text (omega arith)))
 
 none_from_begins : (text : List ℕ) → BeginsNoPadding text → padding_at text ≡ None
 none_from_begins text other =
@@ -87,15 +91,17 @@ cut_within most [] within = cut_nothing
 cut_within zero (byte ∷ text) within = absurd (omega arith)
 cut_within (suc most) (byte ∷ text) within =
     elim (padding_at (byte ∷ text)) as (λ o. padding_at (byte ∷ text) ≡ o → IsCutIntoParts (byte ∷ text) (parts_of (byte ∷ text))) [
-      | None ↦ λ e. subst (IsCutIntoParts (byte ∷ text)) (sym (parts_of-none byte text e)) (cut_literal (begins_from_none (byte ∷ text) e) (cut_within most text (omega arith)))
+      | None ↦ λ e. subst (IsCutIntoParts (byte ∷ text)) (sym (parts_of-none byte text e))
+          (cut_literal (begins_from_none (byte ∷ text) e) (cut_within most text (omega arith)))
       | Some found ↦ λ e.
           let (front, spelled, is) = padding_at-some (byte ∷ text) found e in
           let (first, others, some) = padding_nonempty front found.0 is in
           let shorter : length found.1 ≤ most = omega (arith, length-append front found.1, ap length spelled, ap length some) in
-          subst (λ t. IsCutIntoParts t (parts_of t)) (sym spelled) (subst (IsCutIntoParts (front ++ found.1)) (sym (parts_of-padding front found.1 found.0 is)) (cut_padding is (cut_within most found.1 shorter)))
+          subst (λ t. IsCutIntoParts t (parts_of t)) (sym spelled)
+          (subst (IsCutIntoParts (front ++ found.1)) (sym (parts_of-padding front found.1 found.0 is)) (cut_padding is (cut_within most found.1 shorter)))
     ] refl
 
-the_cut : (text : List ℕ) → IsCutIntoParts text (parts_of text)
+pub the_cut : (text : List ℕ) → IsCutIntoParts text (parts_of text)
 the_cut text = cut_within (length text) text (omega arith)
 
 pub one_cut : TextsHaveOneCut
@@ -127,7 +133,8 @@ pub padded_ok : {E : Type 0} (text : List ℕ) (lines : ℕ) (line : Line) (resu
 padded_ok text lines line (Ok out) h = padded_is text lines line out.items h
 padded_ok text lines line (Err e) h = h
 
-pub padded_too_much : {R : Type 0} (text : List ℕ) (lines : ℕ) (line : Line) → R ↔ (pad_bytes_max < padding_of text lines line) → R ↔ AsksForTooMuch text lines line
+pub padded_too_much : {R : Type 0} (text : List ℕ) (lines : ℕ) (line : Line) → R ↔ (pad_bytes_max < padding_of text lines line)
+    → R ↔ AsksForTooMuch text lines line
 padded_too_much text lines line h =
     let asks = too_much_computed text lines line in (λ r. asks.1 (h.0 r), λ a. h.1 (asks.0 a))
 

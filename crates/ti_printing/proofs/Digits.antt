@@ -1,5 +1,6 @@
 -- One more digit in the buffer.
-use Rattle.std.proofs.Common.{◌≡◌, ◌≢◌, ℕ, ◌+◌, ◌-◌, ◌/◌, ◌%◌, ◌^◌, ◌<◌, ◌≤◌, Bool, true, false, List, [], ◌∷◌, ◌++◌, length, map, drop, get_or, set, subst, refl, sym, ap, ◌∙◌, arith}
+use Rattle.std.proofs.Common.{◌≡◌, ◌≢◌, ℕ, ◌+◌, ◌-◌, ◌/◌, ◌%◌, ◌^◌, ◌<◌, ◌≤◌, Bool, true, false, List, [], ◌∷◌, ◌++◌, length, map, drop, get_or, set, subst}
+use Rattle.std.proofs.Common.{refl, sym, ap, ◌∙◌, arith}
 use Rattle.std.proofs.lemmas.Bool.Decides.{nat_tests}
 use Rattle.std.proofs.lemmas.Int.Digits.{digits_of_step, length-digits_of_step, length-digits_of-le}
 use Rattle.std.proofs.lemmas.List.{append_assoc, map-append}
@@ -33,7 +34,8 @@ written-next base rest at upper buffer all byte low more some within glyph writt
     let back : at - 1 + 1 ≡ at = omega arith in
     let front = map (digit_glyph upper) (digits_of base (rest / base)) in
     let step : map (digit_glyph upper) (digits_of base rest) ≡ front ++ (digit_glyph upper (rest % base) ∷ []) =
-    ap (map (digit_glyph upper)) (digits_of_step base rest (omega arith) more) ∙ map-append (digit_glyph upper) (digits_of base (rest / base)) (rest % base ∷ []) in
+    ap (map (digit_glyph upper)) (digits_of_step base rest (omega arith) more)
+    ∙ map-append (digit_glyph upper) (digits_of base (rest / base)) (rest % base ∷ []) in
     ap (λ bs. front ++ bs) (put ∙ ap (λ n. byte ∷ drop n buffer) back ∙ ap (λ b. b ∷ drop at buffer) glyph) ∙
     sym (append_assoc front (digit_glyph upper (rest % base) ∷ []) (drop at buffer)) ∙
     ap (λ bs. bs ++ drop at buffer) (sym step) ∙ written
@@ -47,6 +49,7 @@ plain-map upper [] h = omega arith
 plain-map upper (d ∷ ds) h = glyph_not_zero upper d h
 
 -- a numeral begins with no 0
-pub plain_numeral : (base number : ℕ) (upper : Bool) (bytes : List ℕ) → 8 ≤ base → bytes ≡ map (digit_glyph upper) (digits_of base number) → get_or bytes 0 0 ≢ 48
+pub plain_numeral : (base number : ℕ) (upper : Bool) (bytes : List ℕ) → 8 ≤ base → bytes ≡ map (digit_glyph upper) (digits_of base number)
+    → get_or bytes 0 0 ≢ 48
 plain_numeral base number upper bytes low e =
     subst (λ bs. get_or bs 0 0 ≢ 48) (sym e) (plain-map upper (digits_of base number) (begins_above-digits_of base number (omega arith)))

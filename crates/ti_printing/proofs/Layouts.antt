@@ -11,14 +11,16 @@ use Rattle.ti_printing.specs.Printf.{printed_by, printed_number, at_least}
 pub parts_text-zeros : (width zeros : ℕ) (front shown : List ℕ) →
     parts_text 0 front (width - (length front + zeros + length shown) + zeros) shown 0 ≡ front ++ at_least (width - length front) (replicate zeros 48 ++ shown)
 parts_text-zeros width zeros front shown =
-    let count : width - (length front + zeros + length shown) ≡ width - length front - length (replicate zeros 48 ++ shown) = simp (length-append, length-replicate) (omega arith) in
+    let count : width - (length front + zeros + length shown) ≡ width - length front - length (replicate zeros 48 ++ shown) =
+    simp (length-append, length-replicate) (omega arith) in
     let short = width - (length front + zeros + length shown) in
     ap (λ zs. front ++ (zs ++ (shown ++ []))) (sym (replicate-append-replicate short zeros 48)) ∙
     ap (λ n. front ++ ((replicate n 48 ++ replicate zeros 48) ++ (shown ++ []))) count ∙
     simp (append-nil, append_assoc)
 
 -- each conversion but `s` prints a number
-pub printed_by-number : (conversion : Conversion) (directive : Directive) (number : ℤ) (text : List ℕ) → conversion ≢ Text → printed_by conversion directive number text ≡ printed_number directive number
+pub printed_by-number : (conversion : Conversion) (directive : Directive) (number : ℤ) (text : List ℕ) → conversion ≢ Text
+    → printed_by conversion directive number text ≡ printed_number directive number
 printed_by-number Text directive number text other = absurd (other refl)
 printed_by-number Decimal directive number text other = refl
 printed_by-number Octal directive number text other = refl

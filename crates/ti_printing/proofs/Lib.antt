@@ -1,4 +1,5 @@
 pub mod Cuts
+pub mod FirstDelays
 pub mod Digits
 pub mod Layouts
 pub mod Numerals

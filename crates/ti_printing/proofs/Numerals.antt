@@ -42,5 +42,6 @@ begins_above-digits_of b (suc n) two = begins_above (digits_of b (suc n)) (λ _.
 pub one_numeral : OneNumeral
 one_numeral base n two ds = (
   λ h. sym (digits_of-number base ds two h.digits h.plain) ∙ ap (digits_of base) h.number,
-  λ e. subst (IsNumeralOf base n) (sym e) (record { digits = all_below_base_digits_of base n two; plain = begins_above-digits_of base n two; number = number_digits_of base n two }),
+  λ e. subst (IsNumeralOf base n) (sym e)
+      (record { digits = all_below_base_digits_of base n two; plain = begins_above-digits_of base n two; number = number_digits_of base n two }),
 )

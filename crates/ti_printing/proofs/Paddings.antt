@@ -1,7 +1,8 @@
 -- What `padding_at` finds is a padding, and it finds each.
 use Rattle.ti_text.specs.Digits.{is_decimal_digit, decimal_value, decimal_from}
 use Rattle.ti_text.specs.Lists.{AllAre}
-use Rattle.std.proofs.Common.{◌≡◌, ℕ, zero, suc, ◌+◌, ◌-◌, ◌*◌, ◌^◌, ◌<◌, ◌≤◌, Bool, true, false, List, [], ◌∷◌, ◌++◌, length, drop, take, get_or, eqb, Option, Some, None, cond, refl, sym, ap, subst, ◌∙◌, arith, add-one}
+use Rattle.std.proofs.Common.{◌≡◌, ℕ, zero, suc, ◌+◌, ◌-◌, ◌*◌, ◌^◌, ◌<◌, ◌≤◌, Bool, true, false, List, [], ◌∷◌, ◌++◌, length, drop, take, get_or, eqb}
+use Rattle.std.proofs.Common.{Option, Some, None, cond, refl, sym, ap, subst, ◌∙◌, arith, add-one}
 use Rattle.std.proofs.lemmas.Bool.Decides.{nat_tests}
 use Rattle.std.proofs.lemmas.List.Elements.{All-from_recursion}
 use Rattle.std.proofs.lemmas.List.{take_more, append_assoc, take-append-drop, length-take}
@@ -9,8 +10,10 @@ use Rattle.std.proofs.Math.Nat.{pow-suc}
 use Rattle.std.proofs.Math.Seq.{drop-cons, drop-append_seam, take-append_seam}
 use Rattle.std.specs.Option.{option_and_then}
 use Rattle.ti_printing.specs.declared.padding.Padding.{Padding}
-use Rattle.ti_printing.specs.Padding.{AreMilliseconds, AreTenths, no_tenths, some_tenths, AreMarks, no_mark, star_alone, slash_alone, star_slash, slash_star, IsPadding}
-use Rattle.ti_printing.specs.inside.Padding.{after_byte, digits_len, milliseconds_at, tenths_in, tenths_at, mark_in, mark_at, marks_at, padding_with, padding_from, padding_at}
+use Rattle.ti_printing.specs.Padding.{AreMilliseconds, AreTenths, no_tenths, some_tenths, AreMarks, no_mark, star_alone, slash_alone, star_slash}
+use Rattle.ti_printing.specs.Padding.{slash_star, IsPadding}
+use Rattle.ti_printing.specs.inside.Padding.{after_byte, digits_len, milliseconds_at, tenths_in, tenths_at, mark_in, mark_at, marks_at, padding_with}
+use Rattle.ti_printing.specs.inside.Padding.{padding_from, padding_at}
 
 -- ---- digits
 
@@ -45,7 +48,8 @@ abbrev BeginsNoDigit : List ℕ → Type 0
 BeginsNoDigit [] = Unit {0}
 BeginsNoDigit (byte ∷ text) = is_decimal_digit byte ≡ false
 
-digits_len-append : (most : ℕ) (digits text : List ℕ) → AllAre is_decimal_digit digits → length digits ≤ most → BeginsNoDigit text → digits_len most (digits ++ text) ≡ length digits
+digits_len-append : (most : ℕ) (digits text : List ℕ) → AllAre is_decimal_digit digits → length digits ≤ most → BeginsNoDigit text
+    → digits_len most (digits ++ text) ≡ length digits
 digits_len-append zero [] text all few other = refl
 digits_len-append zero (digit ∷ digits) text all few other = absurd (omega arith)
 digits_len-append (suc most) [] [] all few other = refl
@@ -68,10 +72,12 @@ after_byte-some byte (first ∷ text) rest h =
       | false ↦ λ e h'. absurd (cc)
     ] refl h
 
-milliseconds_at-some : (text : List ℕ) (found : ℕ × List ℕ) → milliseconds_at text ≡ Some found → (digits : List ℕ) × (text ≡ digits ++ found.1) × AreMilliseconds digits found.0
+milliseconds_at-some : (text : List ℕ) (found : ℕ × List ℕ) → milliseconds_at text ≡ Some found → (digits : List ℕ) × (text ≡ digits ++ found.1)
+    × AreMilliseconds digits found.0
 milliseconds_at-some text found h =
     let len = digits_len 5 text in
-    elim (eqb len 0) as (λ b. eqb len 0 ≡ b → cond b None (Some (decimal_value (take len text), drop len text)) ≡ Some found → (digits : List ℕ) × (text ≡ digits ++ found.1) × AreMilliseconds digits found.0) [
+    elim (eqb len 0) as (λ b. eqb len 0 ≡ b → cond b None (Some (decimal_value (take len text), drop len text)) ≡ Some found → (digits : List ℕ)
+    × (text ≡ digits ++ found.1) × AreMilliseconds digits found.0) [
       | true ↦ λ e h'. absurd (cc)
       | false ↦ λ e h'.
           let same : (decimal_value (take len text), drop len text) ≡ found = cc in
@@ -83,17 +89,21 @@ milliseconds_at-some text found h =
           )
     ] refl h
 
-some_is : (text rest : List ℕ) → text ≡ 46 ∷ rest → (tenths : List ℕ) × (text ≡ tenths ++ (tenths_in (Some rest) text).1) × AreTenths tenths (tenths_in (Some rest) text).0
+some_is : (text rest : List ℕ) → text ≡ 46 ∷ rest → (tenths : List ℕ) × (text ≡ tenths ++ (tenths_in (Some rest) text).1)
+    × AreTenths tenths (tenths_in (Some rest) text).0
 some_is text [] spelled = ([], refl, no_tenths)
 some_is text (digit ∷ rest) spelled =
-    elim (is_decimal_digit digit) as (λ b. is_decimal_digit digit ≡ b → (tenths : List ℕ) × (text ≡ tenths ++ (cond {A = ℕ × List ℕ} b (digit - 48, rest) (0, text)).1) × AreTenths tenths (cond {A = ℕ × List ℕ} b (digit - 48, rest) (0, text)).0) [
+    elim (is_decimal_digit digit) as (λ b. is_decimal_digit digit ≡ b → (tenths : List ℕ)
+    × (text ≡ tenths ++ (cond {A = ℕ × List ℕ} b (digit - 48, rest) (0, text)).1)
+    × AreTenths tenths (cond {A = ℕ × List ℕ} b (digit - 48, rest) (0, text)).0) [
       | true ↦ λ e. (46 ∷ (digit ∷ []), spelled, some_tenths e)
       | false ↦ λ e. ([], refl, no_tenths)
     ] refl
 
 tenths_at-is : (text : List ℕ) → (tenths : List ℕ) × (text ≡ tenths ++ (tenths_at text).1) × AreTenths tenths (tenths_at text).0
 tenths_at-is text =
-    elim (after_byte 46 text) as (λ o. after_byte 46 text ≡ o → (tenths : List ℕ) × (text ≡ tenths ++ (tenths_in o text).1) × AreTenths tenths (tenths_in o text).0) [
+    elim (after_byte 46 text) as (λ o. after_byte 46 text ≡ o → (tenths : List ℕ) × (text ≡ tenths ++ (tenths_in o text).1)
+    × AreTenths tenths (tenths_in o text).0) [
       | None ↦ λ e. ([], refl, no_tenths)
       | Some rest ↦ λ e. some_is text rest (after_byte-some 46 text rest e)
     ] refl
@@ -126,10 +136,12 @@ marks_at-is text =
 padding_text : (ds ts ms rest : List ℕ) → 36 ∷ (60 ∷ (ds ++ (ts ++ (ms ++ (62 ∷ rest))))) ≡ (36 ∷ (60 ∷ (ds ++ (ts ++ (ms ++ (62 ∷ [])))))) ++ rest
 padding_text ds ts ms rest = simp append_assoc
 
-pub padding_at-some : (text : List ℕ) (found : Padding × List ℕ) → padding_at text ≡ Some found → (front : List ℕ) × (text ≡ front ++ found.1) × IsPadding front found.0
+pub padding_at-some : (text : List ℕ) (found : Padding × List ℕ) → padding_at text ≡ Some found → (front : List ℕ) × (text ≡ front ++ found.1)
+    × IsPadding front found.0
 unfolding padding_at
 padding_at-some text found h =
-    let (opened, e1, h1) = bind_some (λ opened. option_and_then (λ inner. option_and_then padding_from (milliseconds_at inner)) (after_byte 60 opened)) (after_byte 36 text) found h in
+    let (opened, e1, h1) = bind_some (λ opened. option_and_then (λ inner. option_and_then padding_from (milliseconds_at inner)) (after_byte 60 opened))
+    (after_byte 36 text) found h in
     let (inner, e2, h2) = bind_some (λ inner. option_and_then padding_from (milliseconds_at inner)) (after_byte 60 opened) found h1 in
     let (whole, e3, h3) = bind_some padding_from (milliseconds_at inner) found h2 in
     let part = tenths_at whole.1 in
@@ -141,16 +153,31 @@ padding_at-some text found h =
     let (ts, spelled_ts, are_ts) = tenths_at-is whole.1 in
     let (ms, spelled_ms, are_ms) = marks_at-is part.1 in
     let spelled : text ≡ 36 ∷ (60 ∷ (ds ++ (ts ++ (ms ++ (62 ∷ rest))))) =
-    after_byte-some 36 text opened e1 ∙ ap (λ l. 36 ∷ l) (after_byte-some 60 opened inner e2 ∙ ap (λ l. 60 ∷ l) (spelled_ds ∙ ap (λ l. ds ++ l) (spelled_ts ∙ ap (λ l. ts ++ l) (spelled_ms ∙ ap (λ l. ms ++ l) (after_byte-some 62 marks.2 rest e4))))) in
+    after_byte-some 36 text opened e1 ∙ ap (λ l. 36 ∷ l) (after_byte-some 60 opened inner e2
+    ∙ ap (λ l. 60 ∷ l) (spelled_ds
+    ∙ ap (λ l. ds ++ l) (spelled_ts ∙ ap (λ l. ts ++ l) (spelled_ms ∙ ap (λ l. ms ++ l) (after_byte-some 62 marks.2 rest e4))))) in
     subst (λ (f : Padding × List ℕ). (front : List ℕ) × (text ≡ front ++ f.1) × IsPadding front f.0) same (
       36 ∷ (60 ∷ (ds ++ (ts ++ (ms ++ (62 ∷ []))))),
       spelled ∙ padding_text ds ts ms rest,
-      record { milliseconds = ds; tenths = ts; marks = ms; whole = whole.0; part = part.0; spelled = refl; are_milliseconds = are_ds; are_tenths = are_ts; are_marks = are_ms; time = refl },
+      record {
+        milliseconds = ds;
+        tenths = ts;
+        marks = ms;
+        whole = whole.0;
+        part = part.0;
+        spelled = refl;
+        are_milliseconds = are_ds;
+        are_tenths =
+            are_ts;
+        are_marks = are_ms;
+        time = refl;
+      },
     )
 
 -- ---- each padding is found
 
-no_digit_after : (tenths marks rest : List ℕ) (part : ℕ) (star' slash' : Bool) → AreTenths tenths part → AreMarks marks star' slash' → BeginsNoDigit (tenths ++ (marks ++ (62 ∷ rest)))
+no_digit_after : (tenths marks rest : List ℕ) (part : ℕ) (star' slash' : Bool) → AreTenths tenths part → AreMarks marks star' slash'
+    → BeginsNoDigit (tenths ++ (marks ++ (62 ∷ rest)))
 no_digit_after _ _ rest _ _ _ no_tenths no_mark = refl
 no_digit_after _ _ rest _ _ _ no_tenths star_alone = refl
 no_digit_after _ _ rest _ _ _ no_tenths slash_alone = refl
@@ -158,25 +185,29 @@ no_digit_after _ _ rest _ _ _ no_tenths star_slash = refl
 no_digit_after _ _ rest _ _ _ no_tenths slash_star = refl
 no_digit_after _ _ rest _ _ _ (some_tenths h) m = refl
 
-marks_at-found : (marks rest : List ℕ) (proportional mandatory : Bool) → AreMarks marks proportional mandatory → marks_at (marks ++ (62 ∷ rest)) ≡ (proportional, mandatory, 62 ∷ rest)
+marks_at-found : (marks rest : List ℕ) (proportional mandatory : Bool) → AreMarks marks proportional mandatory
+    → marks_at (marks ++ (62 ∷ rest)) ≡ (proportional, mandatory, 62 ∷ rest)
 marks_at-found _ rest _ _ no_mark = refl
 marks_at-found _ rest _ _ star_alone = refl
 marks_at-found _ rest _ _ slash_alone = refl
 marks_at-found _ rest _ _ star_slash = refl
 marks_at-found _ rest _ _ slash_star = refl
 
-tenths_at-found : (tenths marks rest : List ℕ) (part : ℕ) (proportional mandatory : Bool) → AreTenths tenths part → AreMarks marks proportional mandatory → tenths_at (tenths ++ (marks ++ (62 ∷ rest))) ≡ (part, marks ++ (62 ∷ rest))
+tenths_at-found : (tenths marks rest : List ℕ) (part : ℕ) (proportional mandatory : Bool) → AreTenths tenths part → AreMarks marks proportional mandatory
+    → tenths_at (tenths ++ (marks ++ (62 ∷ rest))) ≡ (part, marks ++ (62 ∷ rest))
 tenths_at-found _ _ rest _ _ _ no_tenths no_mark = refl
 tenths_at-found _ _ rest _ _ _ no_tenths star_alone = refl
 tenths_at-found _ _ rest _ _ _ no_tenths slash_alone = refl
 tenths_at-found _ _ rest _ _ _ no_tenths star_slash = refl
 tenths_at-found _ _ rest _ _ _ no_tenths slash_star = refl
-tenths_at-found _ marks rest _ _ _ (some_tenths {digit} h) m = ap (λ b. cond {A = ℕ × List ℕ} b (digit - 48, marks ++ (62 ∷ rest)) (0, 46 ∷ (digit ∷ (marks ++ (62 ∷ rest))))) h
+tenths_at-found _ marks rest _ _ _ (some_tenths {digit} h) m =
+    ap (λ b. cond {A = ℕ × List ℕ} b (digit - 48, marks ++ (62 ∷ rest)) (0, 46 ∷ (digit ∷ (marks ++ (62 ∷ rest))))) h
 
 not_none : (digits : List ℕ) → 0 < length digits → eqb (length digits) 0 ≡ false
 not_none digits some = grind (arith, nat_tests)
 
-milliseconds_at-found : (digits text : List ℕ) (number : ℕ) → AreMilliseconds digits number → BeginsNoDigit text → milliseconds_at (digits ++ text) ≡ Some (number, text)
+milliseconds_at-found : (digits text : List ℕ) (number : ℕ) → AreMilliseconds digits number → BeginsNoDigit text
+    → milliseconds_at (digits ++ text) ≡ Some (number, text)
 milliseconds_at-found digits text number h other =
     let long = digits_len-append 5 digits text h.digits h.few other in
     let some = h.some in
@@ -193,13 +224,15 @@ padding_at-found front rest padding h =
     let other = no_digit_after h.tenths h.marks rest h.part padding.proportional padding.mandatory h.are_tenths h.are_marks in
     ap (λ f. padding_at (f ++ rest)) h.spelled ∙ ap padding_at (sym (padding_text h.milliseconds h.tenths h.marks rest)) ∙
     ap (option_and_then padding_from) (milliseconds_at-found h.milliseconds tail h.whole h.are_milliseconds other) ∙
-    ap (λ (part : ℕ × List ℕ). padding_with (10 * h.whole + part.0) (marks_at part.1)) (tenths_at-found h.tenths h.marks rest h.part padding.proportional padding.mandatory h.are_tenths h.are_marks) ∙
+    ap (λ (part : ℕ × List ℕ). padding_with (10 * h.whole + part.0) (marks_at part.1))
+    (tenths_at-found h.tenths h.marks rest h.part padding.proportional padding.mandatory h.are_tenths h.are_marks) ∙
     ap (padding_with (10 * h.whole + h.part)) (marks_at-found h.marks rest padding.proportional padding.mandatory h.are_marks) ∙
     ap (λ time. padding_with time (padding.proportional, padding.mandatory, 62 ∷ rest)) (sym h.time)
 
 -- ---- steps of the loops over digits
 
-pub digits_len-next : (len : ℕ) (text : List ℕ) → len < 5 → len < length text → is_decimal_digit (get_or text len 0) ≡ true → digits_len (5 - len) (drop len text) ≡ suc (digits_len (5 - (len + 1)) (drop (len + 1) text))
+pub digits_len-next : (len : ℕ) (text : List ℕ) → len < 5 → len < length text → is_decimal_digit (get_or text len 0) ≡ true
+    → digits_len (5 - len) (drop len text) ≡ suc (digits_len (5 - (len + 1)) (drop (len + 1) text))
 digits_len-next len text few within decimal_value =
     let count : 5 - len ≡ suc (5 - (len + 1)) = omega arith in
     let front : drop len text ≡ get_or text len 0 ∷ drop (len + 1) text = rw add-one (drop-cons text len 0 within) in
@@ -210,7 +243,8 @@ decimal_from-push : (n : ℕ) (digits : List ℕ) (digit : ℕ) → decimal_from
 decimal_from-push n [] digit = refl
 decimal_from-push n (d ∷ ds) digit = decimal_from-push (10 * n + (d - 48)) ds digit
 
-pub decimal_value-next : (digits : List ℕ) (i : ℕ) → i < length digits → decimal_value (take (i + 1) digits) ≡ 10 * decimal_value (take i digits) + (get_or digits i 0 - 48)
+pub decimal_value-next : (digits : List ℕ) (i : ℕ) → i < length digits → decimal_value (take (i + 1) digits)
+    ≡ 10 * decimal_value (take i digits) + (get_or digits i 0 - 48)
 decimal_value-next digits i within =
     let digit = get_or digits i 0 in
     ap decimal_value (take_more digits i 0 within) ∙

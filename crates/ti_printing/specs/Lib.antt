@@ -1,3 +1,4 @@
+pub mod Delays
 pub mod inside
 pub mod Padding
 pub mod Printf

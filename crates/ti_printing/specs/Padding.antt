@@ -76,18 +76,22 @@ TextsHaveOneCut = (text : List ℕ) → HasOneCut text
 
 -- ---- the padded text
 
--- whether a padding is written as pad bytes: there is a pad byte, and the padding is mandatory or
--- the line wants it
-abbrev pub is_written : Line → Padding → Bool
-is_written line padding = is_some line.pad_byte && (padding.mandatory || (not line.xon && nat_le line.pad_from line.rate))
+-- whether the time of a padding is due: the padding is mandatory, or the line wants it
+abbrev pub is_due : Line → Padding → Bool
+is_due line padding = padding.mandatory || (not line.xon && nat_le line.pad_from line.rate)
 
 -- the time of a padding, in tenths of a millisecond
 abbrev pub time_of : ℕ → Padding → ℕ
 time_of lines padding = if padding.proportional then padding.tenths * lines else padding.tenths
 
--- how many pad bytes a padding is written as: what the line sends in its time, rounded up
+-- the time that is due at a padding, in tenths of a millisecond
+abbrev pub time_due : ℕ → Line → Padding → ℕ
+time_due lines line padding = if is_due line padding then time_of lines padding else 0
+
+-- how many pad bytes a padding is written as, if there is a pad byte: what the line sends in the
+-- time that is due, rounded up
 abbrev pub pad_count : ℕ → Line → Padding → ℕ
-pad_count lines line padding = if is_written line padding then div_ceil (time_of lines padding * line.rate) 100000 else 0
+pad_count lines line padding = if is_some line.pad_byte then div_ceil (time_due lines line padding * line.rate) 100000 else 0
 
 -- the text of the parts, with each padding as its pad bytes
 abbrev pub padded_parts : ℕ → Line → List Part → List ℕ

@@ -1,7 +1,7 @@
 //! Padding: a capability's string as bytes for the terminal, with pad bytes at the line's speed.
 ghost use Rattle.std.specs.Prelude.{◌≡◌, ◌+◌, ◌<◌, ◌≤◌, ◌++◌, ◌↔◌, length, IfOk, IfSome, SomeIff, MatchOption, vec_len, vec_capacity};
 ghost use Rattle.std.specs.Iterator.{YieldsFirst, item_count};
-ghost use Rattle.ti_printing.specs.Padding.{AsksForTooMuch, IsPadded, TextsHaveOneCut, delay_digits_max, pad_bytes_max, pad_count};
+ghost use Rattle.ti_printing.specs.Padding.{AsksForTooMuch, IsPadded, TextsHaveOneCut, delay_digits_max, pad_bytes_max, pad_count, time_due};
 ghost use Rattle.ti_printing.specs.inside.Padding.{parts_of, padding_at, padding_of, after_byte, digits_len, milliseconds_at, tenths_at, mark_at, marks_at, with_pad_bytes};
 
 use memchr::memchr;
@@ -97,7 +97,7 @@ fn pad_parts(alloc: Global, text: &[u8], lines: u32, line: &Line) -> Result<Vec<
 
 // A time, and when it is waited.
 #[derive(Clone, Copy)]
-struct Padding {
+pub(crate) struct Padding {
     // Tenths of a millisecond.
     tenths: u32,
     // `*`: the time is for each line.
@@ -180,22 +180,30 @@ fn write(out: &mut Vec<u8>, text: &[u8], lines: u32, line: &Line)
 fn pads_for(padding: Padding, lines: u32, line: &Line) -> u128
     ensures { result ≡ pad_count lines line.now padding }
 {
-    let wanted = padding.mandatory || (!line.xon && line.pad_from <= line.rate);
-    if line.pad_byte.is_none() || !wanted {
+    if line.pad_byte.is_none() {
         return 0;
     }
-    let each = u128::from(padding.tenths);
-    let time = if padding.proportional {
-        each * u128::from(lines)
-    } else {
-        each
-    };
-    (time * u128::from(line.rate)).div_ceil(100_000)
+    (u128::from(time_due(padding, lines, line)) * u128::from(line.rate)).div_ceil(100_000)
 }
 
-// The padding that the text begins with, and what follows it.
+/// The time that is due at a padding, in tenths of a millisecond; 0 if the line does not want it.
+pub(crate) fn time_due(padding: Padding, lines: u32, line: &Line) -> u64
+    ensures { result ≡ time_due lines line.now padding }
+{
+    if !padding.mandatory && (line.xon || line.rate < line.pad_from) {
+        return 0;
+    }
+    let each = u64::from(padding.tenths);
+    if padding.proportional {
+        each * u64::from(lines)
+    } else {
+        each
+    }
+}
+
+/// The padding that the text begins with, and what follows it.
 #[tactic(auto, unfolding(crate::specs::inside::Padding::padding_at))]
-fn padding_at(text: &[u8]) -> Option<(Padding, &[u8])>
+pub(crate) fn padding_at(text: &[u8]) -> Option<(Padding, &[u8])>
     ensures { MatchOption result (padding_at text.now ≡ None) (λ found. padding_at text.now ≡ Some (found.0, found.1.now)) }
 {
     let opened = after_byte(text, b'$')?;

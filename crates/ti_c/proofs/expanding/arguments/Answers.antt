@@ -43,10 +43,12 @@ loop-place-preserved c =
       given = λ at below.
           elim (cases_eq at place) [
             | inl same ↦
-                rw same (read place ∙ get_or-set_same (map argument_of values) place _ zero_number (omega arith) ∙ c.value_of.ensures ∙ there params place _ (omega arith))
+                rw same (read place ∙ get_or-set_same (map argument_of values) place _ zero_number (omega arith) ∙ c.value_of.ensures
+                ∙ there params place _ (omega arith))
             | inr other ↦ read at ∙ get_or-set_other (map argument_of values) place at _ zero_number other ∙ c.loop-place.invariant.given at (omega arith)
           ];
-      others = λ at from below. read at ∙ get_or-set_other (map argument_of values) place at _ zero_number (omega arith) ∙ c.loop-place.invariant.others at (omega arith) below;
+      others = λ at from below. read at ∙ get_or-set_other (map argument_of values) place at _ zero_number (omega arith)
+          ∙ c.loop-place.invariant.others at (omega arith) below;
     }
 
 pub returns : goal.returns

@@ -9,7 +9,10 @@ pub returns-in_err-from_slice-in-None-clause-too_much : goal.returns-in_err-from
 returns-in_err-from_slice-in-None-clause-too_much c =
     let p = err_from_is_err_and c.from_residual.result c.from_residual.ensures.1 in
     let none : padding_of c.args.text.now c.args.lines c.args.line.now ≡ 0 = padding_of-plain c.args.text.now c.args.lines c.args.line.now c.in-None.ensures in
-    padded_too_much c.args.text.now c.args.lines c.args.line.now (λ bad. absurd (let is = sym p.1 ∙ bad in let memory = p.2 in cc), λ many. absurd (omega arith))
+    padded_too_much c.args.text.now c.args.lines c.args.line.now (
+      λ bad. absurd (let is = sym p.1 ∙ bad in let memory = p.2 in cc),
+      λ many. absurd (omega arith),
+    )
 
 pub returns-in_ok-from_slice-in-None-clause-ok : goal.returns-in_ok-from_slice-in-None-clause-ok
 returns-in_ok-from_slice-in-None-clause-ok c =

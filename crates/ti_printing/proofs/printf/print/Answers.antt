@@ -15,6 +15,7 @@ returns-in_default c =
     let fits : FitsSigned w32 c.args.number = c.ranges.number in
     let number = simp to_z-of_z at c.print_number.ensures.ok in
     record {
-      ok = subst (λ text. OnOk c.print_number.result (c.print_number.new.out.items ≡ c.args.out.now.items ++ text)) (sym (printed_by-number d.conversion d c.args.number c.args.text.now c.in_default.not-Text)) number;
+      ok = subst (λ text. OnOk c.print_number.result (c.print_number.new.out.items ≡ c.args.out.now.items ++ text))
+          (sym (printed_by-number d.conversion d c.args.number c.args.text.now c.in_default.not-Text)) number;
       err = c.print_number.ensures.err;
     }

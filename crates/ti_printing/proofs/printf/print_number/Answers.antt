@@ -16,5 +16,6 @@ returns-clause-ok c =
     let front = simp to_z-of_z at c.front_of-front.ensures.value in
     let digits = c.zeros_before-zeros.ensures.value ∙ ap (digits_in d.conversion d.flags d.precision) shown in
     let e : parts_text l.before l.front.now l.zeros l.shown.now l.after ≡ printed_number d c.args.number =
-    c.arrange.ensures.parts ∙ ap (in_width d c.front_of-front.result.now) digits ∙ ap (λ f. in_width d f (digits_in d.conversion d.flags d.precision (numeral d.conversion c.args.number))) front in
+    c.arrange.ensures.parts ∙ ap (in_width d c.front_of-front.result.now) digits
+    ∙ ap (λ f. in_width d f (digits_in d.conversion d.flags d.precision (numeral d.conversion c.args.number))) front in
     subst (λ parts. OnOk c.push_parts.result (c.push_parts.new.out.items ≡ c.args.out.now.items ++ parts)) e c.push_parts.ensures.ok

@@ -22,7 +22,8 @@ loop-rest-preserved c =
     record {
       room = length-digits_of-next c.args.base loop.rest loop.at (omega arith) (omega arith) loop.invariant.room;
       bound = omega arith;
-      written = written-next c.args.base loop.rest loop.at c.args.upper loop.buffer _ c.glyph.result (omega arith) (omega arith) more (omega arith) c.glyph.ensures loop.invariant.written;
+      written = written-next c.args.base loop.rest loop.at c.args.upper loop.buffer _ c.glyph.result (omega arith) (omega arith) more
+          (omega arith) c.glyph.ensures loop.invariant.written;
     }
 
 pub returns-clause-plain : goal.returns-clause-plain

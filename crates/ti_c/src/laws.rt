@@ -1,0 +1,8 @@
+//! A law of the definitions on which the contracts of this crate depend. It computes nothing.
+ghost use Rattle.ti_c.specs.Ends.{StringsHaveAnEnd};
+
+/// The law by which a string of an entry is one of C too: in the bytes of an entry a NUL follows
+/// each string that it has.
+pub fn strings_have_an_end()
+    ensures { StringsHaveAnEnd }
+{}
