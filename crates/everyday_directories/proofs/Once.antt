@@ -70,7 +70,8 @@ pub kept_same : (listed now : List (List ℕ)) (d : List ℕ) (rest all : List (
     → Kept now rest all
 kept_same listed now d rest all held there same = rw same (sym (listed_before listed d rest there) ∙ held)
 
-pub kept_next : (listed now : List (List ℕ)) (d : List ℕ) (rest all : List (List ℕ)) → Kept listed (d ∷ rest) all → is_among d listed ≡ false → now ≡ listed ++ d ∷ []
+pub kept_next : (listed now : List (List ℕ)) (d : List ℕ) (rest all : List (List ℕ)) → Kept listed (d ∷ rest) all → is_among d listed ≡ false
+    → now ≡ listed ++ d ∷ []
     → Kept now rest all
 kept_next listed now d rest all held new same = rw same (sym (listed_next listed d rest new) ∙ held)
 
@@ -108,7 +109,8 @@ zero_more e = omega (arith, e)
 no_more : (d e : List ℕ) (xs : List (List ℕ)) → bytes_eq d e ≡ true → count_by (λ o. bytes_eq o e) (filter (λ o. not (bytes_eq d o)) xs) ≡ 0
 no_more d e [] same = refl
 no_more d e (x ∷ xs) same =
-    elim (bytes_eq d x) as (λ b. bytes_eq d x ≡ b → count_by (λ o. bytes_eq o e) (cond (not b) (x ∷ filter (λ o. not (bytes_eq d o)) xs) (filter (λ o. not (bytes_eq d o)) xs)) ≡ 0) [
+    elim (bytes_eq d x) as (λ b. bytes_eq d x ≡ b
+    → count_by (λ o. bytes_eq o e) (cond (not b) (x ∷ filter (λ o. not (bytes_eq d o)) xs) (filter (λ o. not (bytes_eq d o)) xs)) ≡ 0) [
       | true ↦ λ t. no_more d e xs same
       | false ↦ λ f. count-cons (λ o. bytes_eq o e) x (filter (λ o. not (bytes_eq d o)) xs) ∙ (rw (differs d e x same f) (zero_more (no_more d e xs same)))
     ] refl
@@ -124,7 +126,8 @@ at_most_once (d ∷ xs) e = subst (λ n. n ≤ 1) (sym (count-cons (λ o. bytes_
 still_among : (d e : List ℕ) (xs : List (List ℕ)) → bytes_eq d e ≡ false → is_among e (filter (λ o. not (bytes_eq d o)) xs) ≡ is_among e xs
 still_among d e [] other = refl
 still_among d e (x ∷ xs) other =
-    elim (bytes_eq d x) as (λ b. bytes_eq d x ≡ b → is_among e (cond (not b) (x ∷ filter (λ o. not (bytes_eq d o)) xs) (filter (λ o. not (bytes_eq d o)) xs)) ≡ (bytes_eq x e || is_among e xs)) [
+    elim (bytes_eq d x) as (λ b. bytes_eq d x ≡ b
+    → is_among e (cond (not b) (x ∷ filter (λ o. not (bytes_eq d o)) xs) (filter (λ o. not (bytes_eq d o)) xs)) ≡ (bytes_eq x e || is_among e xs)) [
       | true ↦ λ t. let is : d ≡ x = (bytes_eq-Decides d x).0 t in
           let no : bytes_eq x e ≡ false = ap (λ y. bytes_eq y e) (sym is) ∙ other in rw no (still_among d e xs other)
       | false ↦ λ f. ap (λ b. bytes_eq x e || b) (still_among d e xs other)

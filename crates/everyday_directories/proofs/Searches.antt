@@ -19,7 +19,8 @@ passed path (Some b) file later e is = absurd (cc e)
 quiet : (files : Files) (paths : List (List ℕ)) (n : ℕ) (file : Option FileAt) → Searches (Some files) paths n file → n ≡ 0 → file ≡ first_at files paths
 quiet files _ _ _ no_path z = refl
 quiet files _ _ _ (there {path} {bytes} {paths} e) z = here path bytes (files path) (first_at files paths) e
-quiet files _ _ _ (absent {path} {paths} {failures} {file} e later) z = passed path (files path) file (first_at files paths) e (quiet files paths failures file later z)
+quiet files _ _ _ (absent {path} {paths} {failures} {file} e later) z =
+    passed path (files path) file (first_at files paths) e (quiet files paths failures file later z)
 quiet files _ _ _ (failed later) z = absurd (cc z)
 
 pub finds_the_first : FindsTheFirst
@@ -28,7 +29,8 @@ finds_the_first files paths file h = quiet files paths 0 file h refl
 -- ---- one path after another
 
 -- a path with a file
-pub Finds-here : (files : Option Files) (path bytes : List ℕ) (paths : List (List ℕ)) (now new : ℕ) → FindsFile path front_size files (Some bytes) → new ≡ now + 0
+pub Finds-here : (files : Option Files) (path bytes : List ℕ) (paths : List (List ℕ)) (now new : ℕ) → FindsFile path front_size files (Some bytes)
+    → new ≡ now + 0
     → Finds files (path ∷ paths) now new (Some (path, bytes))
 Finds-here files path bytes paths now new e same = (0, same, there e)
 

@@ -11,14 +11,14 @@ use std::alloc::{AllocError, Global};
 
 // The directories of the system's entries, in order. Packages of Debian put entries into the last
 // two, and who runs the machine puts them into the first.
-const LOCAL_DIRECTORY: &str = "/etc/terminfo";
+pub(crate) const LOCAL_DIRECTORY: &str = "/etc/terminfo";
 
 const ESSENTIAL_DIRECTORY: &str = "/lib/terminfo";
 
 const SHARED_DIRECTORY: &str = "/usr/share/terminfo";
 
 // Where a user's own entries are below the home directory.
-const BELOW_HOME: &str = "/.terminfo";
+pub(crate) const BELOW_HOME: &str = "/.terminfo";
 
 // Adds a directory.
 fn add_directory(

@@ -10,6 +10,7 @@
 //!
 //! - `environment`: the variables that say where entries are (`Environment`)
 //! - `directories`: the directories in which an entry is looked for, in order (`entry_directories`)
+//! - `outputs`: the directory into which entries are written (`named_output`, `unnamed_output`)
 //! - `paths`: the files that may have the entry of a name (`entry_paths`)
 //! - `finding`: the first of them that there is (`find`, which gives a `Found`)
 //! - `reading`: the entry that its bytes are, with its user-defined capabilities (`read`)
@@ -20,11 +21,13 @@ mod directories;
 mod environment;
 mod finding;
 pub mod laws;
+mod outputs;
 mod paths;
 mod reading;
 
 pub use directories::entry_directories;
 pub use environment::Environment;
 pub use finding::{Found, find};
+pub use outputs::{SYSTEM_OUTPUT, named_output, unnamed_output};
 pub use paths::entry_paths;
 pub use reading::read;

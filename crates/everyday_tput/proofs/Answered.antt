@@ -1,5 +1,6 @@
 -- What is answered to a command.
-use Rattle.std.proofs.Common.{◌≡◌, ℕ, ◌<◌, ◌≤◌, Bool, true, false, ◌||◌, List, [], ◌∷◌, length, map, arith, Option, Some, None, Result, Ok, Err, refl, sym, ap, subst, inl, inr}
+use Rattle.std.proofs.Common.{◌≡◌, ℕ, ◌<◌, ◌≤◌, Bool, true, false, ◌||◌, List, [], ◌∷◌, length, map, arith, Option, Some, None, Result, Ok, Err, refl, sym}
+use Rattle.std.proofs.Common.{ap, subst, inl, inr}
 use Rattle.std.specs.Prelude.{⊤, codes, bytes_eq, option_map, is_some, ℤ, ◌⊎◌}
 use Rattle.ti_text.specs.Limits.{parameters_max}
 use Rattle.ti_caps.specs.Tables.{Capability, capability_named}
@@ -15,7 +16,8 @@ use Rattle.tools_tput.specs.Commands as of_profile
 use Rattle.tools_tput.specs.Entries.{line_at_rate}
 use Rattle.tools_tput.specs.Replies.{reply_of}
 use Rattle.tools_tput.specs.Results as results
-use Rattle.tools_tput.specs.Results.{AnswersCapability, AnswersContent, AnswersName, AnswersString, AnswersText, Reply, SendsAll, bad_reply, number_text, reply, all_sent, one_refused, of_longname, of_init, of_reset, of_capability, no_word, answered}
+use Rattle.tools_tput.specs.Results.{AnswersCapability, AnswersContent, AnswersName, AnswersString, AnswersText, Reply, SendsAll, bad_reply, number_text}
+use Rattle.tools_tput.specs.Results.{reply, all_sent, one_refused, of_longname, of_init, of_reset, of_capability, no_word, answered}
 use Rattle.tools_tput.specs.declared.replies.TputOutcome.{TputOutcome}
 use Rattle.everyday_tput.specs.Answers.{Answers, FullEntry, defined, defined_first, is_own_name, of_defined, of_tables, too_many}
 use Rattle.everyday_tput.specs.inside.Asked.{AnswersTo, HasNoTableText, HasTableText}
@@ -50,7 +52,8 @@ none_in_table e cap c own named = rw (own, named) refl
 
 -- a string of the tables
 pub table_text : (e : FullEntry) (rate : ℕ) (statics : List ℤ) (cap : List ℕ) (words : List (List ℕ)) (text : List ℕ) (answer : Reply) → HasTableText e cap text
-    → length words ≤ parameters_max → AnswersString (line_at_rate e.entry rate) cap words statics text answer → Answers e rate statics (cap ∷ words) (Some answer)
+    → length words ≤ parameters_max → AnswersString (line_at_rate e.entry rate) cap words statics text answer
+    → Answers e rate statics (cap ∷ words) (Some answer)
 table_text e rate statics cap words text answer has few is =
     let own = has.0 in
     let c = has.1 in
@@ -79,12 +82,14 @@ text_either e rate statics cap words text answer (inr own) few is = of_defined o
 abbrev moved : Reply → List ℤ → Reply
 moved r statics = reply r.bytes r.status statics
 
-moved_all : (line : Line) (texts : List (Option (List ℕ))) (s t : List ℤ) (answer : Reply) → SendsAll line texts s answer → SendsAll line texts t (moved answer t)
+moved_all : (line : Line) (texts : List (Option (List ℕ))) (s t : List ℤ) (answer : Reply) → SendsAll line texts s answer
+    → SendsAll line texts t (moved answer t)
 moved_all line texts s t _ (all_sent h) = all_sent h
 moved_all line texts s t _ (one_refused h) = one_refused h
 
 moved_content : (line : Line) (cap : List ℕ) (words : List (List ℕ)) (s t : List ℤ) (k : Kind) (content : Option Content) (answer : Reply)
-    → (k ≡ kinds.Text → shown_text content ≡ None) → AnswersContent line cap words s k content answer → AnswersContent line cap words t k content (moved answer t)
+    → (k ≡ kinds.Text → shown_text content ≡ None) → AnswersContent line cap words s k content answer
+    → AnswersContent line cap words t k content (moved answer t)
 moved_content line cap words s t kinds.Flag content answer none is = ap (λ r. moved r t) is
 moved_content line cap words s t kinds.Number content answer none is = ap (λ r. moved r t) is
 moved_content line cap words s t kinds.Text content answer none is =
@@ -122,7 +127,8 @@ moved_answers e rate s t _ _ none (results.too_many many) = results.too_many man
 moved_answers e rate s t _ _ none (answered {cap} {words} {answer} few name) = answered few (moved_name e rate cap words s t answer none name)
 
 pub other : (e : FullEntry) (rate : ℕ) (s t : List ℤ) (cap : List ℕ) (words : List (List ℕ)) (result : Result TputOutcome ToolError) → defined e cap ≡ None
-    → HasNoTableText e cap → length words ≤ parameters_max → of_profile.AnswersCommand e.entry rate s (cap ∷ words) result → AnswersTo e rate t (cap ∷ words) result t
+    → HasNoTableText e cap → length words ≤ parameters_max → of_profile.AnswersCommand e.entry rate s (cap ∷ words) result
+    → AnswersTo e rate t (cap ∷ words) result t
 other e rate s t cap words (Ok outcome) undefined none few is =
     of_tables undefined (moved_answers e rate s t (cap ∷ words) (Some (reply_of outcome is.0)) none is.1)
 other e rate s t cap words (Err Usage) undefined none few is = of_tables undefined (moved_answers e rate s t (cap ∷ words) None none is)

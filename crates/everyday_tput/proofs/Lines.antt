@@ -6,7 +6,8 @@ use Rattle.ti_layout.specs.View.{entry_seen}
 use Rattle.tools_devices.specs.Answering.{AllAnswered, LinesEnd}
 use Rattle.tools_devices.specs.Counted.{Observed}
 use Rattle.tools_devices.specs.declared.tool_error.ToolError.{ToolError}
-use Rattle.tools_devices.specs.declared.tool_error.ToolError.TheVariants.{Usage, NoTerminal, BadEntry, ReadFault, WriteFault, LineTooLong, BlockTooLong, TooManyBlocks, Memory}
+use Rattle.tools_devices.specs.declared.tool_error.ToolError.TheVariants.{Usage, NoTerminal, BadEntry, ReadFault, WriteFault, LineTooLong, BlockTooLong}
+use Rattle.tools_devices.specs.declared.tool_error.ToolError.TheVariants.{TooManyBlocks, Memory}
 use Rattle.tools_tput.specs.Entries.{line_at_rate}
 use Rattle.tools_tput.specs.Results.{Reply, bad_status}
 use Rattle.tools_tput.specs.Runs.{LineStep, RunState, bad_step, reply_step, run_status, words_of}
@@ -17,7 +18,8 @@ use Rattle.everyday_tput.specs.declared.terminal.Terminal.{Terminal}
 
 -- ---- one line
 
-command_taken : (e : FullEntry) (rate : ℕ) (state : RunState) (words : List (List ℕ)) (o : Option Reply) → 0 < length words → Answers e rate state.statics words o
+command_taken : (e : FullEntry) (rate : ℕ) (state : RunState) (words : List (List ℕ)) (o : Option Reply) → 0 < length words
+    → Answers e rate state.statics words o
     → TakesWords e rate state words (reply_step state o)
 command_taken e rate state [] o some is = absurd (omega arith)
 command_taken e rate state (word ∷ words) o some is = of_command is
@@ -34,7 +36,13 @@ module _ (e : FullEntry) (rate : ℕ) (state : RunState) (t : Terminal) (holds :
   module _ (line bytes : List ℕ) (words : List (List ℕ)) (are : words ≡ words_of line) where
     -- a line without words
     pub line-empty : length words ≡ 0 → bytes ≡ [] → LeadsTo e rate state line t bytes
-    line-empty none is = (record { after = state; bytes = [] }, subst (λ ws. TakesWords e rate state ws (record { after = state; bytes = [] })) are (empty words none), holds, is)
+    line-empty none is = (
+      record { after = state; bytes = [] },
+      subst (λ ws. TakesWords e rate state ws (record { after = state; bytes = [] })) are
+          (empty words none),
+      holds,
+      is,
+    )
       where
         empty : (ws : List (List ℕ)) → length ws ≡ 0 → TakesWords e rate state ws (record { after = state; bytes = [] })
         empty [] n = no_words
@@ -53,7 +61,8 @@ module _ (e : FullEntry) (rate : ℕ) (state : RunState) (t : Terminal) (holds :
             bad = omega arith;
           }
 
-      pub line-bad : (o : Option Reply) → reply_step state o ≡ bad_step state → Answers e rate state.statics words o → u.statics ≡ t.statics → u.bad ≡ min (t.bad + 1) 255
+      pub line-bad : (o : Option Reply) → reply_step state o ≡ bad_step state → Answers e rate state.statics words o → u.statics ≡ t.statics
+          → u.bad ≡ min (t.bad + 1) 255
           → bytes ≡ [] → LeadsTo e rate state line u bytes
       line-bad o bad is same more empty = (
         bad_step state,
@@ -66,7 +75,8 @@ module _ (e : FullEntry) (rate : ℕ) (state : RunState) (t : Terminal) (holds :
       status-bad r four = rw four refl
 
       -- any other line
-      pub line-good : (r : Reply) → r.status ≢ bad_status → Answers e rate state.statics words (Some r) → u.statics ≡ r.statics → u.bad ≡ t.bad → bytes ≡ r.bytes
+      pub line-good : (r : Reply) → r.status ≢ bad_status → Answers e rate state.statics words (Some r) → u.statics ≡ r.statics → u.bad ≡ t.bad
+          → bytes ≡ r.bytes
           → LeadsTo e rate state line u bytes
       line-good r other is same kept made =
           let step : LineStep = record { after = record { bad = state.bad; statics = r.statics }; bytes = r.bytes } in
@@ -85,7 +95,8 @@ module _ (e : FullEntry) (rate : ℕ) (state : RunState) (t : Terminal) (holds :
 
 -- ---- the end
 
-pub all_complete : (start : TerminalState) (t : Terminal) (given left before now : Observed) (status : ℕ) → AllAnswered line_leads 4096 start (IsInState t) given left before now
+pub all_complete : (start : TerminalState) (t : Terminal) (given left before now : Observed) (status : ℕ)
+    → AllAnswered line_leads 4096 start (IsInState t) given left before now
     → ((e : FullEntry) (rate : ℕ) (run : RunState) → HasRunState e rate t run → status ≡ run_status run.bad)
     → AllAnswered line_leads 4096 start (λ (end : TerminalState). status ≡ run_status end.run.bad) given left before now
 all_complete start t given left before now status a is = record {

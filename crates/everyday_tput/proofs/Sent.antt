@@ -12,7 +12,8 @@ use Rattle.tools_tput.specs.inside.Replies.{made_bytes}
 use Rattle.tools_tput.specs.inside.Results.{sent_reply}
 
 module _ (line : Line) (cap : List ℕ) (statics : List ℤ) (text : List ℕ) where
-  at_none : (words : List (List ℕ)) (answer : Reply) → length words ≡ 0 → Sends line text statics statics answer → AnswersString line cap words statics text answer
+  at_none : (words : List (List ℕ)) (answer : Reply) → length words ≡ 0 → Sends line text statics statics answer
+      → AnswersString line cap words statics text answer
   at_none [] answer none sends = as_it_stands sends
   at_none (word ∷ words) answer none sends = absurd (omega arith)
 
@@ -23,7 +24,8 @@ module _ (line : Line) (cap : List ℕ) (statics : List ℤ) (text : List ℕ) w
   as_it_is r words none sends = IfOk-weaker r _ _ (λ made is. at_none words _ none is) sends
 
   -- with words
-  pub of_expansion : (words : List (List ℕ)) (output : List ℕ) (after : List ℤ) (answer : Reply) → 0 < length words → Expands text (parameters cap words) statics output after
+  pub of_expansion : (words : List (List ℕ)) (output : List ℕ) (after : List ℤ) (answer : Reply) → 0 < length words
+      → Expands text (parameters cap words) statics output after
       → Sends line output statics after answer → AnswersString line cap words statics text answer
   of_expansion [] output after answer some expands sends = absurd (omega arith)
   of_expansion (word ∷ words) output after answer some expands sends = by_expansion expands sends

@@ -6,7 +6,7 @@
 //!
 //! - `entry`: an entry with its user-defined capabilities (`Entry`)
 //! - `commands`: what one command is answered (`tput`); `asked`: what a name asks for; `strings`:
-//!   what is sent for a string, with the words after its name, which `parameters` reads
+//!   what is sent for a string, with the words after its name
 //! - `streaming`: commands read line by line (`tput_lines`); `terminal` takes them, and `words`
 //!   splits a line
 #![tactic(auto)]
@@ -14,7 +14,6 @@
 mod asked;
 mod commands;
 mod entry;
-mod parameters;
 mod streaming;
 mod strings;
 mod terminal;

@@ -4,9 +4,9 @@ ghost use Rattle.tools_tput.specs.Results.{AnswersString, Sends};
 ghost use Rattle.tools_tput.specs.inside.Results.{sent_reply};
 ghost use Rattle.tools_tput.specs.inside.Replies.{made_bytes};
 
-use crate::parameters::parameters;
 use std::alloc::{AllocError, Global};
 use ti_param::{Line, PadError, ParamError, Statics, expand, pad, pad_owned};
+use tools_tput::parameters_of;
 
 // A string padded for one line; `None` if that is too much padding.
 fn pad_once(alloc: Global, text: &[u8], line: &Line) -> Result<Option<Vec<u8>>, AllocError>
@@ -53,7 +53,7 @@ pub fn string(
         return pad_once(alloc, text, line);
     }
     let mut after = *statics;
-    match expand(alloc, text, &parameters(cap, words), &mut after) {
+    match expand(alloc, text, &parameters_of(cap, words), &mut after) {
         Ok(output) => {
             let made = pad_output(alloc, output, line)?;
             if made.is_some() {

@@ -2,6 +2,7 @@
 //! the product.
 //!
 //! - `directories`: where an entry is looked for, what is found, and what its bytes are
+//! - `outputs`: the directory into which entries are written
 //! - `commands`: commands of `tput` on an entry with user-defined capabilities, and lines of them
 #![tactic(auto)]
 
@@ -9,3 +10,5 @@
 mod commands;
 #[cfg(test)]
 mod directories;
+#[cfg(test)]
+mod outputs;

@@ -1,5 +1,6 @@
 //! Worked commands, with answers from tput(1) and by hand.
 mod lines;
+mod parameters;
 mod places;
 
 use std::alloc::{AllocError, Global};

@@ -26,7 +26,8 @@ loop-path-preserved g c =
     let from = paths-from string_bytes c.args.paths.now c.loop-path.path-index c.path-item.result (search rules) c.path-item.is in
     elim c.match-read.branch [
       | in-Ok-None w ↦
-          (let at : FindsFile path front_size files None = rw (c.as_str.ensures.value, c.loop-path.invariant.kept, w.in-Ok-None.field-0-is) at w.in-Ok-None.ensures.found in
+          (let at : FindsFile path front_size files None = rw (c.as_str.ensures.value, c.loop-path.invariant.kept, w.in-Ok-None.field-0-is) at
+          w.in-Ok-None.ensures.found in
           let counted : g.T.Tree.failures c.read.new.self ≡ g.T.Tree.failures c.loop-path.tree + 0 = search rules in
           record {
             rest = λ after file later. c.loop-path.invariant.rest after file (rw from (Finds-absent files path _ _ _ after file at counted later));

@@ -22,7 +22,7 @@ returns-after-is_some-clause-string c =
     let some : 0 < length words = omega (arith, length-map c.args.words.now (λ (word : Bor (List ℕ)). word.now)) in
     let after = c.expand.new.statics in
     let made = c.in_ok-made-in-Ok.made in
-    let expands = rw c.parameters.ensures at c.in-Ok.ensures.ok in
+    let expands = rw c.parameters_of.ensures at c.in-Ok.ensures.ok in
     let is : AnswersString c.args.line.now c.args.cap.now words c.args.statics.now c.args.text.now (sent_reply (made_bytes made) c.args.statics.now after) =
     of_expansion c.args.line.now c.args.cap.now c.args.statics.now c.args.text.now words c.in-Ok.output.items after _ some expands
     (c.in_ok-made-in-Ok.ensures c.args.statics.now after) in
@@ -49,4 +49,4 @@ returns-in-Err-StackFull-clause-string c =
     let few : 0 < length c.args.words.now = search rules in
     let some : 0 < length words = omega (arith, length-map c.args.words.now (λ (word : Bor (List ℕ)). word.now)) in
     of_overflow c.args.line.now c.args.cap.now c.args.statics.now c.args.text.now words c.in-Err-StackFull.field-0-0 some
-    (rw c.parameters.ensures at ((rw c.in-Err-StackFull.field-0-is at (c.in-Err-StackFull.ensures.stack_full c.in-Err-StackFull.field-0-0)) refl))
+    (rw c.parameters_of.ensures at ((rw c.in-Err-StackFull.field-0-is at (c.in-Err-StackFull.ensures.stack_full c.in-Err-StackFull.field-0-0)) refl))

@@ -10,5 +10,6 @@ unfolding words_of
 returns c = map_from_collect _ c.collect.ensures.ran
     (YieldsList-from_filter _ has_bytes
     (YieldsList-at c.filter.ensures.source
-    (YieldsList-from_slice_split _ is_white_space c.args.line.now c.split.ensures.rest c.split.ensures.done c.split.ensures.closure (λ x r q k. search (rules, tests))))
+    (YieldsList-from_slice_split _ is_white_space c.args.line.now c.split.ensures.rest c.split.ensures.done c.split.ensures.closure
+    (λ x r q k. search (rules, tests))))
     c.filter.ensures.closure (λ x r q k. search (rules, tests)))

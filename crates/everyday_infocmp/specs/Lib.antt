@@ -1,0 +1,8 @@
+-- The definitions that the contracts of this crate cite.
+pub mod Directories
+pub mod Entries
+pub mod Listings
+pub mod Names
+pub mod PlainListings
+pub mod Reading
+pub mod Tool

@@ -1,0 +1,5 @@
+-- Lemmas of this crate.
+pub mod Appending
+pub mod LineStarting
+pub mod Placing
+pub mod Writing

@@ -1,0 +1,20 @@
+//! What is said of a source on standard error: a line for each fault, in the form of GNU's
+//! compilers.
+//!
+//! ```text
+//! mine.ti:4:9: error: cols: This is not a number. .. [E3 BadNumber]
+//! ```
+//!
+//! - `report`: the lines (`write_said`, `write_faults`)
+//! - `sentences`: what is said of a fault
+//! - `places`: the column of each fault, at the part of its block that it is of
+//! - `columns`: columns of a text
+#![tactic(auto)]
+
+mod columns;
+mod places;
+mod report;
+mod sentences;
+
+pub use report::{Place, append_parts, write_faults, write_said};
+pub use sentences::{BAD_USER_DEFINED, BLOCK_TOO_LONG, TOO_MANY_BLOCKS, TOO_MANY_NAMES, sentence};

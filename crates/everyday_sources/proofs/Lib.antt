@@ -1,0 +1,5 @@
+-- Lemmas of this crate.
+pub mod Appending
+pub mod Finding
+pub mod Returns
+pub mod Taking

@@ -1,0 +1,14 @@
+use Rattle.std.proofs.Common.{Ok, Err, refl}
+use Rattle.everyday_sources.proofs.Taking.{if_ok_weaker}
+use Rattle.everyday_sources.proofs.used.take.Goals as goal
+
+pub returns-in-Listing : goal.returns-in-Listing
+returns-in-Listing c =
+    let gives = rw (c.as_slice.ensures.value, c.in-Listing.is) at c.in_ok-listing.ensures in
+    if_ok_weaker c.put_in.result (λ problem puts.
+    rw c.in-Some.is (Ok c.in-Listing.listing.items, gives, rw c.as_slice-in-Listing.ensures.value at puts)) c.put_in.ensures
+
+pub returns : goal.returns
+returns c =
+    let gives = rw (c.as_slice.ensures.value, c.in-Refused.is) at c.in_ok-listing.ensures in
+    rw c.in-Some.is (Err c.in-Refused.cause, gives, (refl, refl))

@@ -1,0 +1,86 @@
+-- Compiling a source.
+use Rattle.std.proofs.Common.{◌≡◌, ◌+◌, ◌<◌, ◌≤◌, ℕ, List, [], ◌∷◌, ◌++◌, All, drop, map, length, get_or, sym, subst, ap, ◌∙◌, append_assoc, append-nil, arith}
+use Rattle.std.proofs.Common.{Option, Result, Ok, Err, inr}
+use Rattle.std.specs.Prelude.{IfOk}
+use Rattle.std.proofs.lemmas.List.{drop_all, length-append}
+use Rattle.std.proofs.lemmas.List.Elements.{All-map}
+use Rattle.std.proofs.lemmas.Slice.Zip.{AllZip-long}
+use Rattle.base_meaning.specs.Faults.{SourceFault}
+use Rattle.base_meaning.specs.Usable.{IsPlaced}
+use Rattle.user_compiling.specs.Entries.{AreStates, IsStateOf, state_seen}
+use Rattle.user_compiling.specs.Faults.{of_profile}
+use Rattle.user_compiling.specs.Report.{IsExtendedPlaced}
+use Rattle.user_compiling.specs.declared.compiled.Compiled.{Compiled}
+use Rattle.tools_devices.specs.Tree.{Files}
+use Rattle.tools_sources.specs.Sources.{AreTaken, first_line, source_texts}
+use Rattle.everyday_sources.proofs.Finding.{left}
+use Rattle.everyday_sources.specs.Source.{plain_source}
+use Rattle.everyday_sources.specs.Used.{ProblemSeen, TakesUsed, problem_seen}
+use Rattle.everyday_sources.specs.declared.problem.Problem.{Problem}
+use Rattle.everyday_tic.specs.Outcomes.{Asked, Comes, ComesOf, ComesOfPlain, made_of}
+use Rattle.everyday_tic.specs.declared.options.TicOutcome.{TicOutcome}
+
+-- something becomes of each block
+pub as_many : (texts : List (List ℕ)) (compiled : List Compiled) → AreStates texts (map state_seen compiled) → length (map state_seen compiled) ≡ length texts
+as_many texts compiled states = AllZip-long (IsStateOf texts) texts (map state_seen compiled) states
+
+module _ {X Y Z : Type 0} (see : X → Y) (f : Y → Z) where
+  -- after one was appended, what is still to come is as it was
+  pub one_appended : (xs : List X) (i : ℕ) (x : X) (before after all : List Z) → i < length xs → x ≡ get_or xs i x → after ≡ before ++ f (see x) ∷ []
+      → before ++ map f (map see (drop i xs)) ≡ all → after ++ map f (map see (drop (i + 1) xs)) ≡ all
+  one_appended xs i x before after all low is appended so_far =
+      rw (appended, append_assoc) (ap (λ (ys : List X). before ++ map f (map see ys)) (sym (left xs i x low is)) ∙ so_far)
+
+  -- after the last, all is there
+  pub all_appended : (xs : List X) (i : ℕ) (before all : List Z) → length xs ≤ i → before ++ map f (map see (drop i xs)) ≡ all → before ≡ all
+  all_appended xs i before all past so_far =
+      sym (append-nil before) ∙ ap (λ (ys : List X). before ++ map f (map see ys)) (sym (drop_all i xs past)) ∙ so_far
+
+-- the faults of the profile are where they may be
+pub profile_placed : (count : ℕ) (faults : List SourceFault) → All (IsPlaced count) faults → All (IsExtendedPlaced count) (map of_profile faults)
+profile_placed count faults placed = All-map (IsExtendedPlaced count) of_profile faults placed
+
+-- ---- what comes of a source
+
+-- the blocks of a source are no more than with others after them
+pub within_all : (texts last others : List (List ℕ)) (count : ℕ) → last ≡ texts ++ others → count ≡ length texts → count ≤ length last
+within_all texts last others count is same = omega (arith, ap length is, length-append texts others)
+
+module _ {E : Type 0} (asked : Asked) (files : Option Files) (directories : List (List ℕ)) (file : List ℕ) where
+  -- of blocks, by what is found for them
+  pub comes_of_all : (first count : ℕ) (texts last : List (List ℕ)) (before after : ℕ) (found problems : List Problem) (result : Result TicOutcome E)
+      → count ≡ length texts → found ≡ problems → TakesUsed asked.user_defined files directories texts before after last (map problem_seen problems)
+      → IfOk result (λ outcome. ComesOf asked file first last count (map problem_seen found) (made_of outcome))
+      → IfOk result (λ outcome. (ts : List (List ℕ)) × (ps : List ProblemSeen) × TakesUsed asked.user_defined files directories texts before after ts ps
+      × ComesOf asked file first ts (length texts) ps (made_of outcome))
+  comes_of_all first count texts last before after found problems (Ok outcome) many same taken h = (
+    last,
+    map problem_seen problems,
+    taken,
+    subst (λ (n : ℕ). ComesOf asked file first last n (map problem_seen problems) (made_of outcome)) many
+        (subst (λ (ps : List Problem). ComesOf asked file first last count (map problem_seen ps) (made_of outcome)) same h),
+  )
+  comes_of_all first count texts last before after found problems (Err e) many same taken h = tt
+
+  -- of a source that a database takes
+  pub plain_comes : (source : List ℕ) (before after first : ℕ) (texts : List (List ℕ)) (result : Result TicOutcome E)
+      → texts ≡ source_texts source → AreTaken (source_texts source) → first ≡ first_line source
+      → IfOk result (λ outcome. (ts : List (List ℕ)) × (ps : List ProblemSeen) × TakesUsed asked.user_defined files directories texts before after ts ps
+      × ComesOf asked file first ts (length texts) ps (made_of outcome))
+      → IfOk result (λ outcome. ComesOfPlain asked files directories file source before after (made_of outcome))
+  plain_comes source before after first texts (Ok outcome) held taken number h =
+      let by_texts = subst (λ (xs : List (List ℕ)). (ts : List (List ℕ)) × (ps : List ProblemSeen)
+      × TakesUsed asked.user_defined files directories xs before after ts ps × ComesOf asked file first ts (length xs) ps (made_of outcome)) held h in
+      let by_line = subst (λ (n : ℕ). (ts : List (List ℕ)) × (ps : List ProblemSeen)
+      × TakesUsed asked.user_defined files directories (source_texts source) before after ts ps
+      × ComesOf asked file n ts (length (source_texts source)) ps (made_of outcome)) number by_texts in
+      inr (taken, by_line.0, by_line.1, by_line.2, by_line.3)
+  plain_comes source before after first texts (Err e) held taken number h = tt
+
+  -- of a source as it is read
+  pub read_plain : (source text : List ℕ) (before after : ℕ) (result : Result TicOutcome E) → text ≡ plain_source source
+      → IfOk result (λ outcome. ComesOfPlain asked files directories file text before after (made_of outcome))
+      → IfOk result (Comes asked files directories file source before after)
+  read_plain source text before after (Ok outcome) is h =
+      subst (λ (t : List ℕ). ComesOfPlain asked files directories file t before after (made_of outcome)) is h
+  read_plain source text before after (Err e) is h = tt

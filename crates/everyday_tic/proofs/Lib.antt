@@ -1,0 +1,5 @@
+-- Lemmas of this crate.
+pub mod Becoming
+pub mod Filing
+pub mod Stopping
+pub mod Winning

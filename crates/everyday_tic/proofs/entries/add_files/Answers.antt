@@ -1,0 +1,12 @@
+use Rattle.std.proofs.Common.{map}
+use Rattle.std.specs.Rc.{rc_slice_items}
+use Rattle.everyday_tic.specs.inside.Names.{IsAsciiName}
+use Rattle.everyday_tic.proofs.Filing.{holds_once}
+use Rattle.everyday_tic.proofs.entries.add_files.Goals as goal
+
+pub push_file-requires : goal.push_file-requires
+push_file-requires c =
+    let each = rw (← c.deref-name-items.ensures.value) at c.in_ok-once.ensures in
+    holds_once IsAsciiName (λ name. rc_slice_items name.now) c.deref-name-items.result.now c.loop-name.name-index c.name-item.result
+    c.as_slice-name.result.now (map rc_slice_items c.args.names.now)
+    c.loop-name-test.true c.name-item.is c.as_slice-name.ensures.value each c.requires

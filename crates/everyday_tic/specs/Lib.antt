@@ -1,0 +1,7 @@
+-- The definitions that the contracts of this crate cite.
+pub mod Entries
+pub mod Laws
+pub mod Messages
+pub mod Outcomes
+pub mod Writing
+pub mod inside

@@ -1,0 +1,122 @@
+-- What `ti-tic` makes of a source (tic(1)): files, what is said on standard error, and a status.
+use Rattle.std.specs.Prelude.{◌≡◌, ◌⊎◌, ℕ, ◌+◌, ◌≤◌, ◌==◌, ◌||◌, Bool, true, false, not, List, [], ◌++◌, length, map, codes, Option, Some, None, if◌then◌else◌}
+use Rattle.std.specs.List.{flat_map}
+use Rattle.base_meaning.specs.Compiled.{EntryState}
+use Rattle.base_meaning.specs.Faults.{faults}
+use Rattle.base_meaning.specs.Owner.{readings}
+use Rattle.base_meaning.specs.Report.{lines_before}
+use Rattle.tools_devices.specs.Placing.{entries}
+use Rattle.tools_devices.specs.Tree.{FileAt, Files}
+use Rattle.tools_sources.specs.Sources.{AreTaken, IsSourceRefusal, first_line, source_texts}
+use Rattle.tools_sources.specs.declared.source_error.SourceError.{SourceError}
+use Rattle.tools_sources.specs.declared.source_error.SourceError.TheVariants.{BlockTooLong, TooManyBlocks}
+use Rattle.user_compiling.specs.Faults.{ExtendedSourceFault, extended_faults, of_profile}
+use Rattle.user_values.specs.Limit.{IsOverLimitAt, name_count, name_limit}
+use Rattle.everyday_tic.specs.Entries.{AreStatesBy, entry_count, first_files}
+use Rattle.everyday_tic.specs.Messages.{problem_line, unknown_lines}
+use Rattle.everyday_report.specs.Report.{At, fault_lines, has_error, said}
+use Rattle.everyday_report.specs.Sentences.{block_too_long, too_many_blocks, too_many_names}
+use Rattle.everyday_sources.specs.Source.{plain_source}
+use Rattle.everyday_sources.specs.Used.{ProblemSeen, TakesUsed}
+use Rattle.everyday_tic.specs.declared.options.TicOptions.{TicOptions}
+use Rattle.everyday_tic.specs.declared.options.TicOutcome.{TicOutcome}
+use Rattle.std.specs.Option.{option_map}
+
+-- what is asked for, as plain data: whether user-defined capabilities are kept, whether the source is
+-- only checked, which entries are written, and below which directory
+pub record Asked : Type 0 where
+  pub user_defined : Bool
+  pub check : Bool
+  pub entries : Option (List ℕ)
+  pub directory : List ℕ
+
+-- options in memory, as plain data
+abbrev pub asked_of : TicOptions → Asked
+asked_of options = record {
+  user_defined = options.user_defined;
+  check = options.check;
+  entries = option_map (λ e. e.now) options.entries;
+  directory = options.directory.now;
+}
+
+-- what comes of a source, as plain data
+pub record Made : Type 0 where
+  pub files : List FileAt
+  pub entries : ℕ
+  pub report : List ℕ
+  pub status : ℕ
+
+-- an outcome in memory, as plain data
+abbrev pub made_of : TicOutcome → Made
+made_of outcome = record {
+  files = entries outcome.files.items;
+  entries = outcome.entries;
+  report = outcome.report.items;
+  status = outcome.status;
+}
+
+-- ---- a source that is not compiled
+
+-- what comes of it: a line, with a sentence and a word in brackets
+abbrev pub refusal : List ℕ → ℕ → List ℕ → List ℕ → Made
+refusal file line sentence word = record {
+  files = [];
+  entries = 0;
+  report = said (record { file = file; line = line; column = 1 }) true None sentence word;
+  status = 1;
+}
+
+-- of a source that no database takes
+abbrev pub refusal_of : List ℕ → SourceError → Made
+refusal_of file (BlockTooLong line) = refusal file line block_too_long (codes "BlockTooLong")
+refusal_of file (TooManyBlocks line) = refusal file line too_many_blocks (codes "TooManyBlocks")
+
+-- of one with one user-defined name too many, which is in the block at that position
+abbrev pub names_refusal : List ℕ → ℕ → List (List ℕ) → ℕ → Made
+names_refusal file first texts at = refusal file (first + lines_before texts at) too_many_names (codes "TooManyNames")
+
+-- ---- a source that is compiled
+
+-- its faults: those of `user_compiling` if user-defined capabilities are kept, else those of the
+-- profile
+abbrev pub faults_by : Bool → List (List ℕ) → List EntryState → List ExtendedSourceFault
+faults_by true texts states = extended_faults texts states
+faults_by false texts states = map of_profile (faults (readings texts))
+
+-- what is said before its faults: of the files that were found, and of names that no block has
+abbrev pub front_lines : Asked → List (List ℕ) → ℕ → List ProblemSeen → List ℕ
+front_lines asked texts count problems = flat_map problem_line problems ++ unknown_lines texts count asked.entries
+
+-- what comes of the first blocks of these, of that many; the others are installed entries
+abbrev pub compilation : Asked → List ℕ → ℕ → List (List ℕ) → ℕ → List EntryState → List ProblemSeen → Made
+compilation asked file first texts count states problems = record {
+  files = if asked.check then [] else first_files asked.directory asked.entries texts states count;
+  entries = if asked.check then 0 else entry_count asked.directory asked.entries texts states count;
+  report = front_lines asked texts count problems ++ fault_lines file texts first count (faults_by asked.user_defined texts states);
+  status = if not (length (front_lines asked texts count problems) == 0) || has_error count (faults_by asked.user_defined texts states) then 1 else 0;
+}
+
+-- there are at most as many user-defined names as may be, if they are kept
+abbrev pub FewNames : Bool → List (List ℕ) → Type 0
+FewNames user_defined texts = user_defined ≡ true → name_count texts (length texts) ≤ name_limit
+
+-- The same of a source with the entries that it uses after it: it has one user-defined name too
+-- many, or each block becomes something.
+abbrev pub ComesOf : Asked → List ℕ → ℕ → List (List ℕ) → ℕ → List ProblemSeen → Made → Type 0
+ComesOf asked file first texts count problems made =
+    ((asked.user_defined ≡ true) × (at : ℕ) × IsOverLimitAt texts at × (made ≡ names_refusal file first texts at))
+    ⊎ (FewNames asked.user_defined texts
+    × (states : List EntryState) × AreStatesBy asked.user_defined texts states × (made ≡ compilation asked file first texts count states problems))
+
+-- what comes of a source without a mark and without CR LF, by the files of the tree and how often it
+-- failed before and after
+abbrev pub ComesOfPlain : Asked → Option Files → List (List ℕ) → List ℕ → List ℕ → ℕ → ℕ → Made → Type 0
+ComesOfPlain asked files directories file source before after made =
+    ((error : SourceError) × IsSourceRefusal source error × (after ≡ before) × (made ≡ refusal_of file error))
+    ⊎ (AreTaken (source_texts source) × (texts : List (List ℕ)) × (problems : List ProblemSeen)
+    × TakesUsed asked.user_defined files directories (source_texts source) before after texts problems
+    × ComesOf asked file (first_line source) texts (length (source_texts source)) problems made)
+
+-- what comes of a source
+abbrev pub Comes : Asked → Option Files → List (List ℕ) → List ℕ → List ℕ → ℕ → ℕ → TicOutcome → Type 0
+Comes asked files directories file source before after outcome = ComesOfPlain asked files directories file (plain_source source) before after (made_of outcome)

@@ -1,0 +1,31 @@
+//! What `ti-tic` does (tic(1)): a source is compiled, with installed entries for the names that its
+//! items use, with the entries that are chosen, and with user-defined capabilities if they are
+//! wanted.
+//!
+//! ```text
+//! let options = TicOptions { user_defined: true, check: false, entries: None, directory: "out" };
+//! let outcome = tic(alloc, &mut tree, &directories, "mine.ti", source, &options)?;
+//! ```
+//!
+//! - `options`: how a source is compiled (`TicOptions`), and what comes of it (`TicOutcome`)
+//! - `entries`: the files of the entries
+//! - `messages`: what is said of files and of names that were asked for
+//! - `compiling`: what comes of a source (`tic`)
+//! - `laws`: a block of the source keeps its names, whatever is installed
+//! - `writing`: what is written of it (`write`), and the line of `-s` (`summary`); `run` does both
+//!
+//! The crate `everyday_sources` has the source as it is taken: without what other systems put into
+//! it, and with the installed entries that it uses; `everyday_report` what is said of its faults.
+#![tactic(auto)]
+
+mod compiling;
+mod entries;
+pub mod laws;
+mod messages;
+mod options;
+mod writing;
+
+pub use compiling::tic;
+pub use everyday_sources::{Cause, Problem, plain};
+pub use options::{TicOptions, TicOutcome};
+pub use writing::{TicStop, run, summary, write};

@@ -1,0 +1,5 @@
+pub mod Added
+pub mod Asked
+pub mod Choices
+pub mod Rates
+pub mod Widths

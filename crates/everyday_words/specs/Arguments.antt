@@ -1,0 +1,75 @@
+-- What the words of a command line ask of a tool: what the matches of clap for the words mean, or
+-- what is wrong with them. (tic(1), infocmp(1), tput(1); the messages are own)
+use Rattle.std.specs.Prelude.{◌≡◌, ◌≢◌, ◌⊎◌, ℕ, ◌++◌, List, [], codes, true, Result, Ok, Err}
+use Rattle.std.specs.String.{string_bytes}
+use Rattle.clap.specs.Faults.{fault_of}
+use Rattle.clap.specs.Kinds.{IsAmong}
+use Rattle.clap.specs.Simple.{App, matches_of}
+use Rattle.clap.specs.Takes.{takes}
+use Rattle.clap.specs.Walk.{Row, Text}
+use Rattle.clap.specs.declared.error.kind.ErrorKind.{ErrorKind}
+use Rattle.clap.specs.declared.error.kind.ErrorKind.TheVariants.{DisplayHelp, DisplayVersion, OutOfMemory}
+use Rattle.tools_commands.specs.Mistakes.{mistake_text}
+use Rattle.tools_commands.specs.declared.mistakes.Mistake.{Mistake}
+use Rattle.everyday_words.specs.Commands.{OfTool}
+use Rattle.everyday_words.specs.InfocmpWords.{infocmp_asked}
+use Rattle.everyday_words.specs.Names.{shown_name}
+use Rattle.everyday_words.specs.Requests.{Wanted, wanted_of, wants_tic}
+use Rattle.everyday_words.specs.TicWords.{tic_asked}
+use Rattle.everyday_words.specs.TputWords.{tput_asked}
+use Rattle.everyday_words.specs.declared.arguments.Refusal.{Refusal}
+use Rattle.everyday_words.specs.declared.arguments.Refusal.TheVariants.{Usage, Text as Shown, Memory}
+use Rattle.everyday_words.specs.declared.names.Tool.{Tool}
+use Rattle.everyday_words.specs.declared.names.Tool.TheVariants as tool
+use Rattle.everyday_words.specs.declared.requests.Request.{Request}
+
+-- what words ask for, or what is wrong with them
+abbrev pub Asked : Type 0
+Asked = Result Wanted Mistake
+
+-- what is asked of a tool with these matches
+abbrev pub asked_by : Tool → List Row → Asked
+asked_by tool.Tic rows = Ok (wants_tic (tic_asked rows))
+asked_by tool.Infocmp rows = infocmp_asked rows
+asked_by tool.Tput rows = tput_asked rows
+
+-- what the words ask of a tool, by its command line
+abbrev pub asked_of : Tool → App → List Text → Asked
+asked_of t app words = asked_by t (matches_of app words)
+
+-- this is what the words ask for by a command line, in which clap's definition finds no fault
+abbrev pub IsRequestOf : Tool → List Text → Request → App → Type 0
+IsRequestOf t words request app = (asked_of t app words ≡ Ok (wanted_of request)) × (fault_of app words ≡ [])
+
+-- the words ask for this by a command line, and clap's definition takes them
+abbrev pub TakesAs : Tool → List Text → Wanted → App → Type 0
+TakesAs t words wanted app = (asked_of t app words ≡ Ok wanted) × (takes app words ≡ true)
+
+-- ---- refusals
+
+-- what a fault of this kind, which clap finds, is to the program: the help and the version are
+-- shown, and any other fault but that of memory is bad usage
+abbrev pub IsSaidOf : ErrorKind → Refusal → Type 0
+IsSaidOf kind (Usage said) = (kind ≢ DisplayHelp) × (kind ≢ DisplayVersion) × (kind ≢ OutOfMemory)
+IsSaidOf kind (Shown text) = (kind ≡ DisplayHelp) ⊎ (kind ≡ DisplayVersion)
+IsSaidOf kind Memory = kind ≡ OutOfMemory
+
+-- the line that standard error shows of a mistake
+abbrev pub usage_line : Tool → Mistake → List ℕ
+usage_line t wrong = shown_name t ++ codes ": bad usage: " ++ mistake_text wrong ++ codes "\n"
+
+-- a refusal that says what is wrong
+abbrev pub SaysWrong : Tool → Asked → Refusal → Type 0
+SaysWrong t (Err wrong) (Usage said) = string_bytes said ≡ usage_line t wrong
+SaysWrong t _ _ = ⊥
+
+-- why the words are refused by a command line: by a fault that clap's definition finds in them, or,
+-- if it finds none, since they ask for nothing, which is then said
+abbrev pub IsFaultOf : Tool → List Text → Refusal → App → Type 0
+IsFaultOf t words refused app =
+    ((kind : ErrorKind) × IsAmong kind (fault_of app words) × IsSaidOf kind refused)
+    ⊎ ((fault_of app words ≡ []) × SaysWrong t (asked_of t app words) refused)
+
+-- why the words are refused: memory, or what is wrong by the tool's command line
+abbrev pub IsRefusalOf : Tool → List Text → Refusal → Type 0
+IsRefusalOf t words refused = (refused ≡ Memory) ⊎ OfTool t (IsFaultOf t words refused)

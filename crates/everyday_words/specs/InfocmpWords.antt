@@ -1,0 +1,45 @@
+-- What the words after `ti-infocmp` ask for (infocmp(1)).
+use Rattle.std.specs.Prelude.{ℕ, nat_lt, if◌then◌else◌, List, [], ◌∷◌, length, codes, Option, Some, None, Result, Ok, Err}
+use Rattle.clap.specs.Walk.{Row, Text, first_of}
+use Rattle.ti_list.specs.declared.layout.Order.{Order}
+use Rattle.tools_commands.specs.InfocmpWords.{modes_named, name_words, order_for, width_for}
+use Rattle.tools_commands.specs.Matches.{is_on}
+use Rattle.tools_commands.specs.declared.jobs.InfocmpMode.{InfocmpMode}
+use Rattle.tools_commands.specs.declared.jobs.InfocmpMode.TheVariants as mode
+use Rattle.tools_commands.specs.declared.mistakes.Mistake.{Mistake}
+use Rattle.tools_commands.specs.declared.mistakes.Mistake.TheVariants as mistake
+use Rattle.everyday_words.specs.Requests.{Wanted, wants_directories, wants_infocmp}
+
+-- the mode for this number of names: the one that is named; if none is, listing for one name and
+-- differences for more
+abbrev pub mode_of : List InfocmpMode → ℕ → Result InfocmpMode Mistake
+mode_of [] count = Ok (if nat_lt 1 count then mode.Differ else mode.List)
+mode_of (named ∷ []) count = Ok named
+mode_of (first ∷ second ∷ others) count = Err (mistake.TwoModes first second)
+
+-- what is asked for, if a mode, a width and an order are there
+abbrev pub listing_at : Result InfocmpMode Mistake → Option ℕ → Option Order → List Row → List Text → Result Wanted Mistake
+listing_at (Err wrong) width by rows names = Err wrong
+listing_at (Ok named) None by rows names = Err mistake.NoCommandLine
+listing_at (Ok named) (Some width) None rows names = Err mistake.NoCommandLine
+listing_at (Ok named) (Some width) (Some by) rows names = Ok (wants_infocmp (record {
+  user_defined = is_on (codes "user") rows;
+  mode = named;
+  names = names;
+  layout = record { width = width; one_per_line = is_on (codes "one") rows; order = by };
+  first_dir = first_of (codes "first") rows;
+  other_dir = first_of (codes "other") rows;
+}))
+
+-- what is asked for with these matches and names, or what is wrong
+abbrev pub listing_with : List Row → List Text → Result Wanted Mistake
+listing_with rows names =
+    listing_at (mode_of (modes_named rows) (length names)) (width_for (first_of (codes "width") rows)) (order_for (first_of (codes "sort") rows)) rows names
+
+-- what is asked for with these matches but for `-D`
+unfoldable pub listing_asked : List Row → Result Wanted Mistake
+listing_asked rows = listing_with rows (name_words rows)
+
+-- what is asked for with these matches: with `-D` the directories, whatever else there is
+abbrev pub infocmp_asked : List Row → Result Wanted Mistake
+infocmp_asked rows = if is_on (codes "directories") rows then Ok wants_directories else listing_asked rows

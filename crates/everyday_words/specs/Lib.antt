@@ -1,0 +1,9 @@
+-- The definitions that the contracts of this crate cite.
+pub mod Arguments
+pub mod Commands
+pub mod InfocmpWords
+pub mod Names
+pub mod Requests
+pub mod TicWords
+pub mod TputWords
+pub mod inside

@@ -1,0 +1,87 @@
+-- What the words of a command line ask for, as plain data (own).
+use Rattle.std.specs.Prelude.{ℕ, Bool, List, map, Option, option_map}
+use Rattle.std.specs.String.{string_bytes}
+use Rattle.clap.specs.Walk.{Text}
+use Rattle.ti_list.specs.declared.layout.Layout.{Layout}
+use Rattle.tools_commands.specs.declared.jobs.InfocmpMode.{InfocmpMode}
+use Rattle.everyday_words.specs.declared.requests.InfocmpRequest.{InfocmpRequest}
+use Rattle.everyday_words.specs.declared.requests.Request.{Request}
+use Rattle.everyday_words.specs.declared.requests.Request.TheVariants as request
+use Rattle.everyday_words.specs.declared.requests.TicRequest.{TicRequest}
+use Rattle.everyday_words.specs.declared.requests.TputRequest.{TputRequest}
+
+-- of `ti-tic`: whether it is only to report, whether it is to say how much it wrote, whether
+-- user-defined capabilities are taken, the names that are to be written, the directory and the file,
+-- each if it is given
+pub record TicWanted : Type 0 where
+  pub check : Bool
+  pub summary : Bool
+  pub user_defined : Bool
+  pub only : Option Text
+  pub dir : Option Text
+  pub file : Option Text
+
+-- of `ti-infocmp`: whether user-defined capabilities are taken, the mode, the names, the layout, the
+-- only directory for the first name, and that for the others
+pub record InfocmpWanted : Type 0 where
+  pub user_defined : Bool
+  pub mode : InfocmpMode
+  pub names : List Text
+  pub layout : Layout
+  pub first_dir : Option Text
+  pub other_dir : Option Text
+
+-- of `ti-tput`: whether commands come from standard input, the terminal if it is given, the rate of
+-- its line, and the words
+pub record TputWanted : Type 0 where
+  pub lines : Bool
+  pub term : Option Text
+  pub rate : ℕ
+  pub words : List Text
+
+-- what is asked of a tool
+pub data Wanted : Type 0 where
+  wants_tic : TicWanted → Wanted
+  wants_infocmp : InfocmpWanted → Wanted
+  wants_directories : Wanted
+  wants_tput : TputWanted → Wanted
+
+-- ---- a request that holds its words in memory, as plain data
+
+-- of `ti-tic`
+abbrev pub tic_seen : TicRequest → TicWanted
+tic_seen r = record {
+  check = r.check;
+  summary = r.summary;
+  user_defined = r.user_defined;
+  only = option_map string_bytes r.only;
+  dir = option_map string_bytes r.dir;
+  file = option_map string_bytes r.file;
+}
+
+-- of `ti-infocmp`
+abbrev pub infocmp_seen : InfocmpRequest → InfocmpWanted
+infocmp_seen r = record {
+  user_defined = r.user_defined;
+  mode = r.mode;
+  names = map string_bytes r.names.items;
+  layout = r.layout;
+  first_dir = option_map string_bytes r.first_dir;
+  other_dir = option_map string_bytes r.other_dir;
+}
+
+-- of `ti-tput`
+abbrev pub tput_seen : TputRequest → TputWanted
+tput_seen r = record {
+  lines = r.lines;
+  term = option_map string_bytes r.term;
+  rate = r.rate;
+  words = map string_bytes r.words.items;
+}
+
+-- of any tool
+abbrev pub wanted_of : Request → Wanted
+wanted_of (request.Tic r) = wants_tic (tic_seen r)
+wanted_of (request.Infocmp r) = wants_infocmp (infocmp_seen r)
+wanted_of request.Directories = wants_directories
+wanted_of (request.Tput r) = wants_tput (tput_seen r)

@@ -1,0 +1,22 @@
+-- What the words after `ti-tic` ask for (tic(1)).
+use Rattle.std.specs.Prelude.{Option, Some, None, List, codes, if◌then◌else◌}
+use Rattle.std.specs.Str.{bytes_eq}
+use Rattle.clap.specs.Walk.{Row, Text, first_of}
+use Rattle.tools_commands.specs.Matches.{is_on}
+use Rattle.everyday_words.specs.Requests.{TicWanted}
+
+-- the file of a source, none for standard input, for which `-` stands
+abbrev pub source_in : Option Text → Option Text
+source_in None = None
+source_in (Some path) = if bytes_eq path (codes "-") then None else Some path
+
+-- what is asked for with these matches
+abbrev pub tic_asked : List Row → TicWanted
+tic_asked rows = record {
+  check = is_on (codes "check") rows;
+  summary = is_on (codes "summary") rows;
+  user_defined = is_on (codes "user") rows;
+  only = first_of (codes "only") rows;
+  dir = first_of (codes "dir") rows;
+  file = source_in (first_of (codes "file") rows);
+}

@@ -1,0 +1,6 @@
+-- Computed forms of what the other files define by relations, and words that only private functions
+-- and proofs use.
+pub mod Answers
+pub mod Choice
+pub mod Commands
+pub mod Rules

@@ -1,0 +1,101 @@
+//! What the words of a command line ask for, or why they ask for nothing.
+ghost use Rattle.std.specs.Prelude.{◌≡◌, IfErr, IfOk};
+ghost use Rattle.clap.specs.Words.{kind_of};
+ghost use Rattle.tools_commands.specs.Arguments.{word_texts};
+ghost use Rattle.tools_commands.specs.Matches.{matched_rows};
+ghost use Rattle.everyday_words.specs.Arguments.{IsRefusalOf, IsRequestOf, IsSaidOf, TakesAs, asked_by};
+ghost use Rattle.everyday_words.specs.Commands.{OfEachTool, OfTool};
+ghost use Rattle.everyday_words.specs.Requests.{Wanted};
+ghost use Rattle.everyday_words.specs.inside.Answers.{Answers, AnswersTaken};
+ghost use Rattle.everyday_words.specs.declared.arguments.Refusal.TheVariants.{Memory};
+
+use crate::commands::command;
+use crate::infocmp_words::infocmp_request;
+use crate::mistakes::NoRequest;
+use crate::names::Tool;
+use crate::requests::Request;
+use crate::tic_words::tic_request;
+use crate::tput_words::tput_request;
+use clap::ArgMatches;
+use clap::error::ErrorKind;
+use std::alloc::{AllocError, Global};
+
+/// Why words ask for nothing that a tool does, with the message for them, which ends with a
+/// newline.
+#[derive(Debug, Drop)]
+pub enum Refusal {
+    /// The words are no command line of the tool: what clap says of them, or, if clap takes them,
+    /// the line of the mistake, such as `ti-tput: bad usage: no capability is named`.
+    Usage(String),
+    /// The words ask for the help or the version: its text.
+    Text(String),
+    /// A growth of memory was refused.
+    Memory,
+}
+
+impl From<AllocError> for Refusal {
+    ghost from_gives = { λ _ refused. refused ≡ Memory };
+
+    fn from(_error: AllocError) -> Refusal {
+        Refusal::Memory
+    }
+}
+
+// What a fault that clap finds is to the program, with clap's text.
+fn refusal_by(alloc: Global, error: &clap::error::Error) -> Result<Refusal, AllocError>
+    ensures { IfOk result (IsSaidOf (kind_of error.now)) }
+{
+    Ok(match error.kind() {
+        ErrorKind::OutOfMemory => Refusal::Memory,
+        ErrorKind::DisplayHelp | ErrorKind::DisplayVersion => {
+            Refusal::Text(format!(in alloc; "{error}")?)
+        }
+        _ => Refusal::Usage(format!(in alloc; "{error}")?),
+    })
+}
+
+// What these matches ask of a tool.
+fn tool_request(alloc: Global, tool: Tool, matches: &ArgMatches<'_>) -> Result<Request, NoRequest>
+    ensures { Answers (asked_by tool (matched_rows matches.now)) result }
+{
+    match tool {
+        Tool::Tic => Ok(Request::Tic(tic_request(alloc, matches)?)),
+        Tool::Infocmp => infocmp_request(alloc, matches),
+        Tool::Tput => tput_request(alloc, matches),
+    }
+}
+
+// What words that clap takes ask of a tool, or the message for them.
+fn taken_request(alloc: Global, tool: Tool, matches: &ArgMatches<'_>) -> Result<Request, Refusal>
+    ensures { AnswersTaken tool (asked_by tool (matched_rows matches.now)) result }
+{
+    match tool_request(alloc, tool, matches) {
+        Ok(request) => Ok(request),
+        Err(NoRequest::Memory) => Err(Refusal::Memory),
+        Err(NoRequest::Wrong(mistake)) => {
+            let name = tool.name();
+            let line = format!(in alloc; "{name}: bad usage: {mistake}\n")?;
+            Err(Refusal::Usage(line))
+        }
+    }
+}
+
+/// What the words of a command line ask of a tool. The first word is the name by which the program
+/// was called.
+///
+/// # Errors
+/// Why they ask for nothing: `Text` if they ask for the help or the version, and `Usage` if they are
+/// no command line of the tool, with the text of clap if clap finds a fault in them, else the line
+/// of the mistake; then `Memory`.
+pub fn request(alloc: Global, tool: Tool, words: &[String]) -> Result<Request, Refusal>
+    ensures right { IfOk result (λ request. OfTool tool (IsRequestOf tool (word_texts words.now) request)) }
+    ensures answered { (wanted : Wanted) → OfEachTool tool (TakesAs tool (word_texts words.now) wanted)
+        → IfErr result (λ refused. refused ≡ Refusal.Memory) }
+    ensures refused { IfErr result (IsRefusalOf tool (word_texts words.now)) }
+{
+    let command = command(alloc, tool)?;
+    match command.try_get_matches_from(words) {
+        Ok(matches) => taken_request(alloc, tool, &matches),
+        Err(error) => Err(refusal_by(alloc, &error)?),
+    }
+}

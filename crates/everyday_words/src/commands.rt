@@ -1,0 +1,91 @@
+//! The command line of each tool, for clap: its options, their help and examples.
+ghost use Rattle.std.specs.Prelude.{◌≡◌, IfOk, false};
+ghost use Rattle.std.specs.List.{fold};
+ghost use Rattle.clap.specs.Words.{app_of};
+ghost use Rattle.clap.specs.declared.builder.Command.TheViews.{out-Command as fields_of};
+ghost use Rattle.tools_commands.specs.InfocmpWords.{IsOrders};
+ghost use Rattle.everyday_words.specs.Commands.{OfTool, everyday_app, tool_app};
+ghost use Rattle.everyday_words.specs.inside.Commands.{app_for, choices_of, with_argument};
+
+use crate::infocmp_words::INFOCMP;
+use crate::names::Tool;
+use crate::rules::Argument;
+use crate::tic_words::TIC;
+use crate::tput_words::TPUT;
+use clap::Command;
+use std::alloc::{AllocError, Global};
+
+/// The version of the tools.
+pub const VERSION: &str = "1.0.0";
+
+/// The command line of a tool: its name, what it does, its arguments, and what help says below
+/// them.
+#[derive(Clone, Copy)]
+pub(crate) struct CommandLine<'a> {
+    pub(crate) name: &'a str,
+    pub(crate) about: &'a str,
+    pub(crate) arguments: &'a [Argument<'a>],
+    pub(crate) notes: &'a str,
+}
+
+// A command of that name without arguments, of which an option may be said again. It says its
+// version.
+fn described<'a>(alloc: Global, name: &'a str, about: &'a str, notes: &'a str) -> Command<'a>
+    ensures app { app_of result ≡ everyday_app name.entry.now }
+    ensures local { (fields_of result).has_globals ≡ false }
+{
+    Command::new(alloc, name)
+        .version(VERSION)
+        .args_override_self(true)
+        .about(about)
+        .after_help(notes)
+}
+
+// The command with these arguments after those that it has.
+fn with_arguments<'a>(
+    alloc: Global,
+    mut command: Command<'a>,
+    arguments: &[Argument<'a>],
+) -> Result<Command<'a>, AllocError>
+    requires { (fields_of command).has_globals ≡ false }
+    ensures app { IfOk result (λ r. app_of r ≡ fold with_argument (app_of command.entry) arguments.now) }
+    ensures local { IfOk result (λ r. (fields_of r).has_globals ≡ false) }
+{
+    for argument in arguments {
+        command = command.arg(argument.to_argument(alloc))?;
+    }
+    Ok(command)
+}
+
+impl<'a> CommandLine<'a> {
+    // The command line, as clap takes it.
+    fn command(&self, alloc: Global) -> Result<Command<'a>, AllocError>
+        ensures { IfOk result (λ command. app_of command ≡ app_for self.now) }
+    {
+        let command = described(alloc, self.name, self.about, self.notes);
+        with_arguments(alloc, command, self.arguments)
+    }
+}
+
+// The command line of a tool.
+#[tactic(auto, unfolding(crate::specs::Commands::tool_app))]
+fn command_line(tool: Tool) -> CommandLine<'static>
+    ensures app { app_for result ≡ tool_app (choices_of result) tool }
+    ensures orders { IsOrders (choices_of result) }
+{
+    match tool {
+        Tool::Tic => TIC,
+        Tool::Infocmp => INFOCMP,
+        Tool::Tput => TPUT,
+    }
+}
+
+/// The command line of a tool, for clap.
+///
+/// # Errors
+/// `AllocError` if memory ran out.
+pub fn command<'a>(alloc: Global, tool: Tool) -> Result<Command<'a>, AllocError>
+    ensures { IfOk result (λ command. OfTool tool (λ app. app_of command ≡ app)) }
+{
+    command_line(tool).command(alloc)
+}

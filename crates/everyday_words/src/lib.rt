@@ -1,0 +1,39 @@
+//! The command lines of the everyday tools, as clap reads them: which tool is called, and what the
+//! words after its name ask for.
+//!
+//! ```text
+//! let tool = called_tool("/usr/bin/ti-infocmp");          // Some(Tool::Infocmp)
+//! match request(alloc, Tool::Infocmp, words) {            // ti-infocmp -x -1 xterm
+//!     Ok(Request::Infocmp(asked)) => ..
+//!     Err(Refusal::Usage(message)) => ..
+//! }
+//! ```
+//!
+//! - `names`: the tools, and the names by which they are called (`called_tool`,
+//!   `called_words`)
+//! - `requests`: what may be asked for (`Request`)
+//! - `arguments`: what the words ask for, or why they ask for nothing, and the message (`request`)
+//! - `commands`: the command line of each tool, for clap (`command`); `rules` has the kinds of
+//!   options, and `tic_words`, `infocmp_words` and `tput_words` the options of each tool, and what
+//!   they ask for
+//! - `matches`: what clap's matches say of an argument; `mistakes`: why words that clap takes ask for
+//!   nothing
+#![tactic(auto)]
+
+mod arguments;
+mod commands;
+mod infocmp_words;
+mod matches;
+mod mistakes;
+mod names;
+mod requests;
+mod rules;
+mod tic_words;
+mod tput_words;
+
+pub use arguments::{Refusal, request};
+pub use commands::{VERSION, command};
+pub use names::{Tool, called_tool, called_words};
+pub use requests::{InfocmpRequest, Request, TicRequest, TputRequest};
+pub use ti_list::{Layout, Order};
+pub use tools_commands::{InfocmpMode, Mistake};

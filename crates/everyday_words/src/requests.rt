@@ -1,0 +1,63 @@
+//! What the words of a command line ask for.
+use ti_list::Layout;
+use tools_commands::InfocmpMode;
+
+/// What is asked of `ti-tic`: to compile a source.
+#[derive(Debug, PartialEq, Eq, Drop)]
+pub struct TicRequest {
+    /// Only report, and write no file.
+    pub check: bool,
+    /// Say at the end how many entries were written, and where.
+    pub summary: bool,
+    /// Take user-defined capabilities.
+    pub user_defined: bool,
+    /// The names, between commas, of the blocks that are to be written; all, if none is given.
+    pub only: Option<String>,
+    /// The directory for the files, if it was given.
+    pub dir: Option<String>,
+    /// The file of the source, or `None` for standard input.
+    pub file: Option<String>,
+}
+
+/// What is asked of `ti-infocmp`: to list, compare or relate entries.
+#[derive(Debug, PartialEq, Eq, Drop)]
+pub struct InfocmpRequest {
+    /// Take user-defined capabilities.
+    pub user_defined: bool,
+    /// What is printed.
+    pub mode: InfocmpMode,
+    /// The names of the terminals, or paths of compiled files.
+    pub names: Vec<String>,
+    /// How source text is laid out.
+    pub layout: Layout,
+    /// The only directory for the entry of the first name, if it was given.
+    pub first_dir: Option<String>,
+    /// The only directory for those of the other names, if it was given.
+    pub other_dir: Option<String>,
+}
+
+/// What is asked of `ti-tput`: to write what drives a terminal.
+#[derive(Debug, PartialEq, Eq, Drop)]
+pub struct TputRequest {
+    /// Read commands from standard input, one per line.
+    pub lines: bool,
+    /// The terminal, if it was given.
+    pub term: Option<String>,
+    /// The speed of the line to it in bits per second; at 0 nothing is padded.
+    pub rate: u32,
+    /// A capability's name and its parameters; none with `lines`.
+    pub words: Vec<String>,
+}
+
+/// What the words of a command line ask for.
+#[derive(Debug, PartialEq, Eq, Drop)]
+pub enum Request {
+    /// To compile a source.
+    Tic(TicRequest),
+    /// To list, compare or relate entries.
+    Infocmp(InfocmpRequest),
+    /// To print the directories in which entries are looked for.
+    Directories,
+    /// To write what drives a terminal.
+    Tput(TputRequest),
+}

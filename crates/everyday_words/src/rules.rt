@@ -1,0 +1,124 @@
+//! What clap reads of an argument of a tool, with its help.
+ghost use Rattle.std.specs.Prelude.{◌≡◌, false, Some};
+ghost use Rattle.clap.specs.declared.builder.texts.Texts.TheVariants.{One};
+ghost use Rattle.clap.specs.Words.{rule_of};
+ghost use Rattle.tools_commands.specs.Rules.{flag_rule, long_option_rule, operand_rule, operands_rule, option_rule};
+ghost use Rattle.everyday_words.specs.inside.Rules.{ShowsValue, rule_for};
+
+use clap::builder::ValueParser;
+use clap::{Arg, ArgAction};
+use std::alloc::Global;
+
+/// How an argument is given. The string is the name of the value in help.
+#[derive(Clone, Copy)]
+pub enum Form<'a> {
+    /// An option that is on or off, by its letter.
+    Flag(char),
+    /// An option with one value.
+    Value(char, &'a str),
+    /// An option with a number from a least to a greatest.
+    Number(char, &'a str, u64, u64),
+    /// An option with a number from a least to a greatest that has only a long name.
+    LongNumber(&'a str, u64, u64),
+    /// An option whose value is one of some names.
+    Choice(char, &'a str, &'a [&'a str]),
+    /// An operand.
+    Operand(&'a str),
+    /// Any number of operands.
+    Operands(&'a str),
+}
+
+/// An argument of a tool: the name that the matches have for it, how it is given, and its help.
+#[derive(Clone, Copy)]
+pub struct Argument<'a> {
+    pub id: &'a str,
+    pub form: Form<'a>,
+    pub help: &'a str,
+}
+
+impl<'a> Argument<'a> {
+    /// The argument as clap takes it.
+    pub fn to_argument(&self, alloc: Global) -> Arg<'a>
+        ensures rule { rule_of result ≡ rule_for self.now }
+        ensures local { result.global ≡ false }
+        ensures value { ShowsValue self.now.form result.val_names }
+        ensures help { result.help ≡ Some self.now.help }
+    {
+        let Argument { id, form, help } = *self;
+        match form {
+            Form::Flag(short) => flag(alloc, id, short, help),
+            Form::Value(short, value) => option(alloc, id, short, value, help),
+            Form::Number(short, value, least, greatest) => {
+                let range = ValueParser::unsigned(least, greatest);
+                option(alloc, id, short, value, help).value_parser(range)
+            }
+            Form::LongNumber(value, least, greatest) => {
+                let range = ValueParser::unsigned(least, greatest);
+                long_option(alloc, id, value, help).value_parser(range)
+            }
+            Form::Choice(short, value, names) => {
+                let choices = ValueParser::Names(names);
+                option(alloc, id, short, value, help).value_parser(choices)
+            }
+            Form::Operand(value) => operand(alloc, id, value, help),
+            Form::Operands(value) => operands(alloc, id, value, help),
+        }
+    }
+}
+
+// An option that is on or off.
+fn flag<'a>(alloc: Global, id: &'a str, short: char, help: &'a str) -> Arg<'a>
+    ensures rule { rule_of result ≡ flag_rule id.entry.now short }
+    ensures local { result.global ≡ false }
+    ensures help { result.help ≡ Some help.entry }
+{
+    Arg::new(alloc, id)
+        .short(short)
+        .action(ArgAction::SetTrue)
+        .help(help)
+}
+
+// An operand.
+fn operand<'a>(alloc: Global, id: &'a str, value: &'a str, help: &'a str) -> Arg<'a>
+    ensures rule { rule_of result ≡ operand_rule id.entry.now }
+    ensures local { result.global ≡ false }
+    ensures value { result.val_names ≡ One value.entry }
+    ensures help { result.help ≡ Some help.entry }
+{
+    Arg::new(alloc, id)
+        .action(ArgAction::Set)
+        .value_name(value)
+        .help(help)
+}
+
+// An option with one value.
+fn option<'a>(alloc: Global, id: &'a str, short: char, value: &'a str, help: &'a str) -> Arg<'a>
+    ensures rule { rule_of result ≡ option_rule id.entry.now short }
+    ensures local { result.global ≡ false }
+    ensures value { result.val_names ≡ One value.entry }
+    ensures help { result.help ≡ Some help.entry }
+{
+    operand(alloc, id, value, help).short(short)
+}
+
+// An option with one value that has only a long name.
+fn long_option<'a>(alloc: Global, id: &'a str, value: &'a str, help: &'a str) -> Arg<'a>
+    ensures rule { rule_of result ≡ long_option_rule id.entry.now }
+    ensures local { result.global ≡ false }
+    ensures value { result.val_names ≡ One value.entry }
+    ensures help { result.help ≡ Some help.entry }
+{
+    operand(alloc, id, value, help).long(id)
+}
+
+// Any number of operands.
+fn operands<'a>(alloc: Global, id: &'a str, value: &'a str, help: &'a str) -> Arg<'a>
+    ensures rule { rule_of result ≡ operands_rule id.entry.now }
+    ensures local { result.global ≡ false }
+    ensures value { result.val_names ≡ One value.entry }
+    ensures help { result.help ≡ Some help.entry }
+{
+    operand(alloc, id, value, help)
+        .action(ArgAction::Append)
+        .num_args(0..)
+}

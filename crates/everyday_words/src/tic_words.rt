@@ -1,0 +1,98 @@
+//! What the words after `ti-tic` are, for clap, and what they ask for.
+ghost use Rattle.std.specs.Prelude.{◌≡◌, IfOk, option_map};
+ghost use Rattle.std.specs.String.{string_bytes};
+ghost use Rattle.tools_commands.specs.Matches.{matched_rows};
+ghost use Rattle.everyday_words.specs.Requests.{tic_seen};
+ghost use Rattle.everyday_words.specs.TicWords.{source_in, tic_asked};
+
+use crate::commands::CommandLine;
+use crate::matches::{is_on, text};
+use crate::requests::TicRequest;
+use crate::rules::{Argument, Form};
+use clap::ArgMatches;
+use std::alloc::{AllocError, Global};
+
+/// `ti-tic [-c] [-s] [-x] [-e NAMES] [-o DIR] [FILE|-]`.
+pub(crate) const TIC: CommandLine<'static> = CommandLine {
+    name: "ti-tic",
+    about: "Compile terminfo source into entries, one file for each name.",
+    arguments: &[
+        Argument {
+            id: "check",
+            form: Form::Flag('c'),
+            help: "Check only: report, and write no file",
+        },
+        Argument {
+            id: "summary",
+            form: Form::Flag('s'),
+            help: "Say how many entries were written, and where",
+        },
+        Argument {
+            id: "user",
+            form: Form::Flag('x'),
+            help: "Take user-defined capabilities, such as Tc or Smulx",
+        },
+        Argument {
+            id: "only",
+            form: Form::Value('e', "NAMES"),
+            help: "Write only blocks with one of these names, between commas",
+        },
+        Argument {
+            id: "dir",
+            form: Form::Value('o', "DIR"),
+            help: "Write below DIR [default: $TERMINFO, else as said below]",
+        },
+        Argument {
+            id: "file",
+            form: Form::Operand("FILE"),
+            help: "The source, or - [default: standard input]",
+        },
+    ],
+    notes: "\
+The report on the source goes to standard error, a line for each fault:
+  FILE:LINE:COLUMN: error: SUBJECT: SENTENCE [E3 BadNumber]
+A block without an error gets its files, even if another block has an error.
+A 'use=' that no block of the source satisfies is looked for among the entries
+of the directories that 'ti-infocmp -D' prints. Without -o and $TERMINFO, files
+go below /etc/terminfo, or below ~/.terminfo if that cannot be written.
+A name of -e that no block has is an error.
+
+Exit status:
+  0  the source has no error, but perhaps warnings
+  1  the source has an error, or a file or a stream failed
+  2  bad usage
+
+Examples:
+  ti-tic -x -o ~/.terminfo mine.ti
+  ti-infocmp -x mine | ssh host ti-tic -x -",
+};
+
+// The file of a source; a `-` stands for standard input.
+fn source_in(file: Option<String>) -> Option<String>
+    ensures { option_map string_bytes result ≡ source_in (option_map string_bytes file) }
+{
+    match file {
+        Some(path) if path.as_str() != "-" => Some(path),
+        _ => None,
+    }
+}
+
+/// What these matches ask of `ti-tic`.
+///
+/// # Errors
+/// `AllocError` if memory ran out.
+pub(crate) fn tic_request(alloc: Global, matches: &ArgMatches<'_>) -> Result<TicRequest, AllocError>
+    ensures { IfOk result (λ request. tic_seen request ≡ tic_asked (matched_rows matches.now)) }
+{
+    let only = text(alloc, matches, "only")?;
+    let dir = text(alloc, matches, "dir")?;
+    let file = source_in(text(alloc, matches, "file")?);
+    Ok(TicRequest {
+        check: is_on(matches, "check"),
+        summary: is_on(matches, "summary"),
+        user_defined: is_on(matches, "user"),
+        only,
+        dir,
+        file,
+    })
+}

@@ -1,0 +1,129 @@
+//! What the words after `ti-tput` are, for clap, and what they ask for.
+ghost use Rattle.std.specs.Prelude.{◌≡◌, codes, map};
+ghost use Rattle.clap.specs.Words.{first_of};
+ghost use Rattle.tools_commands.specs.Arguments.{rate_in, words_mistake};
+ghost use Rattle.tools_commands.specs.Matches.{matched_rows};
+ghost use Rattle.everyday_words.specs.TputWords.{tput_asked, tput_with};
+ghost use Rattle.everyday_words.specs.inside.Answers.{Answers};
+
+use crate::commands::CommandLine;
+use crate::matches::{is_on, text, texts, value, values};
+use crate::mistakes::NoRequest;
+use crate::requests::{Request, TputRequest};
+use crate::rules::{Argument, Form};
+use clap::ArgMatches;
+use std::alloc::Global;
+use ti_text::limits::PARAMETERS_MAX;
+use tools_commands::Mistake;
+
+// The greatest rate of a line that may be asked for, in bits per second.
+const RATE_MAX: u64 = u32::MAX as u64;
+
+/// `ti-tput [-x] [-T TERM] [--rate N] [-S] [WORD..]`.
+pub(crate) const TPUT: CommandLine<'static> = CommandLine {
+    name: "ti-tput",
+    about: "Write what drives a terminal: a capability of its entry.",
+    arguments: &[
+        Argument {
+            id: "keep",
+            form: Form::Flag('x'),
+            help: "Keep the lines above the screen at 'clear', as ever",
+        },
+        Argument {
+            id: "term",
+            form: Form::Value('T', "TERM"),
+            help: "The terminal [default: $TERM]",
+        },
+        Argument {
+            id: "rate",
+            form: Form::LongNumber("N", 0, RATE_MAX),
+            help: "Pad for a line of N bits per second [default: 0, no padding]",
+        },
+        Argument {
+            id: "lines",
+            form: Form::Flag('S'),
+            help: "Read commands from standard input, one per line",
+        },
+        Argument {
+            id: "words",
+            form: Form::Operands("WORD"),
+            help: "The capability's name, and its parameters",
+        },
+    ],
+    notes: "\
+The first WORD is a capability of terminfo(5), a user-defined one of the entry,
+longname, init or reset. The entry is looked for in the directories that
+'ti-infocmp -D' prints.
+
+Exit status:
+  0    what was asked for was written, or the boolean is there
+  1    the boolean or the string is absent
+  2    bad usage, or no terminal is named
+  3    the terminal is unknown, or its entry is bad or cannot be read
+  4    the capability is unknown, or its string cannot be expanded or padded
+  255  something failed after the entry was read
+With -S: 0, or 4 and the number of bad lines, at most 255.
+
+Examples:
+  ti-tput setaf 1
+  ti-tput -T xterm-256color Ss 4
+  printf 'bold\\nsetaf 2\\n' | ti-tput -S",
+};
+
+// The rate of `--rate`, 0 if it is not there.
+fn rate(matches: &ArgMatches<'_>) -> Option<u32>
+    ensures { result ≡ rate_in (first_of (codes "rate") (matched_rows matches.now)) }
+{
+    match value(matches, "rate") {
+        Some(text) => text.parse().ok(),
+        None => Some(0),
+    }
+}
+
+// What is wrong with this number of words: with `-S` there may be none, else there is a name and at
+// most nine parameters.
+fn words_mistake(lines: bool, count: usize) -> Option<Mistake>
+    ensures { result ≡ words_mistake lines count }
+{
+    match (lines, count) {
+        (true, 0) => None,
+        (true, _) => Some(Mistake::CapabilityBesideLines),
+        (false, 0) => Some(Mistake::NoCapability),
+        (false, count) if count > PARAMETERS_MAX + 1 => Some(Mistake::TooManyParameters),
+        (false, _) => None,
+    }
+}
+
+// What is asked of `ti-tput` with these words.
+fn tput_of(alloc: Global, matches: &ArgMatches<'_>, words: &[&str]) -> Result<Request, NoRequest>
+    ensures { Answers (tput_with (matched_rows matches.now) (map (λ word. word.now) words.now)) result }
+{
+    let lines = is_on(matches, "lines");
+    let Some(rate) = rate(matches) else {
+        return Err(NoRequest::Wrong(Mistake::NoCommandLine));
+    };
+    if let Some(mistake) = words_mistake(lines, words.len()) {
+        return Err(NoRequest::Wrong(mistake));
+    }
+    let term = text(alloc, matches, "term")?;
+    let words = texts(alloc, words)?;
+    Ok(Request::Tput(TputRequest {
+        lines,
+        term,
+        rate,
+        words,
+    }))
+}
+
+/// What these matches ask of `ti-tput`.
+///
+/// # Errors
+/// What is wrong with the words; then `Memory`.
+pub(crate) fn tput_request(alloc: Global, matches: &ArgMatches<'_>) -> Result<Request, NoRequest>
+    ensures { Answers (tput_asked (matched_rows matches.now)) result }
+{
+    match values(matches, "words") {
+        Some(words) => tput_of(alloc, matches, words),
+        None => tput_of(alloc, matches, &[]),
+    }
+}

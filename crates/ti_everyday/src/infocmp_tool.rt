@@ -1,0 +1,58 @@
+//! `ti-infocmp`: lists entries as source, or compares them.
+use crate::environment::{directories, own_terminal};
+use crate::output::print_bytes;
+use crate::stopping::Stop;
+use everyday_entries::Failure;
+use everyday_infocmp::{directories_text, infocmp, needs_own};
+use everyday_words::InfocmpRequest;
+use std::rt::{Clock, Env, Files};
+use tools_disk::{DiskTree, reason};
+
+/// Prints the directories in which entries are looked for.
+///
+/// # Errors
+/// Why it stopped.
+pub fn print_directories<R: Env + Print + AllocGlobal>(rt: &R) -> Result<u8, Stop> {
+    let directories = directories(rt)?;
+    let text = directories_text(rt.alloc(), directories.as_slice())?;
+    print_bytes(rt, text.as_bytes())?;
+    Ok(0)
+}
+
+/// Prints what is asked for.
+///
+/// # Errors
+/// Why it stopped.
+pub fn run<R: Clock + Env + Files + Print + AllocGlobal>(
+    rt: &R,
+    request: &InfocmpRequest,
+) -> Result<u8, Stop> {
+    let own = if needs_own(request) {
+        own_terminal(rt)?
+    } else {
+        None
+    };
+    let directories = directories(rt)?;
+    let mut tree = DiskTree::new(rt);
+    let own = own.as_deref();
+    match infocmp(rt.alloc(), &mut tree, request, own, directories.as_slice()) {
+        Ok(text) => print_bytes(rt, text.as_slice())?,
+        Err(failure) => return Err(stop_of(rt, &tree, failure)?),
+    }
+    Ok(0)
+}
+
+/// Why a tool stops, with what the system says of it.
+///
+/// # Errors
+/// Out of memory.
+pub fn stop_of<R: Files + Clock + AllocGlobal>(
+    rt: &R,
+    tree: &DiskTree<'_, R>,
+    failure: Failure,
+) -> Result<Stop, Stop> {
+    match tree.last_error() {
+        Some(error) => Ok(Stop::Failed(failure, reason(rt.alloc(), error)?)),
+        None => Ok(Stop::of(failure)),
+    }
+}

@@ -1,0 +1,90 @@
+//! The program of the everyday tools, `ti-tic`, `ti-infocmp` and `ti-tput`, by the name that it is
+//! called by, over real files, streams and the environment.
+#![tactic(auto)]
+
+mod environment;
+mod infocmp_tool;
+mod output;
+mod stopping;
+mod tic_tool;
+mod tput_tool;
+
+use crate::stopping::{Stop, end_tool};
+use everyday_entries::Failure;
+use everyday_words::{Refusal, Request, Tool, called_words, request};
+use std::process::ExitCode;
+use std::rt::{Clock, Env, Files};
+use std::{env, io};
+use tools_devices::ToolError;
+
+fn main(rt: HostRuntime) -> ExitCode {
+    ExitCode::from(run(&rt))
+}
+
+// Does what the command line asks for. Answers the status of the process.
+fn run<R: Clock + Env + Files + Input + Print + Eprint + AllocGlobal>(rt: &R) -> u8 {
+    let words = match words(rt) {
+        Ok(words) => words,
+        Err(stop) => return end_tool(rt, Tool::Tic, stop),
+    };
+    let Some((tool, words)) = called_words(words.as_slice()) else {
+        return unknown_name(rt);
+    };
+    match request(rt.alloc(), tool, words) {
+        Ok(request) => run_request(rt, &request),
+        Err(refusal) => print_refusal(rt, tool, &refusal),
+    }
+}
+
+// Does what is asked for. Answers the status of the process.
+fn run_request<R: Clock + Env + Files + Input + Print + Eprint + AllocGlobal>(
+    rt: &R,
+    request: &Request,
+) -> u8 {
+    let (tool, done) = match request {
+        Request::Tic(request) => (Tool::Tic, tic_tool::run(rt, request)),
+        Request::Infocmp(request) => (Tool::Infocmp, infocmp_tool::run(rt, request)),
+        Request::Directories => (Tool::Infocmp, infocmp_tool::print_directories(rt)),
+        Request::Tput(request) => (Tool::Tput, tput_tool::run(rt, request)),
+    };
+    match done {
+        Ok(status) => status,
+        Err(stop) => end_tool(rt, tool, stop),
+    }
+}
+
+// The words of the command line, the program's name first.
+fn words<R: Env + AllocGlobal>(rt: &R) -> Result<Vec<String>, Stop> {
+    match env::args(rt) {
+        Ok(words) => match words.collect(rt.alloc()) {
+            Ok(words) => Ok(words),
+            Err(_) => Err(Stop::memory()),
+        },
+        Err(error) if error.kind() == io::ErrorKind::OutOfMemory => Err(Stop::memory()),
+        Err(_) => Err(Stop::NotText("the command line")),
+    }
+}
+
+// Says by which names the program is called. It is an error of usage.
+fn unknown_name<R: Eprint>(rt: &R) -> u8 {
+    let _ = rt.eprint(
+        "ti-everyday: call it ti-tic, ti-infocmp or ti-tput, or give one of these names as the first word\n",
+    );
+    2
+}
+
+// Prints the text that the words ask for, or what is wrong with them. An error of usage has status
+// 2, even if standard error takes nothing.
+fn print_refusal<R: Print + Eprint + AllocGlobal>(rt: &R, tool: Tool, refusal: &Refusal) -> u8 {
+    match refusal {
+        Refusal::Memory => end_tool(rt, tool, Stop::memory()),
+        Refusal::Usage(text) => {
+            let _ = rt.eprint(text.as_str());
+            2
+        }
+        Refusal::Text(text) => match rt.print(text.as_str()) {
+            Ok(()) => 0,
+            Err(_) => end_tool(rt, tool, Stop::of(Failure::Stopped(ToolError::WriteFault))),
+        },
+    }
+}

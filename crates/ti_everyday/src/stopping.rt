@@ -1,0 +1,62 @@
+//! How a tool ends that stops before its work is done.
+use everyday_entries::{Failure, Tool, line, status};
+use std::alloc::AllocError;
+use tools_devices::ToolError;
+
+/// Why a tool stops before its work is done.
+#[derive(Debug, Drop)]
+pub enum Stop {
+    /// A failure, and what the system says of it, if that is part of the line.
+    Failed(Failure, String),
+    /// The same without anything that the system says.
+    Plain(Failure),
+    /// What the environment gives is not UTF-8: the command line, or a variable that is read. It is
+    /// an error of usage.
+    NotText(&'static str),
+}
+
+impl Stop {
+    /// Memory ran out.
+    pub fn memory() -> Stop {
+        Stop::Plain(Failure::Stopped(ToolError::Memory))
+    }
+
+    /// A failure of which the system says nothing.
+    pub fn of(failure: Failure) -> Stop {
+        Stop::Plain(failure)
+    }
+}
+
+impl From<AllocError> for Stop {
+    fn from(_error: AllocError) -> Stop {
+        Stop::memory()
+    }
+}
+
+impl From<Failure> for Stop {
+    fn from(failure: Failure) -> Stop {
+        Stop::Plain(failure)
+    }
+}
+
+/// Says on standard error why a tool stopped. Answers the status of the process, even if standard
+/// error takes nothing.
+pub fn end_tool<R: Eprint + AllocGlobal>(rt: &R, tool: Tool, stop: Stop) -> u8 {
+    match stop {
+        Stop::Failed(failure, reason) => end(rt, tool, &failure, reason.as_str()),
+        Stop::Plain(failure) => end(rt, tool, &failure, ""),
+        Stop::NotText(what) => {
+            let name = tool.name();
+            let _ = eprintln!(rt; "{name}: bad usage: {what} is not text");
+            2
+        }
+    }
+}
+
+// Says why a tool failed.
+fn end<R: Eprint + AllocGlobal>(rt: &R, tool: Tool, failure: &Failure, reason: &str) -> u8 {
+    if let Ok(text) = line(rt.alloc(), tool, failure, reason) {
+        let _ = rt.eprint(text.as_str());
+    }
+    status(tool, failure)
+}

@@ -1,0 +1,92 @@
+//! `ti-tic`: compiles a source into entries.
+use crate::environment::read_variables;
+use crate::stopping::Stop;
+use everyday_directories::{
+    Environment, SYSTEM_OUTPUT, entry_directories, named_output, unnamed_output,
+};
+use everyday_entries::Failure;
+use everyday_tic::{TicOptions, TicStop};
+use everyday_words::TicRequest;
+use std::io;
+use std::rt::{Clock, Env, Files};
+use tools_devices::{Counted, ToolError};
+use tools_disk::{DiskTree, ErrorStream, read_whole, reason, takes_files};
+
+// What standard input is called in the report.
+const STANDARD_INPUT: &str = "<stdin>";
+
+/// Compiles the source that is asked for. Answers the status of the process.
+///
+/// # Errors
+/// Why it stopped. If a file could not be written, the report and earlier files stay.
+pub fn run<R: Clock + Env + Files + Input + Eprint + AllocGlobal>(
+    rt: &R,
+    request: &TicRequest,
+) -> Result<u8, Stop> {
+    let variables = read_variables(rt)?;
+    let environment = variables.environment();
+    let directories = entry_directories(rt.alloc(), &environment)?;
+    let directory = output(rt, request, &environment)?;
+    let source = source(rt, request.file.as_deref())?;
+    let options = TicOptions {
+        user_defined: request.user_defined,
+        check: request.check,
+        entries: request.only.as_deref().map(str::as_bytes),
+        directory: directory.as_str(),
+    };
+    let mut tree = DiskTree::new(rt);
+    let mut errors = Counted::new(ErrorStream::new(rt));
+    let file = request.file.as_deref().unwrap_or(STANDARD_INPUT);
+    match everyday_tic::run(
+        rt.alloc(),
+        &mut tree,
+        &mut errors,
+        directories.as_slice(),
+        file,
+        source.as_slice(),
+        &options,
+        request.summary,
+    ) {
+        Ok(status) => Ok(status),
+        Err(stop) => Err(stop_of(rt, tree.last_error(), stop)?),
+    }
+}
+
+// The directory for the entries. The system's is tried only if none is named, and there are files
+// to write.
+fn output<R: Clock + Files + AllocGlobal>(
+    rt: &R,
+    request: &TicRequest,
+    environment: &Environment<'_>,
+) -> Result<String, Stop> {
+    if let Some(directory) = named_output(request.dir.as_deref(), environment) {
+        return Ok(String::from_str(rt.alloc(), directory)?);
+    }
+    let is_writable = !request.check && takes_files(rt, SYSTEM_OUTPUT);
+    Ok(unnamed_output(rt.alloc(), environment, is_writable)?)
+}
+
+// The bytes of the source.
+fn source<R: Files + Input + AllocGlobal>(rt: &R, path: Option<&str>) -> Result<Vec<u8>, Stop> {
+    match read_whole(rt, rt.alloc(), path) {
+        Ok(source) => Ok(source),
+        Err(error) if error.kind() == io::ErrorKind::OutOfMemory => Err(Stop::memory()),
+        Err(error) => {
+            let path = String::from_str(rt.alloc(), path.unwrap_or(STANDARD_INPUT))?;
+            Err(Stop::Failed(Failure::Unreadable(path), reason(rt.alloc(), &error)?))
+        }
+    }
+}
+
+// Why the tool stops, with what the system says of it.
+fn stop_of<R: AllocGlobal>(rt: &R, error: Option<&io::Error>, stop: TicStop) -> Result<Stop, Stop> {
+    match (stop, error) {
+        (TicStop::File(path), Some(error)) => {
+            Ok(Stop::Failed(Failure::Unwritable(path), reason(rt.alloc(), error)?))
+        }
+        (TicStop::File(_) | TicStop::Report, _) => Ok(Stop::of(Failure::Stopped(
+            ToolError::WriteFault,
+        ))),
+        (TicStop::Memory, _) => Ok(Stop::memory()),
+    }
+}
