@@ -1,6 +1,6 @@
 //! An example of the crates as a library. Its word names a file with a source. The source is put
 //! into a database, its entries are written into a tree of files, the strings of one are expanded
-//! and padded, the source is edited, and what the edit changed is written again. `docs/LIBRARY.md`
+//! and padded, the source is edited, and what the edit changed is written again. `docs/RATTLE.md`
 //! walks through it.
 #![tactic(auto)]
 

@@ -1,12 +1,9 @@
 //! A source as it is compiled.
-ghost use Rattle.std.specs.Prelude.{All};
-ghost use Rattle.ti_source.specs.Cutting.{OneBlock};
-
 use std::alloc::{AllocError, Global};
 use std::fmt::Write;
 use ti_base::Database;
 use tools_sources::database_of;
-use user_compiling::{Compiled, ExtendedFault, compile, faults, holds_blocks, report_of};
+use user_compiling::{Compiled, ExtendedFault, compile, faults, report_of};
 use user_values::ValuesError;
 
 // A byte for each block: `-` if it does not resolve, `!` if its entry is too large, else its entry in
@@ -55,9 +52,7 @@ fn say_report(said: &mut String, report: &[u8]) -> Result<(), AllocError> {
 }
 
 // What is made of the blocks of a database.
-fn say_database(alloc: Global, database: &Database) -> Result<String, AllocError>
-    requires { All OneBlock database.now }
-{
+fn say_database(alloc: Global, database: &Database) -> Result<String, AllocError> {
     let mut said = String::new(alloc);
     let states = match compile(alloc, database) {
         Ok(states) => states,
@@ -81,7 +76,7 @@ fn say_database(alloc: Global, database: &Database) -> Result<String, AllocError
 /// What is made of a source: a line for each block, a line of the places of faults, and the report.
 pub fn made(alloc: Global, source: &[u8]) -> Result<String, AllocError> {
     match database_of(alloc, source) {
-        Ok(database) if holds_blocks(&database) => say_database(alloc, &database),
+        Ok(database) => say_database(alloc, &database),
         _ => Err(AllocError),
     }
 }

@@ -38,7 +38,8 @@ put_first old new slot id h = (
   },
 )
 
-pub ready_all : (slots : Slots) (id : ℕ) (ids places : List ℕ) → (exchange : Exchange) × IsExchangeOf slots (Some id) [] exchange → AreDependentIds slots (Some id) [] ids places → ((at : ℕ) → at < length slots.placed → Contains places at) → IsReady slots (Some id) []
+pub ready_all : (slots : Slots) (id : ℕ) (ids places : List ℕ) → (exchange : Exchange) × IsExchangeOf slots (Some id) [] exchange
+    → AreDependentIds slots (Some id) [] ids places → ((at : ℕ) → at < length slots.placed → Contains places at) → IsReady slots (Some id) []
 ready_all slots id ids places w h all = (
   w.0,
   w.1,

@@ -16,5 +16,8 @@ slot-requires c =
     let left = c.take_out-slot.new.self.placed in
     let less : at < length old = omega (arith, c.if-at-len.false, c.len.ensures) in
     let fewer = length-remove old at less in
-    let within : at ≤ length left = omega (arith, fewer, ap (λ (ps : List Placed). length ps) c.take_out-slot.ensures.placed) in
-    (at, ap (λ (ps : List Placed). slice_get (map (λ (x : Placed). x.id) ps) at) c.put_in-id.ensures.placed ∙ stands_in left at (record { id = c.put_in-id.result; slot = c.take_out-slot.result }) within)
+    let within : at ≤ length left = omega (arith, fewer, ap (λ (ps : List Placed). length ps) c.take_out-slot.ensures.placed) in (
+      at,
+      ap (λ (ps : List Placed). slice_get (map (λ (x : Placed). x.id) ps) at) c.put_in-id.ensures.placed
+          ∙ stands_in left at (record { id = c.put_in-id.result; slot = c.take_out-slot.result }) within,
+    )
