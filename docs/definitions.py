@@ -119,10 +119,12 @@ def exported(crate):
     source = os.path.join(TOP, "crates", crate, "src")
     root = "\n".join(lines_of(os.path.join(source, "lib.rt")))
     found = set()
+    texts = [root]
     for module in re.findall(r"^pub mod (\w+);", root, re.M):
         text = "\n".join(lines_of(os.path.join(source, module + ".rt")))
         found |= set(re.findall(r"^pub (?:const )?(?:fn|struct|enum|trait) (\w+)", text, re.M))
-    for names in re.findall(r"pub use [\w:]*?(?:::)?(\{[^}]*\}|\w+);", root):
+        texts.append(text)
+    for names in re.findall(r"^pub use [\w:]*?(?:::)?(\{[^}]*\}|\w+);", "\n".join(texts), re.M):
         found |= set(re.findall(r"\w+", names))
     return found
 

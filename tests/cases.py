@@ -1,8 +1,9 @@
 """Cases that are runs of the built program `ti`, or of `ti-lsp`, each a directory of files.
 
     args      the words after `ti`, one a line
-    run       in place of args, a command that sh runs with `ti` on PATH, and `ti-lsp` if it is
-              built: it lays out what `before` cannot, as a link or a FIFO, and then runs `ti`
+    run       in place of args, a command that sh runs with `ti` on PATH, and `ti-lsp`, `ti-everyday`,
+              `ti-tic`, `ti-infocmp` and `ti-tput` if they are built: it lays out what `before` cannot, as a
+              link or a FIFO, and then runs `ti`
     env       NAME=VALUE a line; apart from these only PATH is set
     stdin     what standard input has (none: nothing)
     data/     the files of the directory that it runs in
@@ -12,8 +13,8 @@
               still be there afterwards, unchanged; if it fails, so does the case
     needs     programs that the case needs, one a line; if one is not installed the case is
               skipped, and that is said
-    when      a command that sh runs before all else; if it fails the case is skipped, and what it
-              prints says why
+    when      a command that sh runs before all else, with the path of the program of the everyday
+              tools as TI_EVERYDAY; if it fails the case is skipped, and what it prints says why
     as-nobody that the case is run without root's rights, which let it read and write everything:
               if root runs the cases, the user nobody runs this one, on a copy of the program
     stdout    what standard output must have (none: nothing)
@@ -38,7 +39,7 @@ import subprocess
 import sys
 import tempfile
 
-from common import LSP, PROGRAM, TOP, Tally, bytes_of, files_below, is_missing, lines_of
+from common import EVERYDAY, LSP, PROGRAM, TOP, Tally, bytes_of, files_below, is_missing, lines_of
 
 SECONDS = 120
 SHOWN = 400
@@ -77,6 +78,9 @@ class Case:
         place(PROGRAM, os.path.join(self.tools, "ti"))
         if os.access(LSP, os.X_OK):
             place(LSP, os.path.join(self.tools, "ti-lsp"))
+        if os.access(EVERYDAY, os.X_OK):
+            for name in ("ti-everyday", "ti-tic", "ti-infocmp", "ti-tput"):
+                place(EVERYDAY, os.path.join(self.tools, name))
         if not self.has("before"):
             return None
         done = self.shell(self.bytes("before"))
@@ -208,7 +212,8 @@ def why_skipped(directory):
     if not os.path.isfile(when):
         return None
     done = subprocess.run(
-        ["sh", when], stdin=subprocess.DEVNULL, stdout=subprocess.PIPE, stderr=subprocess.DEVNULL, check=False
+        ["sh", when], stdin=subprocess.DEVNULL, stdout=subprocess.PIPE, stderr=subprocess.DEVNULL,
+        env={**os.environ, "TI_EVERYDAY": EVERYDAY}, check=False
     )
     return None if done.returncode == 0 else done.stdout.decode(errors="replace").strip()
 

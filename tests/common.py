@@ -15,6 +15,7 @@ class Skipped(Exception):
 
 PROGRAM = program_of("ti")
 LSP = program_of("ti_lsp")
+EVERYDAY = program_of("ti_everyday")
 
 
 def need(program):

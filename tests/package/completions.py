@@ -9,7 +9,9 @@ import subprocess
 import tempfile
 import time
 
-from shared import HERE, PROGRAM, TOOLS, TOP, help_of, need, output, text_of
+from shared import (
+    EVERYDAY, EVERYDAY_TOOLS, HERE, PAGE_OF, PROGRAM, TOOLS, TOP, Skipped, help_of, need, output, text_of,
+)
 
 SHELLS = ["ti.bash", "_ti", "ti.fish"]
 # what a person types, and a candidate that must come, and one that must not
@@ -23,7 +25,17 @@ CANDIDATES = [
     ("ti tput -T dumb longn", "longname", "cols"),
     ("ti infocmp du", "dumb", "lantern3"),
     ("ti infocmp lantern3 lantern2", "lantern2-n", "dumb"),
-    ("ti-tput -T du", "dumb", "lantern3"),
+    ("ti-tput -x -T du", "dumb", "lantern3"),
+    ("ti-tput -T ho", "homely", "dumb"),
+    ("ti-tput --", "--version", "-S"),
+    ("ti-tput set", "setaf", "cup"),
+    ("ti-tic -", "-x", "-T"),
+    ("ti-tic lan", "lantern.ti", "dumb.ti"),
+    ("ti-tic -x -o out lan", "lantern.ti", "dumb.ti"),
+    ("ti-infocmp -", "-D", "-T"),
+    ("ti-infocmp -x ho", "homely", "dumb"),
+    ("ti-infocmp ./out/d/du", "./out/d/dumb", "lantern3"),
+    ("ti-infocmp -d -A more homely lantern", "lantern3", "homely"),
     ("ti infocmp -A more lantern", "lantern-color", "lantern3"),
     ("ti infocmp -A out -B more lantern3 lantern", "lantern-color", "lantern2"),
 ]
@@ -57,7 +69,7 @@ def options_of_help(tool):
 
 
 def page_of(tool):
-    return text_of("man", f"ti-{tool}.1" if tool else "ti.1")
+    return text_of("man", PAGE_OF[tool])
 
 
 def flags(line):
@@ -79,7 +91,7 @@ def options_of_synopsis(tool):
 
 
 def bash_candidates(lines, directory=None):
-    env = dict(os.environ, TERMINFO="out", TERMINFO_DIRS="none::also")
+    env = dict(os.environ, TERMINFO="out", TERMINFO_DIRS="none::also", HOME=directory or "/nonexistent")
     asked = os.path.join(TOP, "completions", "ti.bash")
     words = ["bash", "--norc", os.path.join(HERE, "ask.bash"), asked]
     got = output(words, "".join(line + "\n" for line in lines), cwd=directory, env=env)
@@ -107,7 +119,7 @@ class Zsh:
         self.pid, self.terminal = pty.fork()
         if self.pid == 0:
             os.chdir(directory)
-            os.environ.update(TERM="dumb", TERMINFO="out", ZDOTDIR=directory)
+            os.environ.update(TERM="dumb", TERMINFO="out", HOME=directory, ZDOTDIR=directory)
             os.execvp("zsh", ["zsh", "-i", "--no-globalrcs"])
         self.answer("")
 
@@ -144,13 +156,17 @@ def zsh_candidates(lines, directory):
 
 
 def with_entries(check):
-    """Runs a check in a directory in which the examples are, compiled."""
+    """Runs a check in a directory in which the examples are, compiled, and which is also that of the
+    user, with the entry `homely`."""
     with tempfile.TemporaryDirectory(prefix="ti-package-") as directory:
         for name in ("dumb.ti", "lantern.ti"):
             shutil.copy(os.path.join(TOP, "examples", name), directory)
             subprocess.run([PROGRAM, "tic", "-o", "out", name], cwd=directory, check=True)
         os.makedirs(os.path.join(directory, "more", "l"))
         shutil.copy(os.path.join(directory, "out", "l", "lantern-color"), os.path.join(directory, "more", "l"))
+        # by the code of its first letter, as where names of files tell no case
+        os.makedirs(os.path.join(directory, ".terminfo", "68"))
+        shutil.copy(os.path.join(directory, "out", "d", "dumb"), os.path.join(directory, ".terminfo", "68", "homely"))
         yield from check(directory)
 
 
@@ -190,13 +206,19 @@ def options_of_zsh(tool):
     return {*plain, *re.findall(r"(?<=[{,])--?[\w-]+(?=[},])", part)}
 
 
-def option_sets(tool):
-    """The options of a tool, or of the program, in each place that has them, by its name."""
-    name = f"ti {tool}".strip()
+def command_of(tool):
+    """What is typed for a tool: an everyday tool is a command of its own."""
+    return tool if tool in EVERYDAY_TOOLS else f"ti {tool}".strip()
+
+
+def option_sets(tool, helped):
+    """The options of a tool, or of the program, in each place that has them, by its name. A synopsis
+    leaves out what asks for help and version."""
+    name = command_of(tool)
     yield "page", options_of_page(tool)
     # the synopsis of the program has the options of its tools
     if tool:
-        yield "synopsis", options_of_synopsis(tool) | {"-h", "--help"}
+        yield "synopsis", options_of_synopsis(tool) | helped & {"-h", "--help", "-V", "--version"}
     if shutil.which("bash"):
         yield "completion in bash", set(bash_candidates([f"{name} -"])[f"{name} -"])
     if shutil.which("fish"):
@@ -205,13 +227,25 @@ def option_sets(tool):
     yield "completion in zsh", options_of_zsh(tool)
 
 
+def option_faults(tools):
+    """Places that have other options of these tools than their help."""
+    for tool in tools:
+        helped = options_of_help(tool)
+        for place, got in option_sets(tool, helped):
+            if got != helped:
+                yield f"{command_of(tool)}: the {place} has {sorted(got)}, the help {sorted(helped)}"
+
+
+def check_everyday_options():
+    """Whether options of the everyday tools are one set in help, pages and completions."""
+    if not os.access(EVERYDAY, os.X_OK):
+        raise Skipped("ti-everyday is not built")
+    yield from option_faults(EVERYDAY_TOOLS)
+
+
 def check_options():
     """Whether options, commands and capabilities are one set in help, pages and completions."""
-    for tool in ["", *TOOLS]:
-        helped = options_of_help(tool)
-        for place, got in option_sets(tool):
-            if got != helped:
-                yield f"ti {tool}: the {place} has {sorted(got)}, the help {sorted(helped)}"
+    yield from option_faults(["", *TOOLS])
     commands = set(re.findall(r"^  (\w+)  ", help_of("").split("Commands:\n")[1].split("\n\n")[0], re.M))
     if commands != {*TOOLS, "help"}:
         yield f"the tools are {sorted(commands)}"

@@ -1,6 +1,8 @@
 """What `make install`, the packages and the archives of a release install, and whether that runs."""
 
+import base64
 import filecmp
+import hashlib
 import json
 import os
 import re
@@ -10,7 +12,8 @@ import tempfile
 import zipfile
 
 from shared import (
-    HAS_LSP, INSTALLED_PAGES, TOP, Skipped, commands_of, files_below, install_command, need, output, text_of, ti,
+    EVERYDAY_TOOLS, HAS_LSP, INSTALLED_PAGES, TOP, Skipped, commands_of, files_below, install_command, need, output,
+    text_of, ti,
 )
 
 MAKER = os.path.join(TOP, "build", "packages.py")
@@ -18,6 +21,7 @@ MAKER = os.path.join(TOP, "build", "packages.py")
 SCRIPT = """ti tic -o out dumb.ti && ti-tic -o again dumb.ti && cmp out/d/dumb again/d/dumb &&
 TERMINFO=out ti infocmp dumb | head -n 1 && TERMINFO=out ti tput -T dumb cols &&
 TERMINFO=out ti-infocmp dumb | head -n 1 && TERMINFO=out ti-tput -T dumb cols &&
+printf 'user,Tc,use=dumb,\\n' | TERMINFO=out ti-tic -x - && TERMINFO=out ti-tput -T user Tc &&
 printf 'i 0\\nx,\\n.\\nf\\n' | ti session"""
 PRINTED = "dumb|80-column dumb tty,\n80\n" * 2 + "ok\n.\n"
 if HAS_LSP:
@@ -32,9 +36,12 @@ int main(void) {
     return printf("%s %d %u\\n", TI_VERSION, found, (unsigned)place.index) < 0;
 }
 """
-OF_LIBRARY = ("/include/ti.h", "/libti.a", "/libti.so", "/pkgconfig/ti.pc", "/man3/ti.3.gz")
+OF_LIBRARY = (
+    "/include/ti.h", "/include/ti_names.h", "/libti.a", "/libti.so", "/pkgconfig/ti.pc", "/man3/ti.3.gz",
+    "/man3/ti_open.3.gz",
+)
 # the packages of debian/control, sorted
-PACKAGES = ["libti-dev", "libti-tinfo", "libti1", "ti"]
+PACKAGES = ["libti-dev", "libti-tinfo", "libti1", "python3-ti", "ti"]
 LIBRARY = os.path.join(TOP, "crates", "ti_c", "out", "lib")
 HAS_LIBRARY = os.path.exists(os.path.join(LIBRARY, "libti.a"))
 HAS_TINFO = os.path.exists(os.path.join(LIBRARY, "ti", "libtinfo.so.6"))
@@ -56,7 +63,7 @@ def check_version():
         yield f"the newest version of CHANGELOG.md is {newest and newest[1]}"
     if not text_of("debian", "changelog").startswith(f"ti ({version()}-"):
         yield f"debian/changelog is not of {version()}"
-    for path in ("include/ti.h", "editors/vscode/package.json"):
+    for path in ("include/ti.h", "editors/vscode/package.json", "python/pyproject.toml"):
         if f'"{version()}"' not in text_of(path):
             yield f'{path} does not have "{version()}"'
 
@@ -71,8 +78,9 @@ def check_install():
             yield f"make install says {said!r}"
         here = lambda *parts: os.path.join(directory, "usr", *parts)
         installed = files_below(directory)
-        wanted = ["usr/bin/ti", "usr/bin/ti-infocmp", "usr/bin/ti-tic", "usr/bin/ti-tput"]
-        wanted += ["usr/share/bash-completion/completions/ti", "usr/share/fish/vendor_completions.d/ti.fish"]
+        wanted = [f"usr/bin/{name}" for name in ("ti", "ti-everyday", *EVERYDAY_TOOLS)]
+        wanted += [f"usr/share/bash-completion/completions/{name}" for name in ("ti", *EVERYDAY_TOOLS)]
+        wanted += [f"usr/share/fish/vendor_completions.d/{name}.fish" for name in ("ti", *EVERYDAY_TOOLS)]
         wanted += ["usr/share/zsh/site-functions/_ti", "usr/share/man/man7/ti-report.7"]
         wanted += [f"usr/share/man/man1/{page}" for page in INSTALLED_PAGES if page.endswith(".1")]
         wanted += [f"usr/share/{place}/syntax/terminfo.vim" for place in ("vim/vimfiles", "nvim/site")]
@@ -83,6 +91,9 @@ def check_install():
         wanted += [f"usr/share/doc/ti/examples/{name}" for name in os.listdir(os.path.join(TOP, "examples"))]
         for name in sorted(set(wanted) - set(installed)):
             yield f"make install puts no {name}"
+        for name in EVERYDAY_TOOLS:
+            if os.readlink(here("bin", name)) != "ti-everyday":
+                yield f"{name} is no link to ti-everyday"
         env = {"PATH": here("bin") + ":/usr/bin:/bin", "TERMINFO": os.path.join(directory, "out")}
         script = "ti tic dumb.ti && ti-tic -o again dumb.ti && cmp $TERMINFO/d/dumb again/d/dumb &&"
         script += " ti-tput -T dumb cols && ti-infocmp dumb | head -n 1; ti-tput -T dumb bw; echo $?;"
@@ -97,6 +108,35 @@ def check_install():
         for name in sorted(set(files_below(directory)) - before):
             yield f"make uninstall leaves {name}"
     yield from readme_faults()
+
+
+def dead_links(directory):
+    """The links of the pages of Markdown below a directory that lead to nothing below it."""
+    top = os.path.realpath(directory)
+    for page in files_below(directory):
+        if not page.endswith(".md"):
+            continue
+        at = os.path.join(top, os.path.dirname(page))
+        for link in re.findall(r"\]\(([^)#:]+)(?:#[^)]*)?\)", text_of(directory, page)):
+            target = os.path.normpath(os.path.join(at, link))
+            if not target.startswith(f"{top}/") or not os.path.exists(target):
+                yield f"{page}: the link {link} leads nowhere"
+
+
+def check_links():
+    """Whether README and docs are installed, and the links of installed pages lead to what is
+    installed with them. Any program takes the place of ti: the pages do not depend on it."""
+    need("make")
+    with tempfile.TemporaryDirectory(prefix="ti-package-") as directory:
+        said = output(["make", "-s", "install", "PROGRAM=/bin/true", f"DESTDIR={directory}", "PREFIX="], cwd=TOP)
+        if said:
+            yield f"make install says {said!r}"
+        doc = os.path.join(directory, "share", "doc", "ti")
+        pages = [name for name in os.listdir(os.path.join(TOP, "docs")) if name.endswith(".md")]
+        for name in ["README.md", "SECURITY.md", *(os.path.join("docs", page) for page in pages)]:
+            if not os.path.exists(os.path.join(doc, name)):
+                yield f"make install puts no {name}"
+        yield from dead_links(doc)
 
 
 def readme_faults():
@@ -164,6 +204,37 @@ def library_faults(shared, unpacked):
             yield f"a program that takes {package} prints {got!r}"
 
 
+def python_faults(what, place, library):
+    """What is wrong with the module for Python in a directory, over a shared library."""
+    need("python3")
+    script = "import ti; print(ti.Entry.find('xterm')['cup'](4, 9)); print(ti.__file__)"
+    env = {"PYTHONPATH": place, "PYTHONDONTWRITEBYTECODE": "1", "LD_LIBRARY_PATH": library, "PATH": "/usr/bin:/bin"}
+    got = output(["python3", "-c", script], env=env)
+    if got != f"b'\\x1b[5;10H'\n{place}/ti/__init__.py\n":
+        yield f"the module of {what} prints {got!r}"
+
+
+def wheel_faults(path, room):
+    """What is wrong with the wheel: files that differ from those of its list, or a module that does
+    not run."""
+    with zipfile.ZipFile(path) as packed:
+        files = {name: packed.read(name) for name in packed.namelist()}
+    record = next(name for name in files if name.endswith("/RECORD"))
+    for line in files[record].decode().splitlines():
+        name, said, size = line.split(",")
+        digest = base64.urlsafe_b64encode(hashlib.sha256(files[name]).digest()).rstrip(b"=").decode()
+        if name != record and (said, size) != (f"sha256={digest}", str(len(files[name]))):
+            yield f"the wheel's {name} is not as its list says"
+    if not any(f"\nVersion: {version()}\n" in text.decode() for name, text in files.items() if name.endswith("/METADATA")):
+        yield f"the wheel is not of {version()}"
+    if subprocess.run(["python3", "-m", "pip", "--version"], stdout=subprocess.DEVNULL, check=False).returncode == 0:
+        output(["python3", "-m", "pip", "install", "-q", "--no-index", "--no-deps", "--target", room, path])
+    else:
+        output(["python3", "-m", "zipfile", "-e", path, room])
+    if HAS_LIBRARY:
+        yield from python_faults("the wheel", room, LIBRARY)
+
+
 def tinfo_faults(made, names, unpacked):
     """What is wrong with ti-run of the unpacked packages: which libraries it has a program take."""
     for name in names:
@@ -188,6 +259,7 @@ def check_deb():
             unpacked = os.path.join(room, name.split("_")[0])
             output(["dpkg-deb", "-x", os.path.join(made, name), unpacked])
             if name.startswith("ti_"):
+                yield from dead_links(os.path.join(unpacked, "usr", "share", "doc", "ti"))
                 pages = [name for name in files_below(unpacked) if "/man/man" in name]
                 if len(pages) != len(INSTALLED_PAGES):
                     yield f"{name} has the pages {pages}"
@@ -203,6 +275,10 @@ def check_deb():
             return
         yield from library_faults(os.path.join(room, "libti1"), os.path.join(room, "libti-dev"))
         yield from tinfo_faults(made, names, os.path.join(room, "with-tinfo"))
+        modules = os.path.join(room, "python3-ti", "usr", "lib", "python3", "dist-packages")
+        libraries = os.path.join(room, "libti1", "usr", "lib")
+        shared = next(name for name in files_below(libraries) if name.endswith("libti.so.1"))
+        yield from python_faults("python3-ti", modules, os.path.dirname(os.path.join(libraries, shared)))
 
 
 def check_deb_in_chroot():
@@ -215,11 +291,11 @@ def check_deb_in_chroot():
         raise Skipped("a chroot takes root's rights")
     with tempfile.TemporaryDirectory(prefix="ti-package-") as room:
         made, system = os.path.join(room, "made"), os.path.join(room, "system")
-        name = next(file for file in make("deb", made) if file.startswith("ti_"))
-        words = ["debootstrap", "--variant=minbase", debian_release(), system]
+        packages = [os.path.join(made, name) for name in make("deb", made)]
+        words = ["debootstrap", "--variant=minbase", "--include=python3", debian_release(), system]
         if subprocess.run(words, stdout=subprocess.DEVNULL, stderr=subprocess.DEVNULL, check=False).returncode:
             raise Skipped("debootstrap could make no system here")
-        yield from chroot_faults(system, os.path.join(made, name))
+        yield from chroot_faults(system, packages)
 
 
 def debian_release():
@@ -229,11 +305,18 @@ def debian_release():
     return found[1] if found else "stable"
 
 
-def chroot_faults(system, package):
-    """What is wrong with a package in a system: installing, running, removing, purging."""
+# a program in Python over the library, and one in C over libtinfo of the package
+LIBRARY_SCRIPT = """TERM=xterm python3 -B -c 'import ti; print(ti.Entry.find()["cup"](4, 9))' &&
+ti-run bash -c 'echo "bash runs"'"""
+LIBRARY_PRINTED = "b'\\x1b[5;10H'\nbash runs\n"
+
+
+def chroot_faults(system, packages):
+    """What is wrong with the packages in a system: installing, running, removing, purging."""
     before = set(files_below(system))
     room = os.path.join(system, "room")
     os.makedirs(os.path.join(room, "packages"))
+    (package,) = (path for path in packages if os.path.basename(path).startswith("ti_"))
     shutil.copy(package, os.path.join(room, "packages"))
     shutil.copy(os.path.join(TOP, "examples", "dumb.ti"), room)
 
@@ -249,8 +332,16 @@ def chroot_faults(system, package):
     if got != PRINTED:
         yield f"the installed program prints {got!r}"
     yield from alternative_faults(run)
+    for path in packages:
+        shutil.copy(path, os.path.join(room, "packages"))
+    said = run("dpkg -i packages/*.deb >log 2>&1 || cat log")
+    if said:
+        yield f"the packages of the library: {said!r}"
+    got = run(LIBRARY_SCRIPT)
+    if got != LIBRARY_PRINTED:
+        yield f"the programs over the installed library print {got!r}"
     for action in ("--remove", "--purge"):
-        run(f"dpkg {action} ti")
+        run(f"dpkg {action} {' '.join(PACKAGES)}")
     shutil.rmtree(room)
     left = set(files_below(system)) - before
     if left:
@@ -258,10 +349,10 @@ def chroot_faults(system, package):
 
 
 def alternative_faults(run):
-    """What is wrong with the commands of COMPARED.md that put `ti tput` in the place of tput."""
+    """What is wrong with the commands of COMPARED.md that put `ti-tput` in the place of tput."""
     (command,) = commands_of("docs/COMPARED.md", "## In place of ncurses's tools")
-    said = run(f"{command} >log 2>&1 || cat log; /usr/local/bin/tput --help | head -n 1")
-    if said != ti("help", "tput").split("\n")[0] + "\n":
+    said = run(f"{command} >log 2>&1 || cat log; /usr/local/bin/tput --version")
+    if said != f"ti-tput {version()}\n":
         yield f"{command}: {said!r}"
     command = re.search(r"`(update-alternatives --remove [^`]*)`", text_of("docs", "COMPARED.md"))[1]
     said = run(f"{command}; ls /usr/local/bin")
@@ -297,8 +388,9 @@ def extension_faults(path, room):
 
 
 def check_release():
-    """Whether the archives are the same each time; install.sh installs and removes a program that
-    runs; the extension of Visual Studio Code has what it names."""
+    """Whether the archives are the same each time, and have README and docs; install.sh installs and
+    removes a program that runs; the extension of Visual Studio Code has what it names; the wheel's
+    module runs."""
     need("git")
     with tempfile.TemporaryDirectory(prefix="ti-package-") as room:
         made, names, faults = made_twice("release", room)
@@ -313,7 +405,11 @@ def check_release():
         said = output(["sh", "-c", command], cwd=room, env=env)
         if said:
             yield f"{command}: {said!r}"
-        script = os.path.join(room, archive.removesuffix(".tar.gz"), "install.sh")
+        tree = os.path.join(room, archive.removesuffix(".tar.gz"))
+        if not os.path.exists(os.path.join(tree, "README.md")):
+            yield f"{archive} has no README.md"
+        yield from dead_links(tree)
+        script = os.path.join(tree, "install.sh")
         installed = os.path.join(room, "stage", "opt", "ti")
         yield from program_faults(archive, room, os.path.join(installed, "bin"))
         for path in files_below(installed):
@@ -324,3 +420,5 @@ def check_release():
             yield f"install.sh uninstall leaves {files_below(os.path.join(room, 'stage'))[:5]}"
         for name in (name for name in names if name.endswith(".vsix")):
             yield from extension_faults(os.path.join(room, "packages", name), os.path.join(room, "extension"))
+        (wheel,) = (name for name in names if name.endswith(".whl"))
+        yield from wheel_faults(os.path.join(room, "packages", wheel), os.path.join(room, "wheel"))

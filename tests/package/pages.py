@@ -2,10 +2,11 @@
 
 import os
 import re
+import subprocess
 import sys
 import tempfile
 
-from shared import PAGES_OF_ALL, TOP, commands_of, files_below, need, output, text_of
+from shared import PAGES_OF_ALL, TOP, bytes_of, commands_of, files_below, need, output, text_of
 
 SECTIONS = [
     "NAME", "SYNOPSIS", "DESCRIPTION", "ENVIRONMENT", "FILES", "EXIT STATUS", "EXAMPLES", "COMPATIBILITY",
@@ -14,18 +15,37 @@ SECTIONS = [
 # what ti-report.7, which is about no command, does not have
 OF_COMMANDS = ("SYNOPSIS", "ENVIRONMENT", "FILES", "EXIT STATUS")
 WIDTH = 100
-BYTES_OF_README = 9000
 # words for which the pages have plainer ones: after, next to or compared with, directory, fix, is,
 # out of memory, CPU time
 AVOIDED = re.compile(
     r"\b(behind|besides?|folders?|mend(?:s|ed)?|stands?|want of memory|processor time|by the clock)\b", re.I
 )
+# turns of phrase that pages say more plainly, over lines: "is no number" for "is not a number", "tells"
+# and "is answered" of programs, "so is the other"
+IDIOMS = re.compile(
+    r"(?<!there\s)\b(?:is|are|was|were) no (?!longer\b|more\b|less\b)\w+|\b(?:tells|told|telling)\b"
+    r"|\b(?:is|are|was|were|be|been) answered\b|\banswers (?:an?|the|it|each|every|by)\b|\bby means of\b"
+    r"|\b(?:gives?|gave|given|giving) back\b|\bthe one\b[^.,;:|]{1,60}\bthe other\b(?!\s+\w)"
+    r"|\bso (?:is|are|does|do|has|have) (?:an?|the|what|its|it|each|every|one|they)\b".replace(" ", r"\s+"),
+    re.I,
+)
+# what is read for these, apart from pages
+PLAIN = ("debian/control", "debian/ti.README.Debian", "include/ti.h", "include/ti.c", "python/ti/__init__.py")
 # its rows quote the comments of definitions, and are written by docs/definitions.py
 GENERATED = os.path.join("docs", "DEFINITIONS.md")
 # files with comments, and how a line of a comment alone begins
 COMMENTED = (".bash", ".c", ".fish", ".h", ".py", ".sh", ".ti", ".lua", ".vim", ".el", ".js", "Makefile", "_ti", "/run")
+# what is spelled, apart from pages at the top and doc comments; and the words that are right here
+SPELLED = (
+    "bench", "build", "completions", "debian", "docs", "editors", "examples", "include", "man", "python", "tests",
+    "tinfo",
+)
+WORDS = os.path.join(os.path.dirname(os.path.abspath(__file__)), "words.txt")
 COMMENT = re.compile(r"\s*(#|/\*|\*|//|--|;;|\"(?!\")) ")
-CODES = [f"E{digit}" for digit in range(1, 10)] + [f"W{digit}" for digit in range(1, 5)]
+# whether ncurses's own pages are installed here is no fault of ours
+FOREIGN = re.compile(r"mandoc\.db|referenced manual not found: Xr (tic|infocmp|tput|term|terminfo|user_caps) \d")
+# W5 is of user-defined capabilities
+CODES = [f"E{digit}" for digit in range(1, 10)] + [f"W{digit}" for digit in range(1, 6)]
 
 
 def check_pages():
@@ -41,14 +61,13 @@ def check_pages():
     every = sorted(os.listdir(os.path.join(TOP, "man")))
     for name in every:
         yield from (f"{name}: the word {word}" for word in AVOIDED.findall(text_of("man", name)))
+        yield from idiom_faults(f"man/{name}")
     need("mandoc")
     for name in every:
         # without the conventions of BSD's base systems, in which .Os names nothing
         said = output(["mandoc", "-T", "lint", "-W", "style", name], cwd=os.path.join(TOP, "man"))
         for line in said.split("\n"):
-            # whether ncurses's own pages are installed here is no fault of ours
-            foreign = re.search(r"mandoc\.db|referenced manual not found: Xr (tic|infocmp|tput|term|terminfo) \d", line)
-            if line and not foreign:
+            if line and not FOREIGN.search(line):
                 yield line
 
 
@@ -82,15 +101,25 @@ def line_faults(path, is_free):
         yield from (f"{path}:{number}: the word {word}" for word in AVOIDED.findall(line))
 
 
+def idiom_faults(path):
+    """Turns of phrase of a file that pages say more plainly, but for what is code."""
+    text = text_of(path)
+    if path.endswith(".md"):
+        text = re.sub(r"^```.*?^```|`[^`]*`", lambda code: "\n" * code[0].count("\n"), text, flags=re.M | re.S)
+    for found in IDIOMS.finditer(text):
+        yield f"{path}:{text.count(chr(10), 0, found.start()) + 1}: the words {' '.join(found[0].split())}"
+
+
 def check_markdown():
     """Whether pages have the links that they need, which lead to files; lines keep to the width,
-    but for rows of tables; words are plain; README is short; the pictures are drawn from what they show."""
+    but for rows of tables; words are plain; the pictures are drawn from what they show."""
     for page in markdown_pages():
         yield from link_faults(page)
         if page != GENERATED:
             yield from line_faults(page, lambda line: line.startswith("|"))
-    if len(text_of("README.md").encode()) > BYTES_OF_README:
-        yield f"README.md has more than {BYTES_OF_README} bytes"
+            yield from idiom_faults(page)
+    for path in PLAIN:
+        yield from idiom_faults(path)
     for script in ("build/crates_picture.py", "bench/picture.py"):
         said = output([sys.executable, os.path.join(TOP, script), "--check"])
         if said:
@@ -106,6 +135,44 @@ def check_scripts():
         # this file has the words that are avoided; cases have data
         if path.endswith(COMMENTED) and "/cases/" not in path and not path.endswith("pages.py"):
             yield from line_faults(path, lambda line: not COMMENT.match(line))
+
+
+def doc_comments(path):
+    """A file of Rattle with each line empty that is not of a doc comment, so that lines keep their
+    numbers."""
+    return "\n".join(line if re.match(r"\s*//[/!]", line) else "" for line in text_of(path).split("\n"))
+
+
+def check_spelling():
+    """Whether codespell knows the words of pages, scripts, headers and examples, and of the doc
+    comments of the crates, or they are in tests/package/words.txt."""
+    need("codespell")
+    with tempfile.TemporaryDirectory(prefix="ti-package-") as room:
+        for directory in SPELLED:
+            for name in files_below(os.path.join(TOP, directory)):
+                path = os.path.join(directory, name)
+                if not name.endswith((".svg", ".pyc")) and "/cases/" not in path:
+                    put(os.path.join(room, path), bytes_of(os.path.join(TOP, path)))
+        for name in os.listdir(TOP):
+            if name.endswith(".md") or name == "Makefile":
+                put(os.path.join(room, name), bytes_of(os.path.join(TOP, name)))
+        for crate in os.listdir(os.path.join(TOP, "crates")):
+            source = os.path.join("crates", crate, "src")
+            for name in files_below(os.path.join(TOP, source)):
+                put(os.path.join(room, source, name), doc_comments(os.path.join(source, name)).encode())
+        said = subprocess.run(
+            ["codespell", "--ignore-words", WORDS, "."], cwd=room, stdout=subprocess.PIPE,
+            stderr=subprocess.STDOUT, text=True, timeout=100, check=False,
+        )
+    if said.returncode or said.stdout:
+        yield from said.stdout.replace("./", "").split("\n")[:-1] or [f"codespell: status {said.returncode}"]
+
+
+def put(path, content):
+    """Writes a file, and makes the directories above it."""
+    os.makedirs(os.path.dirname(path), exist_ok=True)
+    with open(path, "wb") as file:
+        file.write(content)
 
 
 def check_tables():

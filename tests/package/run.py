@@ -6,6 +6,8 @@
 tables       the tables of ti_caps that follow from its lists of names are as they follow
 options      the options and commands of pages, help and completions are one set, and the
              capabilities that completions know are those of the program
+everyday-options
+             the same of the options of the everyday tools
 bash, fish, zsh
              the shell gives the candidates that are wanted
 pages        the pages are clean under `mandoc -T lint`, and each says what a page is to say
@@ -13,18 +15,20 @@ markdown     pages link to the pages that they name, links lead to files, lines 
              words are plain, and the pictures of crates and of speed are those of crates.txt and of
              README's table
 scripts      comments of scripts, of the header and of examples keep to the width, in plain words
+spelling     codespell knows the words of pages, scripts and doc comments, or words.txt has them
 grammar      the grammar of VS Code gives the scopes that are wanted, and shows no fault of spelling
              where `ti tic -c` reports none
 readme       the first command of README writes what README says of it, and the
              second is what CI runs
+links        README and docs are installed, and links of installed pages lead to what is installed
 install      what `make install` puts into a directory runs from there, and `make uninstall`
              takes all of it away
 version      help, pages, changes, the header and the extension have the version of VERSION
 deb          the Debian packages are the same each time, run unpacked, and please lintian
 deb-in-chroot
-             the package installs, runs, is removed and purged in a system made by debootstrap
+             the packages install, run, are removed and purged in a system made by debootstrap
 release      the archives of a release are the same each time; install.sh installs what runs; the
-             extension of Visual Studio Code has what it names
+             extension of Visual Studio Code has what it names, and the wheel's module runs
 tarball      `make dist` makes a tarball of every file of the commit
 tarball-builds
              the program is built from that tarball, with every proof anew
@@ -50,14 +54,17 @@ from common import PROGRAM, Skipped, Tally, is_missing
 CHECKS = {
     "tables": pages.check_tables,
     "options": completions.check_options,
+    "everyday-options": completions.check_everyday_options,
     "bash": completions.check_bash,
     "fish": completions.check_fish,
     "zsh": completions.check_zsh,
     "pages": pages.check_pages,
     "markdown": pages.check_markdown,
     "scripts": pages.check_scripts,
+    "spelling": pages.check_spelling,
     "grammar": grammars.check_grammar,
     "readme": pages.check_readme,
+    "links": packages.check_links,
     "install": packages.check_install,
     "version": packages.check_version,
     "deb": packages.check_deb,
@@ -70,7 +77,9 @@ CHECKS = {
 }
 # these look at the repository alone, and not at the built program
 WITHOUT_PROGRAM = {
-    "tables", "markdown", "scripts", "pages", "grammar", "tarball", "tarball-builds", "build", "small-build",
+    "tables", "markdown", "scripts", "spelling", "pages", "grammar", "everyday-options", "links", "tarball",
+    "tarball-builds", "build",
+    "small-build",
 }
 EXPECTED = (subprocess.SubprocessError, OSError, IndexError, KeyError, TypeError, StopIteration)
 

@@ -6,10 +6,23 @@ import sys
 
 HERE = os.path.dirname(os.path.abspath(__file__))
 sys.path.insert(0, os.path.dirname(HERE))
-from common import LSP, PROGRAM, TOP, Skipped, commands_of, files_below, need, text_of  # noqa: E402, F401
+from common import (  # noqa: E402, F401
+    EVERYDAY, LSP, PROGRAM, TOP, Skipped, bytes_of, commands_of, files_below, need, text_of,
+)
 
 TOOLS = ["tic", "infocmp", "tput", "session"]
-PAGES = ["ti.1", *(f"ti-{tool}.1" for tool in TOOLS), "ti-lsp.1", "ti-report.7"]
+# the links to ti-everyday
+EVERYDAY_TOOLS = ["ti-tic", "ti-infocmp", "ti-tput"]
+# the page of each command, those of `ti` by the name of the tool
+PAGE_OF = {
+    "": "ti.1",
+    "tic": "ti-profile-tic.1",
+    "infocmp": "ti-profile-infocmp.1",
+    "tput": "ti-profile-tput.1",
+    "session": "ti-session.1",
+    **{tool: f"{tool}.1" for tool in EVERYDAY_TOOLS},
+}
+PAGES = [*PAGE_OF.values(), "ti-everyday.1", "ti-lsp.1", "ti-report.7"]
 # the page of ti-run is of another package
 PAGES_OF_ALL = [*PAGES, "ti-run.1"]
 # the language server and its page are installed if it is built
@@ -32,4 +45,7 @@ def ti(*words):
 
 
 def help_of(tool):
+    """The help of a tool of `ti`, of `ti` itself, or of an everyday tool."""
+    if tool in EVERYDAY_TOOLS:
+        return output([EVERYDAY, tool, "--help"])
     return ti("help", tool) if tool else ti("--help")

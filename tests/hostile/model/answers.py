@@ -1,6 +1,7 @@
 """What a language server for terminfo source answers to questions about a text."""
 
 import re
+from functools import lru_cache
 
 from .base import Meaning
 from .caps import FIND, FLAG, KINDS, NAMES_OF, NUMBER, TEXT, described
@@ -99,6 +100,24 @@ def items_in(folded):
         parts.append((end - len(folded[start:end].lstrip(WHITE)), end))
         start = end + 1
     return parts
+
+
+@lru_cache(maxsize=16)
+def parts_of(block):
+    """Where in a block its names field, the first of each of its names, and its items are; None for
+    an empty one."""
+    folded, where = fold_at(block)
+    names = {folded[start:end]: span_of(where, start, end) for start, end in reversed(names_in(folded))}
+    items = [span_of(where, start, end) for start, end in items_in(folded)]
+    return span_of(where, 0, len(folded.partition(b",")[0])), names, items
+
+
+def part_of(block, what):
+    """Where in a block that is which a fault is of, as `Meaning.placed_faults` has it, or None."""
+    head, names, items = parts_of(block)
+    if what is None:
+        return head
+    return names[what] if isinstance(what, bytes) else items[what]
 
 
 def use_in(folded, start, end):

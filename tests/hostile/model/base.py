@@ -62,21 +62,25 @@ class Meaning:
             return "E7"
         return "E8" if self.mentions[owner] is None else None
 
-    def faults(self, at):
-        """The faults of a block, in their order."""
+    def placed_faults(self, at):
+        """The faults of a block, in their order, each after what it is of: None for the names field,
+        a name, or the ordinal of an item."""
         block = self.blocks[at]
-        header = [fault for ordinal, fault in block.faults if ordinal < 0]
-        names = [name for name in dict.fromkeys(block.names) if self.owners[name] < at]
+        found = [(None, fault) for ordinal, fault in block.faults if ordinal < 0]
+        found += [(name, Fault(1, "W4", name)) for name in dict.fromkeys(block.names) if self.owners[name] < at]
         items = [(ordinal, fault) for ordinal, fault in block.faults if ordinal >= 0]
         for item in block.items:
             code = self.use_fault(at, item.value) if item.cap is None else None
             if code is not None:
                 items.append((item.ordinal, Fault(item.line, code, item.value)))
-        found = header + [Fault(1, "W4", name) for name in names]
-        found += [fault for _, fault in sorted(items, key=lambda row: row[0])]
+        found += sorted(items, key=lambda row: row[0])
         if self.mentions[at] is not None and self.images[at] is None:
-            found.append(Fault(1, "E9", block.names[0]))
+            found.append((block.names[0], Fault(1, "E9", block.names[0])))
         return found
+
+    def faults(self, at):
+        """The faults of a block, in their order."""
+        return [fault for _, fault in self.placed_faults(at)]
 
     def report(self, first_line=1):
         """The lines of the report."""

@@ -73,8 +73,10 @@ def signed(folded, where, start, end):
 
 
 def spelled(folded, where, start, end, value):
-    """The value of an item as it is spelled, in place of how it is written."""
+    """The value of an item as it is spelled, in place of how it is written, but for a CR at its end."""
     name, _ = parts_of(folded, start, end)
+    if len(value) > 1 and value.endswith(b"\r") and folded[name + 1 : end].endswith(b"\r"):
+        end, value = end - 1, value[:-1]
     span = span_of(where, name + 1, end)
     return [] if span is None else [("Spell the string as it is read", span, shown(written(value)))]
 
@@ -120,6 +122,11 @@ def offset_in(text, line, column):
     return len(text[: offset_of(text, line, column)].encode("utf-8"))
 
 
+def is_place(block, offset):
+    """Whether an editor has a place there: none is between a CR and its LF."""
+    return block[offset - 1 : offset + 1] != b"\r\n"
+
+
 def fixes_of(text, uri, start, end):
     """The quick fixes for a range of a text: of the block in which it begins."""
     first, held, found = offset_in(text, *start), blocks_with_lines(text), []
@@ -129,6 +136,8 @@ def fixes_of(text, uri, start, end):
             # an end before the block is in its first line
             stop = offset_in(block.decode("utf-8"), max(0, end[0] - line), end[1])
             for title, span, new in offered(block, at, owners, first - front, stop):
+                if not all(is_place(block, offset) for offset in span):
+                    continue
                 edit = {"newText": new, "range": range_in(block, line, *span)}
                 found.append({"edit": {"changes": {uri: [edit]}}, "kind": "quickfix", "title": title})
     return found

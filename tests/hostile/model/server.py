@@ -6,7 +6,8 @@ import json
 import re
 
 from .answers import (
-    Refused, completion_of, definition_of, hover_of, message_of, prepared_of, references_of, renamed_of, symbols_of,
+    Refused, completion_of, definition_of, hover_of, message_of, part_of, place_in, prepared_of, references_of,
+    renamed_of, symbols_of,
 )
 from .base import Meaning
 from .fixes import fixes_of
@@ -44,15 +45,33 @@ def depth_of(value):
     return deepest
 
 
+def mended_text(text):
+    """A text with U+FFFD in place of each surrogate that is alone."""
+    return re.sub("[\ud800-\udfff]", "\ufffd", text)
+
+
+def mended_object(pairs):
+    """An object whose keys are repaired; the last value of a key stays."""
+    return {mended_text(key): value for key, value in pairs}
+
+
+def mended_value(value):
+    """A value whose texts are repaired."""
+    if isinstance(value, str):
+        return mended_text(value)
+    if isinstance(value, list):
+        return [mended_value(inner) for inner in value]
+    return {key: mended_value(inner) for key, inner in value.items()} if isinstance(value, dict) else value
+
+
 def value_of(body):
     """The JSON value of a body."""
     if len(body) > BODY_MAX:
         raise NoJson
     try:
         text = body.decode("utf-8")
-        value = json.loads(text, parse_constant=refuse_constant)
-        # a lone surrogate has no UTF-8
-        json.dumps(value, ensure_ascii=False).encode("utf-8")
+        value = json.loads(text, parse_constant=refuse_constant, object_pairs_hook=mended_object)
+        value = mended_value(value)
     except (ValueError, RecursionError) as error:
         raise NoJson from error
     if depth_of(value) > DEPTH_MAX:
@@ -89,7 +108,7 @@ def with_change(text, change):
     """The text after a change, or None if that is no change."""
     if not isinstance(change, dict) or not isinstance(change.get("text"), str):
         return None
-    if "range" not in change:
+    if change.get("range") is None:
         return change["text"]
     if not isinstance(change["range"], dict):
         return None
@@ -100,12 +119,26 @@ def with_change(text, change):
     return text[:at] + change["text"] + text[max(at, offset_of(text, *end)) :]
 
 
-def mark(lines, line, code, message):
+def mark(line, columns, code, message):
     """A diagnostic: its line, the columns, its code, and its message."""
+    return line, *columns, 1 if code[0] != "W" else 2, code, message
+
+
+def columns_of_line(lines, line):
+    """The columns of a line without the white space before it."""
     characters = lines[line][1]
     # white space is the two bytes of terminfo(5)
-    indent = len(characters) - len(characters.lstrip(" \t"))
-    return line, indent, width(characters), 1 if code[0] != "W" else 2, code, message
+    return len(characters) - len(characters.lstrip(" \t")), width(characters)
+
+
+def columns_of_part(block, first, line, part):
+    """The columns of a part of a block that begins on the line `first`, as far as it is on the line
+    `line`; None if it does not begin there."""
+    start = None if part is None else place_in(block, first, part[0])
+    if start is None or start["line"] != line:
+        return None
+    end = part[0] + len(block[slice(*part)].partition(b"\n")[0])
+    return start["character"], place_in(block, first, end)["character"]
 
 
 def diagnostics_of(text):
@@ -114,12 +147,15 @@ def diagnostics_of(text):
     lines = lines_of(text if text.endswith("\n") else text + "\n")
     refused = refused_line(preface, blocks)
     if refused is not None:
-        return [mark(lines, *refused, "")]
-    meaning, found, line = Meaning(blocks), [], preface.count(b"\n")
+        line, code = refused
+        return [mark(line, columns_of_line(lines, line), code, "")]
+    meaning, found, first = Meaning(blocks), [], preface.count(b"\n")
     for at, block in enumerate(blocks):
-        for fault in meaning.faults(at):
-            found.append(mark(lines, line + fault.line - 1, fault.code, message_of(fault)))
-        line += block.count(b"\n")
+        for what, fault in meaning.placed_faults(at):
+            line = first + fault.line - 1
+            columns = columns_of_part(block, first, line, part_of(block, what)) or columns_of_line(lines, line)
+            found.append(mark(line, columns, fault.code, message_of(fault)))
+        first += block.count(b"\n")
     return found
 
 
@@ -250,10 +286,11 @@ class Server:
         if method not in ("textDocument/didOpen", "textDocument/didChange"):
             return []
         text = document.get("text") if method.endswith("Open") else self.changed(uri, params.get("contentChanges"))
-        if not is_small(document.get("version")) or not isinstance(text, str):
+        if not isinstance(text, str):
             return []
         self.texts[uri] = text
-        return [{"uri": uri, "version": document["version"], "shown": diagnostics_of(text)}]
+        version = document.get("version")
+        return [{"uri": uri, "version": version if is_small(version) else None, "shown": diagnostics_of(text)}]
 
     def changed(self, uri, changes):
         """The text of a document after changes; None if it is not open or a change is none."""

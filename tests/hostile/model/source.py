@@ -21,7 +21,7 @@ ADVICE = {
     "E1": "The line of names is not in order. Correct the name that is empty or has a space, a slash or a byte"
           " that is not visible ASCII.",
     "E2": "The names are over 127 bytes up to the first comma. Shorten them, or put in the comma that is missing.",
-    "E3": "This is no number. Write it in decimal, in octal after 0, or in hexadecimal after 0x.",
+    "E3": "This is not a number. Write it in decimal, in octal after 0, or in hexadecimal after 0x.",
     "E4": "The number is over 2147483647. Write a smaller one.",
     "E5": "The string cannot be read. Write octal escapes up to \\377, and \\^ for a caret that means itself.",
     "E6": "No block has this name. Correct it, or put the block in: installed entries are not looked at.",
@@ -31,7 +31,7 @@ ADVICE = {
     "W1": "No capability has this name, so it is ignored. Upper and lower case differ, and a comma in a string is"
           " written \\,.",
     "W2": "The capability is of another kind, so it is ignored. Booleans have no sign, numbers #, and strings =.",
-    "W3": "This backslash makes no escape. Leave it out, or double it.",
+    "W3": "This backslash does not begin an escape. Leave it out, or double it.",
     "W4": "An earlier block has this name. Take it out of one of the two.",
 }
 # the local faults for which a block has no entry

@@ -9,7 +9,7 @@ def units(character):
 
 
 def width(text):
-    return sum(map(units, text))
+    return len(text.encode("utf-16-le")) // 2
 
 
 def lines_of(text):
