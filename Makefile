@@ -14,20 +14,23 @@
 ##   make tinfo      builds the C library and libtinfo.so.6 over it, for programs that
 ##                   are built for ncurses's
 ##   make lsp        builds the language server, ti-lsp
+##   make everyday   builds ti-everyday, the program of ti-tic, ti-infocmp and ti-tput
 ##   make bench      times and counts the tools and ncurses's on the same work, and edits of lists
-##   make install    puts the program, its pages, completions and examples, and what Vim,
-##                   Neovim and Emacs show of terminfo source, below DESTDIR and PREFIX
-##                   (which is /usr/local); with TOOLS=1 also ti-tic, ti-infocmp and
-##                   ti-tput; the C library, libtinfo.so.6 and the language server too, if
-##                   they are made
-##   make install-library   the C library alone, with its header and page, into
+##   make install    puts the program, its manual pages, README and docs, completions and
+##                   examples, and what Vim, Neovim and Emacs show of terminfo source, below
+##                   DESTDIR and PREFIX (which is /usr/local); with TOOLS=1 also ti-everyday,
+##                   with its links ti-tic, ti-infocmp and ti-tput; the C library, libtinfo.so.6 and the
+##                   language server too, if they are made
+##   make install-library   the C library alone, with its headers and page, into
 ##                   LIBDIR and INCLUDEDIR
+##   make install-python    the module for Python, into PYTHONDIR
 ##   make install-tinfo     libtinfo.so.6 alone, into LIBDIR/ti, with ti-run and its page
 ##   make uninstall  takes all of that away again
 ##   make dist       makes ti-VERSION.tar.gz of the last commit, which builds
 ##   make deb        makes Debian packages of the built programs, in packages/
-##   make release    makes archives of the built programs and of the source, and the extension
-##                   of Visual Studio Code, in packages/
+##   make wheel      makes the wheel of the module for Python, in packages/
+##   make release    makes archives of the built programs and of the source, the wheel, and the
+##                   extension of Visual Studio Code, in packages/
 ##   make reproduce  builds two clones of the last commit, and compares what they give
 
 PREFIX ?= /usr/local
@@ -36,35 +39,52 @@ MANDIR ?= $(PREFIX)/share/man
 BASHDIR ?= $(PREFIX)/share/bash-completion/completions
 ZSHDIR ?= $(PREFIX)/share/zsh/site-functions
 FISHDIR ?= $(PREFIX)/share/fish/vendor_completions.d
-EXAMPLESDIR ?= $(PREFIX)/share/doc/ti/examples
+DOCDIR ?= $(PREFIX)/share/doc/ti
+EXAMPLESDIR = $(DOCDIR)/examples
 VIMDIR ?= $(PREFIX)/share/vim/vimfiles
 NVIMDIR ?= $(PREFIX)/share/nvim/site
 EMACSDIR ?= $(PREFIX)/share/emacs/site-lisp
 LIBDIR ?= $(PREFIX)/lib
 INCLUDEDIR ?= $(PREFIX)/include
+PYTHONDIR ?= $(PREFIX)/lib/python3/dist-packages
 VERSION := $(shell cat VERSION)
 
 PROGRAM = crates/ti/out/ti
 LSP = crates/ti_lsp/out/ti_lsp
+EVERYDAY = crates/ti_everyday/out/ti_everyday
 EXAMPLES = $(wildcard examples/*)
+# pages that are installed with their pictures, as they are here. Of their links those to editors
+# lead to the examples, and those to what is not below DOCDIR become their words
+DOCS = README.md SECURITY.md $(wildcard docs/*.md docs/*.svg)
+LINKS = -e 's!\]\((\.\./)?editors/!](\1examples/editors/!g' \
+	-e 's!\[([^]]*)\]\((\.\./)?(man|include|CHANGELOG|CONTRIBUTING|LICENSE)[^)]*\)!\1!g'
 # what is for one editor and runs as it is, and what a user copies
 VIM_FILES = $(patsubst editors/vim/%,%,$(wildcard editors/vim/*/terminfo.vim))
 EDITORS = $(wildcard $(addprefix editors/,*.el *.json *.lua *.toml *.vim *.xml textmate/* vim/*/* vscode/*))
 EDITOR_DIRS = vscode textmate vim/syntax vim/ftplugin vim/ftdetect vim
-PAGES = man/ti.1 man/ti-tic.1 man/ti-infocmp.1 man/ti-tput.1 man/ti-session.1 man/ti-report.7
+PAGES = man/ti.1 man/ti-profile-tic.1 man/ti-profile-infocmp.1 man/ti-profile-tput.1 \
+	man/ti-session.1 man/ti-everyday.1 man/ti-tic.1 man/ti-infocmp.1 man/ti-tput.1 \
+	man/ti-report.7
+# the links to ti-everyday
 TOOL_NAMES = ti-tic ti-infocmp ti-tput
 LIBRARY = crates/ti_c/out/lib
-LIBRARY_FILES = $(INCLUDEDIR)/ti.h $(LIBDIR)/libti.a $(LIBDIR)/libti.so.1 $(LIBDIR)/libti.so \
-	$(LIBDIR)/pkgconfig/ti.pc $(MANDIR)/man3/ti.3
+HEADERS = ti.h ti_names.h
+# what ti.h declares: each name leads to the page
+CALLS := $(shell sed -n 's/.*\b\(ti_[a-z_]*\)\x28.*/\1/p' include/ti.h | sort -u)
+LIBRARY_FILES = $(addprefix $(INCLUDEDIR)/,$(HEADERS)) $(LIBDIR)/libti.a $(LIBDIR)/libti.so.1 $(LIBDIR)/libti.so \
+	$(LIBDIR)/pkgconfig/ti.pc $(MANDIR)/man3/ti.3 $(CALLS:%=$(MANDIR)/man3/%.3)
+PYTHON_FILES = ti/__init__.py ti/py.typed
 # not where the loader looks by itself: the system's libtinfo.so.6 stays the one that is found
 TINFODIR = $(LIBDIR)/ti
 TINFO = $(LIBRARY)/ti/libtinfo.so.6
 TINFO_FILES = $(TINFODIR)/libtinfo.so.6 $(BINDIR)/ti-run $(MANDIR)/man1/ti-run.1
 PC_VALUES = -e 's|@PREFIX@|$(PREFIX)|' -e 's|@LIBDIR@|$(LIBDIR)|' -e 's|@INCLUDEDIR@|$(INCLUDEDIR)|'
 
-.PHONY: all help check test cli integration package hostile wrong-bodies library tinfo lsp bench
-.PHONY: install install-library install-tinfo uninstall uninstall-library uninstall-tinfo
-.PHONY: dist deb release reproduce
+.PHONY: all help check test cli integration package hostile wrong-bodies library tinfo lsp
+.PHONY: everyday bench
+.PHONY: install install-library install-python install-tinfo
+.PHONY: uninstall uninstall-library uninstall-python uninstall-tinfo
+.PHONY: dist deb wheel release reproduce
 
 all:
 	./ti --help >/dev/null
@@ -78,13 +98,13 @@ check:
 test:
 	tests/run
 
-cli: all
+cli: all everyday
 	python3 tests/cli/run.py
 
-integration: all lsp
+integration: all lsp everyday
 	python3 tests/integration/run.py
 
-package: all
+package: all everyday
 	python3 tests/package/run.py
 
 hostile: all lsp
@@ -104,6 +124,9 @@ tinfo: library
 lsp:
 	python3 build/build.py ti_lsp
 
+everyday:
+	python3 build/build.py ti_everyday
+
 bench: all
 	python3 build/build.py dev_bench
 	python3 bench/run.py
@@ -121,15 +144,24 @@ install:
 	install -m 644 completions/_ti "$(DESTDIR)$(ZSHDIR)/_ti"
 	install -m 644 completions/ti.fish "$(DESTDIR)$(FISHDIR)/ti.fish"
 	install -m 644 $(EXAMPLES) "$(DESTDIR)$(EXAMPLESDIR)"
+	install -d "$(DESTDIR)$(DOCDIR)/docs"
+	for file in $(DOCS) examples/README.md; do \
+		sed -E $(LINKS) "$$file" >"$(DESTDIR)$(DOCDIR)/$$file" && \
+		chmod 644 "$(DESTDIR)$(DOCDIR)/$$file" || exit 1; \
+	done
+	for file in $(EDITORS); do \
+		install -D -m 644 "$$file" "$(DESTDIR)$(EXAMPLESDIR)/$$file" || exit 1; \
+	done
 	for file in $(VIM_FILES); do \
 		install -D -m 644 "editors/vim/$$file" "$(DESTDIR)$(VIMDIR)/$$file" && \
 		install -D -m 644 "editors/vim/$$file" "$(DESTDIR)$(NVIMDIR)/$$file" || exit 1; \
 	done
 	install -D -m 644 editors/terminfo-mode.el "$(DESTDIR)$(EMACSDIR)/terminfo-mode.el"
 ifeq ($(TOOLS),1)
+	test -x $(EVERYDAY) || $(MAKE) everyday
+	install -m 755 $(EVERYDAY) "$(DESTDIR)$(BINDIR)/ti-everyday"
 	for tool in $(TOOL_NAMES); do \
-		printf '#!/bin/sh\nexec "$$(dirname -- "$$(readlink -f -- "$$0")")/ti" %s "$$@"\n' "$${tool#ti-}" \
-			>"$(DESTDIR)$(BINDIR)/$$tool" && chmod 755 "$(DESTDIR)$(BINDIR)/$$tool" || exit 1; \
+		ln -sf ti-everyday "$(DESTDIR)$(BINDIR)/$$tool"; \
 		ln -sf ti "$(DESTDIR)$(BASHDIR)/$$tool"; \
 		ln -sf ti.fish "$(DESTDIR)$(FISHDIR)/$$tool.fish"; \
 	done
@@ -139,21 +171,25 @@ endif
 	if test -x $(LSP); then \
 		install -m 755 $(LSP) "$(DESTDIR)$(BINDIR)/ti-lsp" && \
 		install -m 644 man/ti-lsp.1 "$(DESTDIR)$(MANDIR)/man1/ti-lsp.1" || exit 1; \
-		for file in $(EDITORS); do \
-			install -D -m 644 "$$file" "$(DESTDIR)$(EXAMPLESDIR)/$$file" || exit 1; \
-		done; \
 	fi
 
 install-library:
 	test -f $(LIBRARY)/libti.a || $(MAKE) library
 	install -d "$(DESTDIR)$(INCLUDEDIR)" "$(DESTDIR)$(LIBDIR)/pkgconfig" "$(DESTDIR)$(MANDIR)/man3"
-	install -m 644 include/ti.h "$(DESTDIR)$(INCLUDEDIR)/ti.h"
+	install -m 644 $(addprefix include/,$(HEADERS)) "$(DESTDIR)$(INCLUDEDIR)"
 	install -m 644 $(LIBRARY)/libti.a "$(DESTDIR)$(LIBDIR)/libti.a"
 	install -m 755 $(LIBRARY)/libti.so.1 "$(DESTDIR)$(LIBDIR)/libti.so.1"
 	ln -sf libti.so.1 "$(DESTDIR)$(LIBDIR)/libti.so"
 	sed $(PC_VALUES) include/ti.pc.in >"$(DESTDIR)$(LIBDIR)/pkgconfig/ti.pc"
 	chmod 644 "$(DESTDIR)$(LIBDIR)/pkgconfig/ti.pc"
 	install -m 644 man/ti.3 "$(DESTDIR)$(MANDIR)/man3/ti.3"
+	for call in $(CALLS); do ln -sf ti.3 "$(DESTDIR)$(MANDIR)/man3/$$call.3" || exit 1; done
+
+# it calls libti.so.1 by its name, so it runs with any version of Python
+install-python:
+	for file in $(PYTHON_FILES); do \
+		install -D -m 644 "python/$$file" "$(DESTDIR)$(PYTHONDIR)/$$file" || exit 1; \
+	done
 
 # ti-run finds the library from where it is itself, so that both can be moved together
 install-tinfo:
@@ -165,7 +201,7 @@ install-tinfo:
 	chmod 755 "$(DESTDIR)$(BINDIR)/ti-run"
 	install -m 644 man/ti-run.1 "$(DESTDIR)$(MANDIR)/man1/ti-run.1"
 
-uninstall: uninstall-library uninstall-tinfo
+uninstall: uninstall-library uninstall-python uninstall-tinfo
 	rm -f "$(DESTDIR)$(BINDIR)/ti" "$(DESTDIR)$(BINDIR)/ti-lsp" "$(DESTDIR)$(MANDIR)/man1/ti-lsp.1"
 	for page in $(PAGES); do \
 		rm -f "$(DESTDIR)$(MANDIR)/man$${page##*.}/$${page##*/}"; \
@@ -179,13 +215,20 @@ uninstall: uninstall-library uninstall-tinfo
 	rmdir "$(DESTDIR)$(EXAMPLESDIR)/editors" 2>/dev/null || true
 	for file in $(VIM_FILES); do rm -f "$(DESTDIR)$(VIMDIR)/$$file" "$(DESTDIR)$(NVIMDIR)/$$file"; done
 	rm -f "$(DESTDIR)$(EMACSDIR)/terminfo-mode.el"
-	rmdir "$(DESTDIR)$(EXAMPLESDIR)" "$$(dirname "$(DESTDIR)$(EXAMPLESDIR)")" 2>/dev/null || true
+	for file in $(DOCS); do rm -f "$(DESTDIR)$(DOCDIR)/$$file"; done
+	rmdir "$(DESTDIR)$(EXAMPLESDIR)" "$(DESTDIR)$(DOCDIR)/docs" "$(DESTDIR)$(DOCDIR)" \
+		2>/dev/null || true
+	rm -f "$(DESTDIR)$(BINDIR)/ti-everyday"
 	for tool in $(TOOL_NAMES); do \
 		rm -f "$(DESTDIR)$(BINDIR)/$$tool" "$(DESTDIR)$(BASHDIR)/$$tool" "$(DESTDIR)$(FISHDIR)/$$tool.fish"; \
 	done
 
 uninstall-library:
 	for file in $(LIBRARY_FILES); do rm -f "$(DESTDIR)$$file"; done
+
+uninstall-python:
+	for file in $(PYTHON_FILES); do rm -f "$(DESTDIR)$(PYTHONDIR)/$$file"; done
+	rmdir "$(DESTDIR)$(PYTHONDIR)/ti" 2>/dev/null || true
 
 uninstall-tinfo:
 	for file in $(TINFO_FILES); do rm -f "$(DESTDIR)$$file"; done
@@ -195,10 +238,13 @@ dist:
 	git archive --format=tar.gz --prefix=ti-$(VERSION)/ -o ti-$(VERSION).tar.gz HEAD
 	@echo ti-$(VERSION).tar.gz
 
-deb: all lsp library tinfo
+deb: all lsp library tinfo everyday
 	python3 build/packages.py deb
 
-release: all lsp library tinfo
+wheel:
+	python3 build/wheel.py
+
+release: all lsp library tinfo everyday
 	python3 build/packages.py release
 
 reproduce:

@@ -117,7 +117,7 @@ def prove_marked(crates, digests, name, make):
     if os.path.exists(mark_of(name)):
         os.remove(mark_of(name))
     proved, said = make()
-    # If a file was edited since the build began, nothing tells which text was proved.
+    # If a file was edited since the build began, nothing says which text was proved.
     if proved and digest_of(crates, name, {}) == digests[name]:
         mark_proved(digests, name)
     return proved, said
@@ -222,7 +222,7 @@ def tell(what):
 
 
 def count_jobs():
-    """How many processors to use; none if TI_JOBS is no number from 1 on."""
+    """How many processors to use; none if TI_JOBS is not a number from 1 on."""
     said = os.environ.get("TI_JOBS", "")
     if said:
         return int(said) if re.fullmatch("[1-9][0-9]{0,5}", said) else 0
@@ -271,7 +271,7 @@ def build_if_changed(program):
         return 0
     jobs = count_jobs()
     if not jobs:
-        tell("cannot be built: TI_JOBS is no number from 1 on")
+        tell("cannot be built: TI_JOBS is not a number from 1 on")
         return 1
     hold_checkout()
     digests.clear()

@@ -24,14 +24,17 @@ install)
     if [ -f lib/pkgconfig/ti.pc ]; then
         sed "s|=/usr|=${PREFIX:-/usr/local}|" lib/pkgconfig/ti.pc >"$target/lib/pkgconfig/ti.pc"
     fi
+    # the loader finds a new library only after this
+    if [ -z "${DESTDIR:-}" ] && [ -f lib/libti.so.1 ]; then
+        PATH=$PATH:/sbin:/usr/sbin ldconfig 2>/dev/null ||
+            echo "install.sh: run ldconfig as root, so that programs find libti.so.1" >&2
+    fi
     ;;
 uninstall)
     find bin include lib share -type f -o -type l 2>/dev/null | while read -r file; do
         rm -f "$target/$file"
     done
-    examples=$target/share/doc/ti/examples
-    find "$examples" -depth -type d -exec rmdir {} + 2>/dev/null || true
-    rmdir "$target/share/doc/ti" 2>/dev/null || true
+    find "$target/share/doc/ti" -depth -type d -exec rmdir {} + 2>/dev/null || true
     ;;
 *)
     echo "usage: [DESTDIR=DIR] [PREFIX=DIR] ./install.sh [uninstall]" >&2

@@ -2,11 +2,13 @@
 """Makes what a release consists of, from the built program, into a directory, or packages/.
 
     build/packages.py deb [DIRECTORY]        the packages of debian/control, by debhelper: ti,
-                                             libti1, libti-dev and libti-tinfo
-    build/packages.py release [DIRECTORY]    ti-VERSION-ARCH-linux.tar.gz with install.sh, the
-                                             source as ti-VERSION.tar.gz, the extension of Visual
-                                             Studio Code as ti-lsp-VERSION-PLATFORM.vsix if the
-                                             server is built, and SHA256SUMS of all
+                                             libti1, libti-dev, libti-tinfo and python3-ti
+    build/packages.py release [DIRECTORY]    ti-VERSION-ARCH-linux.tar.gz with install.sh and
+                                             README, the source as ti-VERSION.tar.gz, the module for
+                                             Python as ti_terminfo-VERSION-py3-none-any.whl, the
+                                             extension of Visual Studio Code as
+                                             ti-lsp-VERSION-PLATFORM.vsix if the server is built, and
+                                             SHA256SUMS of all
 
 What is made depends on the commit and the built program alone: two clones give the same bytes.
 Times are SOURCE_DATE_EPOCH, or that of the last commit; owners are numbers, and names are sorted.
@@ -16,6 +18,7 @@ import gzip
 import hashlib
 import io
 import os
+import re
 import shutil
 import subprocess
 import sys
@@ -24,10 +27,11 @@ import tempfile
 
 from extension import extension, platform
 from repository import TOP, files_below, text_of
+from wheel import project, wheel, wheel_name
 
 LICENCES = ("LICENSE-MIT", "LICENSE-APACHE")
-# what is built is no file of the repository
-BUILT = ("crates/ti/out/ti", "crates/ti_lsp/out/ti_lsp")
+# what is built is not a file of the repository
+BUILT = ("crates/ti/out/ti", "crates/ti_lsp/out/ti_lsp", "crates/ti_everyday/out/ti_everyday")
 
 
 def output(*words, **how):
@@ -127,6 +131,11 @@ def make_deb(made):
 # The archives of a release
 
 
+def readme_at_top(text):
+    """README as it is installed, with links that lead from the top of the archive."""
+    return re.sub(r"\]\((?!\w+:)", "](share/doc/ti/", text)
+
+
 def make_release(made):
     """Makes the archives of a release, and their checksums. Gives the files."""
     when, archives = epoch(), {}
@@ -136,6 +145,8 @@ def make_release(made):
         tree = os.path.join(room, machine)
         install(os.path.join(room, "stage"), "PREFIX=/usr", "TOOLS=1")
         shutil.move(os.path.join(room, "stage", "usr"), tree)
+        readme = text_of(tree, "share", "doc", "ti", "README.md")
+        write(os.path.join(tree, "README.md"), readme_at_top(readme).encode())
         for licence in LICENCES:
             write(os.path.join(tree, licence), text_of(licence).encode())
         install_script = os.path.join(tree, "install.sh")
@@ -148,6 +159,7 @@ def make_release(made):
             cwd=TOP, stdout=subprocess.PIPE, check=True,
         ).stdout
         archives[f"{name}.tar.gz"] = compressed(source)
+    archives[wheel_name(project())] = wheel(when)
     if os.path.exists(os.path.join(TOP, BUILT[1])):
         archives[f"ti-lsp-{version()}-{platform()}.vsix"] = extension(when)
     sums = [f"{hashlib.sha256(archives[file]).hexdigest()}  {file}\n" for file in sorted(archives)]

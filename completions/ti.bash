@@ -1,5 +1,5 @@
-# Completion of ti for bash: options, terminal names from the places of entries,
-# capability names, and files.
+# Completion for bash of ti, and of the everyday tools ti-tic, ti-infocmp and ti-tput: options,
+# terminal names from the places of entries, capability names, and files.
 
 # The capabilities of terminfo(5), booleans, numbers and strings, in the order of the tables.
 _ti_capabilities='
@@ -35,25 +35,33 @@ _ti_capabilities='
 
 # Puts the directories in which entries are looked for, in their order, into `places`.
 _ti_places() {
-    local rest
+    local rest system=(/usr/share/terminfo)
     places=()
     [[ -z ${TERMINFO-} ]] || places+=("$TERMINFO")
+    if [[ -n $everyday ]]; then
+        [[ -z ${HOME-} ]] || places+=("$HOME/.terminfo")
+        system=(/etc/terminfo /lib/terminfo /usr/share/terminfo)
+    fi
     if [[ -n ${TERMINFO_DIRS+set} ]]; then
         rest=$TERMINFO_DIRS:
         while [[ -n $rest ]]; do
-            places+=("${rest%%:*}")
-            [[ -n ${places[-1]} ]] || places[-1]=/usr/share/terminfo
+            if [[ $rest == :* ]]; then
+                places+=("${system[@]}")
+            else
+                places+=("${rest%%:*}")
+            fi
             rest=${rest#*:}
         done
     fi
-    places+=(/usr/share/terminfo)
+    places+=("${system[@]}")
 }
 
-# Adds the terminals of these directories whose names begin with `current`.
+# Adds the terminals of these directories whose names begin with `current`. The everyday tools know
+# directories that are named in hexadecimal too.
 _ti_terminals() {
     local place path
     for place; do
-        for path in "$place"/?/"$current"*; do
+        for path in "$place"/?/"$current"* ${everyday:+"$place"/[0-9a-f][0-9a-f]/"$current"*}; do
             [[ ! -f $path ]] || COMPREPLY+=("${path##*/}")
         done
     done
@@ -75,17 +83,25 @@ _ti_files() {
     done < <(compgen "$1" -- "$current")
 }
 
+# Adds these options, and those that every tool of its kind has.
+_ti_options() {
+    _ti_words "$@" -h --help
+    [[ -z $everyday ]] || _ti_words -V --version
+}
+
 _ti_tic() {
-    case $previous in
-        -o) _ti_files -d ;;
-        *)
-            if [[ $current == -* ]]; then
-                _ti_words -c -o -h --help
-            else
-                _ti_files -f
-            fi
-            ;;
-    esac
+    # options without a value may be in one word with one that has a value, as in -xo
+    if [[ $previous =~ ^-[csx]*o$ ]]; then
+        _ti_files -d
+    elif [[ -n $everyday && $previous =~ ^-[csx]*e$ ]]; then
+        return
+    elif [[ $current != -* ]]; then
+        _ti_files -f
+    elif [[ -n $everyday ]]; then
+        _ti_options -c -s -x -e -o
+    else
+        _ti_options -c -o
+    fi
 }
 
 _ti_infocmp() {
@@ -105,7 +121,13 @@ _ti_infocmp() {
         -w) ;;
         *)
             if [[ $current == -* ]]; then
-                _ti_words -I -d -c -n -u -1 -w -s -A -B -h --help
+                [[ -z $everyday ]] || _ti_words -x -D
+                _ti_options -I -d -c -n -u -1 -w -s -A -B
+                return
+            fi
+            # a name of ti-infocmp with a slash is a path
+            if [[ -n $everyday && $current == */* ]]; then
+                _ti_files -f
                 return
             fi
             _ti_places
@@ -120,7 +142,7 @@ _ti_infocmp() {
 }
 
 _ti_tput() {
-    local places at
+    local places at keep=${everyday:+-x}
     case $previous in
         -T)
             _ti_places
@@ -135,13 +157,13 @@ _ti_tput() {
                 ((at++))
                 [[ ${COMP_WORDS[at]-} != = ]] || ((at++))
                 ;;
-            -S) _ti_words -T --rate -h --help; return ;;
+            -S) _ti_options $keep -T --rate; return ;;
             -*) ;;
             *) return ;;
         esac
     done
     if [[ $current == -* ]]; then
-        _ti_words -T --rate -S -h --help
+        _ti_options $keep -T --rate -S
     else
         _ti_words longname init reset $_ti_capabilities
     fi
@@ -153,10 +175,10 @@ _ti_session() {
 
 _ti() {
     local current=${COMP_WORDS[COMP_CWORD]} previous=${COMP_WORDS[COMP_CWORD - 1]}
-    local begin=1 tool=${COMP_WORDS[0]##*/} IFS=$' \t\n'
+    local begin=1 tool=${COMP_WORDS[0]##*/} everyday='' IFS=$' \t\n'
     COMPREPLY=()
     case $tool in
-        ti-*) tool=${tool#ti-} ;;
+        ti-*) tool=${tool#ti-} everyday=yes ;;
         *)
             if ((COMP_CWORD == 1)); then
                 _ti_words tic infocmp tput session help -h --help

@@ -1,5 +1,5 @@
-# Completion of ti for fish: options, terminal names from the places of entries,
-# capability names, and files.
+# Completion for fish of ti, and of the everyday tools ti-tic, ti-infocmp and ti-tput: options,
+# terminal names from the places of entries, capability names, and files.
 
 # The capabilities of terminfo(5), booleans, numbers and strings, in the order of the tables.
 function __ti_capabilities
@@ -36,18 +36,33 @@ function __ti_capabilities
         'meml memu box1'
 end
 
-# The terminals of these directories, else of all in which entries are looked for.
+# Whether the command is an everyday tool.
+function __ti_is_everyday
+    set -l words (commandline -opc)
+    string match -q 'ti-*' -- $words[1]
+end
+
+# The terminals of these directories, else of all in which entries are looked for. The everyday
+# tools look in more, and know those that are named in hexadecimal.
 function __ti_terminals
     set -l places $argv
     if not set -q places[1]
+        set -l system /usr/share/terminfo
         test -n "$TERMINFO"; and set -a places $TERMINFO
+        if __ti_is_everyday
+            set system /etc/terminfo /lib/terminfo /usr/share/terminfo
+            test -n "$HOME"; and set -a places $HOME/.terminfo
+        end
         if set -q TERMINFO_DIRS
             for part in (string split -- : "$TERMINFO_DIRS")
-                test -n "$part"; or set part /usr/share/terminfo
-                set -a places $part
+                if test -n "$part"
+                    set -a places $part
+                else
+                    set -a places $system
+                end
             end
         end
-        set -a places /usr/share/terminfo
+        set -a places $system
     end
     for place in $places
         for path in $place/*/*
@@ -61,6 +76,11 @@ function __ti_is
     set -l words (commandline -opc)
     test "$words[1]" = ti; and test "$words[2]" = $argv[1]; and return
     test "$words[1]" = ti-$argv[1]
+end
+
+# Whether the name that is typed is a path, as one with a slash is to ti-infocmp.
+function __ti_types_path
+    string match -q '*/*' -- (commandline -ct)
 end
 
 # The terminals that the next name of infocmp may be: the first name's are those of -A, all others'
@@ -133,30 +153,61 @@ complete -c ti -n __ti_wants_tool -f -a help -d 'Print the help of a tool'
 complete -c ti -n '__ti_is help' -f
 complete -c ti -n __ti_wants_help_of_tool -f -a 'tic infocmp tput session'
 
-for command in ti ti-tic ti-infocmp ti-tput
+complete -c ti -s h -l help -d 'Print help'
+
+complete -c ti -n '__ti_is tic' -o c -d 'Check only: report, and write no file'
+complete -c ti -n '__ti_is tic' -o o -x -a '(__fish_complete_directories)' -d 'Write below this directory'
+complete -c ti -n '__ti_is tic' -F
+
+complete -c ti -n '__ti_is infocmp' -f -a '(__ti_infocmp_names)'
+complete -c ti -n '__ti_is infocmp' -o I -d 'List each entry'
+complete -c ti -n '__ti_is infocmp' -o d -d 'Compare the first with each of the others: what differs'
+complete -c ti -n '__ti_is infocmp' -o c -d 'Compare the first with each of the others: what both have'
+complete -c ti -n '__ti_is infocmp' -o n -d 'Compare the first with each of the others: what neither has'
+complete -c ti -n '__ti_is infocmp' -o u -d 'List the first so that it uses the others'
+complete -c ti -n '__ti_is infocmp' -o 1 -d 'Give each item a line of its own'
+complete -c ti -n '__ti_is infocmp' -o w -x -d 'Columns of a line, from 20 to 4096'
+complete -c ti -n '__ti_is infocmp' -o s -x -a 'd i' -d 'Sort by place in the entry (d) or by name (i)'
+complete -c ti -n '__ti_is infocmp' -o A -x -a '(__fish_complete_directories)' -d 'Look for the first name only there'
+complete -c ti -n '__ti_is infocmp' -o B -x -a '(__fish_complete_directories)' -d 'Look for the other names only there'
+
+complete -c ti -n __ti_wants_capability -f -a 'longname init reset (__ti_capabilities)'
+complete -c ti -n '__ti_is tput' -f
+complete -c ti -n '__ti_is tput' -o T -x -a '(__ti_terminals)' -d 'The terminal'
+complete -c ti -n '__ti_is tput' -l rate -x -d 'Pad for a line of this many bits per second'
+complete -c ti -n '__ti_is tput' -o S -d 'Read commands from standard input, one per line'
+
+complete -c ti -n '__ti_is session' -f
+
+for command in ti-tic ti-infocmp ti-tput
     complete -c $command -s h -l help -d 'Print help'
-
-    complete -c $command -n '__ti_is tic' -o c -d 'Check only: report, and write no file'
-    complete -c $command -n '__ti_is tic' -o o -x -a '(__fish_complete_directories)' -d 'Write below this directory'
-    complete -c $command -n '__ti_is tic' -F
-
-    complete -c $command -n '__ti_is infocmp' -f -a '(__ti_infocmp_names)'
-    complete -c $command -n '__ti_is infocmp' -o I -d 'List each entry'
-    complete -c $command -n '__ti_is infocmp' -o d -d 'Compare the first with each of the others: what differs'
-    complete -c $command -n '__ti_is infocmp' -o c -d 'Compare the first with each of the others: what both have'
-    complete -c $command -n '__ti_is infocmp' -o n -d 'Compare the first with each of the others: what neither has'
-    complete -c $command -n '__ti_is infocmp' -o u -d 'List the first so that it uses the others'
-    complete -c $command -n '__ti_is infocmp' -o 1 -d 'Give each item a line of its own'
-    complete -c $command -n '__ti_is infocmp' -o w -x -d 'Columns of a line, from 20 to 4096'
-    complete -c $command -n '__ti_is infocmp' -o s -x -a 'd i' -d 'Sort by place in the entry (d) or by name (i)'
-    complete -c $command -n '__ti_is infocmp' -o A -x -a '(__fish_complete_directories)' -d 'Look for the first name only there'
-    complete -c $command -n '__ti_is infocmp' -o B -x -a '(__fish_complete_directories)' -d 'Look for the other names only there'
-
-    complete -c $command -n __ti_wants_capability -f -a 'longname init reset (__ti_capabilities)'
-    complete -c $command -n '__ti_is tput' -f
-    complete -c $command -n '__ti_is tput' -o T -x -a '(__ti_terminals)' -d 'The terminal'
-    complete -c $command -n '__ti_is tput' -l rate -x -d 'Pad for a line of this many bits per second'
-    complete -c $command -n '__ti_is tput' -o S -d 'Read commands from standard input, one per line'
-
-    complete -c $command -n '__ti_is session' -f
+    complete -c $command -s V -l version -d 'Print version'
 end
+
+complete -c ti-tic -s c -d 'Check only: report, and write no file'
+complete -c ti-tic -s s -d 'Say how many entries were written, and where'
+complete -c ti-tic -s x -d 'Take user-defined capabilities'
+complete -c ti-tic -s e -x -d 'Write only blocks with one of these names, between commas'
+complete -c ti-tic -s o -x -a '(__fish_complete_directories)' -d 'Write below this directory'
+
+complete -c ti-infocmp -f -a '(__ti_infocmp_names)'
+complete -c ti-infocmp -n __ti_types_path -F
+complete -c ti-infocmp -s x -d 'Take user-defined capabilities'
+complete -c ti-infocmp -s I -d 'List each entry'
+complete -c ti-infocmp -s d -d 'Compare the first with each of the others: what differs'
+complete -c ti-infocmp -s c -d 'Compare the first with each of the others: what both have'
+complete -c ti-infocmp -s n -d 'Compare the first with each of the others: what neither has'
+complete -c ti-infocmp -s u -d 'List the first so that it uses the others'
+complete -c ti-infocmp -s 1 -d 'Give each item a line of its own'
+complete -c ti-infocmp -s w -x -d 'Columns of a line, from 20 to 4096'
+complete -c ti-infocmp -s s -x -a 'd i' -d 'Sort by place in the entry (d) or by name (i)'
+complete -c ti-infocmp -s D -d 'Print the directories in which entries are looked for'
+complete -c ti-infocmp -s A -x -a '(__fish_complete_directories)' -d 'Look for the first name only there'
+complete -c ti-infocmp -s B -x -a '(__fish_complete_directories)' -d 'Look for the other names only there'
+
+complete -c ti-tput -f
+complete -c ti-tput -n __ti_wants_capability -f -a 'longname init reset (__ti_capabilities)'
+complete -c ti-tput -s x -d 'Keep the lines above the screen at clear, as ever'
+complete -c ti-tput -s T -x -a '(__ti_terminals)' -d 'The terminal'
+complete -c ti-tput -l rate -x -d 'Pad for a line of this many bits per second'
+complete -c ti-tput -s S -d 'Read commands from standard input, one per line'

@@ -46,7 +46,7 @@
    "\\|\\(\\^\\)."
    "\\|,\\|%[^\\,\n]?\\|^[^ \t\n].*")
   "The next piece of a string that is more than itself.
-A comma ends the string, and so does a head line.")
+A comma or a head line ends the string.")
 
 (defconst terminfo-mode--begun
   "%\\(?:'\\\\?.?\\|{[0-9]*\\|[pPg]\\|:?[-+# ]*[0-9]*\\(?:\\.[0-9]*\\)?\\)$"

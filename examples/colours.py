@@ -1,7 +1,7 @@
 """Writes in colour 200 of the terminal, by libti.so.1: python3 colours.py"""
 
 from ctypes import CDLL, Structure, byref, create_string_buffer
-from ctypes import c_char_p, c_int32, c_size_t, c_uint32, c_void_p
+from ctypes import c_char_p, c_int32, c_int64, c_size_t, c_uint32, c_void_p
 
 
 class Text(Structure):
@@ -27,12 +27,28 @@ Variables = c_int32 * 26  # struct ti_variables
 ROOM = 256
 
 
-def colour(ti, number):
-    """The bytes that choose a colour, or None if the terminal has none."""
-    entry, place, text = c_void_p(), Place(), Text(b"", 0)
-    if ti.ti_open(None, byref(entry)) or not ti.ti_capability(b"setaf", c_size_t(5), place):
+def index_of(ti, name):
+    """The index of a capability within its kind."""
+    place = Place()
+    ti.ti_capability(name, c_size_t(len(name)), place)
+    return place[1]
+
+
+def opened(ti):
+    """The entry of the terminal that TERM names; the program ends if there is none."""
+    entry = c_void_p()
+    refusal = ti.ti_open(None, byref(entry))
+    if refusal:
+        raise SystemExit(f"colours.py: {ti.ti_strerror(refusal).decode()}")
+    return entry
+
+
+def colour(ti, entry, number):
+    """The bytes that choose a colour, or None if the terminal does not have it."""
+    text = Text(b"", 0)
+    if ti.ti_number(entry, index_of(ti, b"colors")) <= number:
         return None
-    if ti.ti_string(entry, place[1], byref(text)) != 1:
+    if ti.ti_string(entry, index_of(ti, b"setaf"), byref(text)) != 1:
         return None
     given, out = Parameter(0, number, Text(b"", 0)), create_string_buffer(ROOM)
     sent = ti.ti_expand(
@@ -43,7 +59,11 @@ def colour(ti, number):
 
 library = CDLL("libti.so.1")
 library.ti_expand.restype = Outcome
-bytes_sent = colour(library, 200)
+library.ti_number.restype = c_int64
+library.ti_strerror.restype = c_char_p
+terminal = opened(library)
+bytes_sent = colour(library, terminal, 200)
+library.ti_entry_free(terminal)
 if bytes_sent is None:
-    raise SystemExit("the terminal has no colours")
+    raise SystemExit("colours.py: the terminal does not have colour 200")
 print(bytes_sent.decode() + "colour 200")

@@ -207,7 +207,7 @@ class Client {
         if (!ability.prepareProvider) return provider;
         provider.prepareRename = async (document, place) => {
             const answer = await this.ask("prepareRename", document, at(place));
-            if (!answer) throw new Error("here is no name of an entry");
+            if (!answer) throw new Error("there is no name of an entry here");
             const part = values.range(answer.range || answer);
             return answer.placeholder ? { range: part, placeholder: answer.placeholder } : part;
         };

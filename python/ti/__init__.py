@@ -8,6 +8,10 @@
     b'\\x1b[32m'
     >>> "am" in entry.flags
     True
+    >>> list(entry["flash"].timed())
+    [(b'\\x1b[?5h', 0.1), (b'\\x1b[?5l', 0.0)]
+    >>> entry["XM"]
+    b'\\x1b[?1006;1000%?%p1%{1}%=%th%el%;'
 
 It calls the shared library `libti.so.1` by ctypes; the variable LIBTI of the environment may name
 another file. All of the work on entries is the library's: see ti(3).
@@ -24,11 +28,11 @@ FLAG, NUMBER, STRING = 0, 1, 2
 _ENTRY_MEMORY, _NO_TERMINAL, _READ_FAILED = 9, 10, 11
 _REFUSALS = {
     1: "it has fewer bytes than a header",
-    2: "its first number is that of neither format",
-    3: "a size or a count is negative or too great",
+    2: "its first number belongs to neither format",
+    3: "a size or a count is negative or too large",
     4: "it ends before its string table does",
     5: "it has no names, or their only NUL is not their last byte",
-    6: "a boolean is none of 0, 1, 0xFE and 0xFF",
+    6: "a boolean is not 0, 1, 0xFE or 0xFF",
     7: "a number is below -2",
     8: "an offset is below -2, or no NUL follows it in the string table",
 }
@@ -46,7 +50,7 @@ class NoTerminal(Error, LookupError):
 
 
 class BadEntry(Error, ValueError):
-    """The bytes are no compiled entry."""
+    """The bytes are not a compiled entry."""
 
 
 class BadString(Error, ValueError):
@@ -66,6 +70,21 @@ class _Place(ctypes.Structure):
 
 class _Entry(ctypes.Structure):
     """An entry of the library, which alone looks into it."""
+
+
+class _Extension(ctypes.Structure):
+    """The user-defined capabilities of an entry: the library alone looks into it."""
+
+    _fields_ = [("wide", ctypes.c_bool), ("sections", _Text * 6)]
+
+
+class _Found(ctypes.Structure):
+    _fields_ = [
+        ("kind", ctypes.c_uint32),
+        ("is_present", ctypes.c_bool),
+        ("number", ctypes.c_uint32),
+        ("text", _Text),
+    ]
 
 
 class _Parameter(ctypes.Structure):
@@ -90,11 +109,16 @@ class _Line(ctypes.Structure):
     ]
 
 
+class _Delay(ctypes.Structure):
+    _fields_ = [("before", _Text), ("after", _Text), ("tenths", ctypes.c_uint64)]
+
+
 def _library() -> ctypes.CDLL:
     """The library, with the types of its calls."""
     library = ctypes.CDLL(os.environ.get("LIBTI") or "libti.so.1", use_errno=True)
     size, text = ctypes.c_size_t, ctypes.POINTER(_Text)
     u32, data, entry = ctypes.c_uint32, ctypes.c_char_p, ctypes.POINTER(_Entry)
+    extension, found = ctypes.POINTER(_Extension), ctypes.POINTER(_Found)
     types = {
         "ti_capability": (ctypes.c_bool, [data, size, ctypes.POINTER(_Place)]),
         "ti_name": (ctypes.c_bool, [u32, u32, text]),
@@ -105,12 +129,19 @@ def _library() -> ctypes.CDLL:
         "ti_flag": (ctypes.c_int32, [entry, u32]),
         "ti_number": (ctypes.c_int64, [entry, u32]),
         "ti_string": (ctypes.c_int32, [entry, u32, text]),
+        "ti_extension_read": (u32, [entry, extension]),
+        "ti_user_defined": (ctypes.c_bool, [extension, size, text, found]),
+        "ti_user_defined_named": (ctypes.c_bool, [extension, data, size, found]),
         "ti_line": (None, [entry, u32, ctypes.POINTER(_Line)]),
         "ti_expand": (
             _Outcome,
             [data, size, ctypes.POINTER(_Parameter), size, ctypes.POINTER(_Variables), data, size],
         ),
         "ti_pad": (_Outcome, [data, size, u32, ctypes.POINTER(_Line), data, size]),
+        "ti_first_delay": (
+            ctypes.c_bool,
+            [ctypes.c_void_p, size, u32, ctypes.POINTER(_Line), ctypes.POINTER(_Delay)],
+        ),
     }
     for name, (result, arguments) in types.items():
         call = getattr(library, name)
@@ -167,6 +198,10 @@ class String(bytes):
     def __call__(self, *parameters: Union[int, bytes, str], lines: int = 1, rate: int = 0) -> bytes:
         """The bytes that drive the terminal for these parameters, padded. A parameter that is not
         given is 0, and those after the ninth are not looked at."""
+        return self.expanded(*parameters).padded(lines, rate)
+
+    def expanded(self, *parameters: Union[int, bytes, str]) -> "String":
+        """The bytes that drive the terminal for these parameters, with their delays as they are."""
         given = (_Parameter * max(len(parameters), 1))()
         kept = [_parameter(given[at], value) for at, value in enumerate(parameters)]
         variables = self._entry._variables
@@ -177,17 +212,33 @@ class String(bytes):
             ),
         )
         del kept
-        return String(expanded, self._entry).padded(lines, rate)
+        return String(expanded, self._entry)
+
+    def _line(self, rate: int) -> _Line:
+        """The line to the terminal of the entry."""
+        line = _Line()
+        _ti.ti_line(self._entry._handle, rate, ctypes.byref(line))
+        return line
 
     def padded(self, lines: int = 1, rate: int = 0) -> bytes:
         """The bytes with each padding as pad bytes, if it takes effect on `lines` lines and the
         line to the terminal has `rate` bits per second."""
-        line = _Line()
-        _ti.ti_line(self._entry._handle, rate, ctypes.byref(line))
+        line = self._line(rate)
         return _written(
             repr(bytes(self)),
             lambda out, room: _ti.ti_pad(self, len(self), lines, ctypes.byref(line), out, room),
         )
+
+    def timed(self, lines: int = 1, rate: int = 0) -> Iterator[tuple[bytes, float]]:
+        """The bytes up to each delay, with the seconds that are due there, and the last bytes with
+        0.0: for whoever waits where no pad bytes pass the time."""
+        line, delay = self._line(rate), _Delay()
+        kept = ctypes.create_string_buffer(bytes(self), max(len(self), 1))
+        rest = _Text(ctypes.addressof(kept), len(self))
+        while _ti.ti_first_delay(rest.bytes, rest.size, lines, ctypes.byref(line), ctypes.byref(delay)):
+            yield delay.before.value(), delay.tenths / 10000
+            rest = _Text(delay.after.bytes, delay.after.size)
+        yield rest.value(), 0.0
 
 
 def _parameter(given: _Parameter, value: Union[int, bytes, str]):
@@ -208,6 +259,7 @@ class Entry(Mapping[str, Value]):
     """A compiled entry: the capabilities that it has, by their names.
 
     A boolean is there if it is set; a number or a string if it is neither absent nor cancelled.
+    User-defined capabilities, as `Tc`, come after those of the tables.
     """
 
     def __init__(self, data: bytes):
@@ -237,6 +289,10 @@ class Entry(Mapping[str, Value]):
         if refusal:
             raise BadEntry(f"{what}: {_REFUSALS[refusal]}")
         self._handle, self._variables = handle, _Variables()
+        # what follows the entry and is not an extension is ignored
+        self._extension = _Extension()
+        if _ti.ti_extension_read(handle, ctypes.byref(self._extension)):
+            self._extension = None
 
     def __del__(self) -> None:
         handle = self.__dict__.pop("_handle", None)
@@ -253,7 +309,7 @@ class Entry(Mapping[str, Value]):
     @property
     def flags(self) -> frozenset:
         """The names of the booleans that are set."""
-        return frozenset(name for at, name in enumerate(FLAG_NAMES) if _ti.ti_flag(self._handle, at) == 1)
+        return frozenset(name for name, value in self.items() if value is True)
 
     def _value(self, kind: int, index: int) -> Optional[Value]:
         if kind == FLAG:
@@ -265,11 +321,35 @@ class Entry(Mapping[str, Value]):
         found = _ti.ti_string(self._handle, index, ctypes.byref(text))
         return String(text.value(), self) if found == 1 else None
 
+    def _user_value(self, found: _Found) -> Optional[Value]:
+        if not found.is_present:
+            return None
+        return (True, found.number, String(found.text.value(), self))[found.kind]
+
+    def _user_defined(self) -> Iterator[tuple[str, Optional[Value]]]:
+        """The user-defined capabilities, each with its value."""
+        name, found, index = _Text(), _Found(), 0
+        while self._extension is not None and _ti.ti_user_defined(
+            ctypes.byref(self._extension), index, ctypes.byref(name), ctypes.byref(found)
+        ):
+            yield name.value().decode("ascii"), self._user_value(found)
+            index += 1
+
+    def _user_named(self, key: bytes) -> Optional[Value]:
+        found = _Found()
+        if self._extension is None or not _ti.ti_user_defined_named(
+            ctypes.byref(self._extension), key, len(key), ctypes.byref(found)
+        ):
+            return None
+        return self._user_value(found)
+
     def __getitem__(self, name: str) -> Value:
         place, key = _Place(), name.encode() if isinstance(name, str) else b""
         value = None
         if _ti.ti_capability(key, len(key), ctypes.byref(place)):
             value = self._value(place.kind, place.index)
+        else:
+            value = self._user_named(key)
         if value is None:
             raise KeyError(name)
         return value
@@ -279,6 +359,9 @@ class Entry(Mapping[str, Value]):
             for index, name in enumerate(names):
                 if self._value(kind, index) is not None:
                     yield name
+        for name, value in self._user_defined():
+            if value is not None:
+                yield name
 
     def __len__(self) -> int:
         return sum(1 for _ in self)
