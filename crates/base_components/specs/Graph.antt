@@ -6,7 +6,7 @@ use Rattle.std.specs.Prelude.{ℕ, ◌≡◌, ◌<◌, ◌≤◌, ◌-◌, ◌++
 abbrev pub Rows : Type 0
 Rows = List (List (Option ℕ))
 
--- an edge leads from the one node to the other
+-- an edge leads from one node to the other
 pub record HasEdge (graph : Rows) (from to : ℕ) : Type 0 where
   pub row : List (Option ℕ)
   pub place : ℕ

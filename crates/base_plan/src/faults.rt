@@ -49,7 +49,7 @@ pub(crate) fn add_locals(
 }
 
 // Adds the faults that reading gave for items before that ordinal, beginning at a place of the
-// list, and answers where the others begin.
+// list, and returns where the others begin.
 fn add_before(
     locals: &[Local],
     next: usize,

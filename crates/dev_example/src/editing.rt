@@ -72,11 +72,11 @@ fn files_of(alloc: Global, database: &Database, place: &str) -> Result<Vec<File>
     Ok(files)
 }
 
-/// Writes the files of the entries that are not in the tree yet, or differ there, and answers how
+/// Writes the files of the entries that are not in the tree yet, or differ there, and returns how
 /// many these were.
 ///
 /// # Errors
-/// What the tree answers.
+/// What the tree returns.
 pub fn write_changes<T: Tree>(
     alloc: Global,
     database: &Database,

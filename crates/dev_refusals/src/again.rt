@@ -1,6 +1,6 @@
 //! Calls that are made again.
 
-/// The answer of a call, which is made again if it answered out of memory.
+/// The answer of a call, which is made again if it returned out of memory.
 macro_rules! again {
     ($tried:expr, $memory:pat => $call:expr) => {
         match $call {

@@ -141,7 +141,7 @@ fn give_again(
     give(alloc, image, given)
 }
 
-// What an image of `xy` is given, and what it answers: the last string is too long by far.
+// What an image of `xy` is given, and what it returns: the last string is too long by far.
 const GIVEN: [(Given, Result<(), WriteError>); 3] = [
     (Given::Flag, Ok(())),
     (Given::Text(1), Ok(())),

@@ -1,5 +1,5 @@
 //! Calls of the libraries in which any growth of memory may be refused, one in a run.
-//! `tests/refusals` refuses it. Each scenario makes its calls. A call that answers out of memory
+//! `tests/refusals` refuses it. Each scenario makes its calls. A call that returns out of memory
 //! must have changed nothing, and is made again. So a scenario prints the same line whichever
 //! growth was refused, and `refused` goes to standard error if a call of the libraries said so. The
 //! edits among them are in `dev_tried_edits`.
@@ -39,7 +39,7 @@ fn words<R: Env + AllocGlobal>(rt: &R) -> io::Result<Vec<String>> {
     Ok(env::args(rt)?.collect(rt.alloc())?)
 }
 
-// Runs the scenarios that the words name. Answers whether each ended as it must.
+// Runs the scenarios that the words name. Returns whether each ended as it must.
 fn run<R: Env + Print + Eprint + AllocGlobal>(rt: &R) -> io::Result<bool> {
     let words = words(rt)?;
     let mut all_right = true;

@@ -1,4 +1,4 @@
-//! Command lines, places of entries, compiled sources and what `tput` answers.
+//! Command lines, places of entries, compiled sources and what `tput` prints.
 use crate::again::again;
 use crate::calls::entry_of;
 use dev_tried_edits::{Tried, Trouble};
@@ -189,7 +189,7 @@ pub fn files(alloc: Global) -> Result<Tried, Trouble> {
     Ok(tried)
 }
 
-/// What `tput` answers to commands.
+/// What `tput` prints for commands.
 ///
 /// # Errors
 /// As of a scenario.

@@ -71,7 +71,7 @@ pub fn moved_names() -> [Edit<'static>; 8] {
 }
 
 /// Blocks put in at the end: strings that they share, uses, circular ones, and faults; and a text
-/// that is no block.
+/// that is not a block.
 pub fn insertions() -> [Edit<'static>; 7] {
     [
         insertion(0, b"a,cols#1,bel=^G,cr=\\r,\n"),

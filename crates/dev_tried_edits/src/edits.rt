@@ -78,7 +78,7 @@ fn add_answer(tried: &mut Tried, answer: &Result<Edited, EditError>) {
     }
 }
 
-// Makes an edit, and adds what it answers and what is then seen.
+// Makes an edit, and adds what it returns and what is then seen.
 fn apply_one(
     alloc: Global,
     database: &mut Database,

@@ -8,7 +8,7 @@ pub enum Trouble {
     /// A growth was refused to the scenario itself, so that it has to be run again.
     #[error("out of memory")]
     Memory,
-    /// A call did not answer what it must.
+    /// A call did not return what it must.
     #[error("WRONG: {0}")]
     Wrong(&'static str),
 }
@@ -69,7 +69,7 @@ impl Tried {
         self.bytes
     }
 
-    /// A sum over their bytes (FNV-1a), which tells other answers from these.
+    /// A sum over their bytes (FNV-1a), which distinguishes these answers from others.
     pub fn sum(&self) -> u64 {
         self.sum
     }

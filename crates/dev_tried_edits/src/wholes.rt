@@ -60,7 +60,7 @@ fn seen_after(alloc: Global, edits: &[Edit<'_>], outcomes: &[Outcome]) -> Result
     Ok(snapshot(alloc, &reference)?)
 }
 
-// Makes edits in one call. Answers whether there was memory for it and for each of them.
+// Makes edits in one call. Returns whether there was memory for it and for each of them.
 fn run_once(alloc: Global, edits: &[Edit<'_>], tried: &mut Tried) -> Result<bool, Trouble> {
     match run(alloc, edits) {
         Ok((database, outcomes)) => add_run(alloc, edits, &database, &outcomes, tried),
@@ -69,7 +69,7 @@ fn run_once(alloc: Global, edits: &[Edit<'_>], tried: &mut Tried) -> Result<bool
 }
 
 // The outcomes and the database follow from the edits, except those that were refused for memory.
-// If none was, what is seen is added as an answer. Answers whether none was.
+// If none was, what is seen is added as an answer. Returns whether none was.
 fn add_run(
     alloc: Global,
     edits: &[Edit<'_>],

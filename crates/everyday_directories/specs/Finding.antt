@@ -39,8 +39,8 @@ HasFailed before after = (failures : ℕ) × (after ≡ before + failures)
 abbrev pub Finds : Option Files → List (List ℕ) → ℕ → ℕ → Option FileAt → Type 0
 Finds files paths before after file = (failures : ℕ) × (after ≡ before + failures) × Searches files paths failures file
 
--- what a search for the entry of a name answers, by how many reads failed: the file and its path,
--- or that there is no terminal of the name, which is so if it is no lookup name
+-- what a search for the entry of a name returns, by how many reads failed: the file and its path,
+-- or that there is no terminal of the name, which is so if it is not a lookup name
 abbrev pub Answers : Option Files → List ℕ → List (List ℕ) → ℕ → Result Found ToolError → Type 0
 Answers files name directories failures (Ok found) =
     (is_lookup_name name ≡ true) × Searches files (paths_of name directories) failures (Some (file_of found))

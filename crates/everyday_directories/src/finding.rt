@@ -50,7 +50,7 @@ fn search<T: Tree>(
 /// that may not be searched.
 ///
 /// # Errors
-/// `NoTerminal` if the name is no lookup name, and nothing is then read, or if there is no file;
+/// `NoTerminal` if the name is not a lookup name, and nothing is then read, or if there is no file;
 /// `Memory`.
 pub fn find<T: Tree>(
     alloc: Global,

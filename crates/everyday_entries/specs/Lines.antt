@@ -39,8 +39,8 @@ fault_text (BlockTooLong line) = codes "block too long"
 fault_text TooManyBlocks = codes "too many blocks"
 fault_text Memory = codes "out of memory"
 
--- what is said of a failure, with a newline, given what the system says of a file that could not be
--- read or written
+-- what is reported about a failure, with a newline, given what the system says about a file that
+-- could not be read or written
 abbrev pub failure_text : Failure → List ℕ → List ℕ
 failure_text NoName reason = codes "no terminal is named\n"
 failure_text (Unknown name) reason = codes "unknown terminal \"" ++ string_bytes name ++ codes "\"\n"

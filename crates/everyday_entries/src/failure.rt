@@ -19,7 +19,7 @@ pub enum Failure {
     Unreadable(String),
     /// The file at this path could not be written.
     Unwritable(String),
-    /// The file at this path is no entry, and why.
+    /// The file at this path is not an entry, and why.
     BadEntry(String, ExtensionError),
     /// A device failed, or memory ran out.
     Stopped(ToolError),

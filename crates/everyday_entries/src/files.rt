@@ -40,7 +40,7 @@ fn file_at<T: Tree>(alloc: Global, tree: &mut T, path: &str) -> Result<Found, Fa
 /// [`everyday_directories::find`] does.
 ///
 /// # Errors
-/// `Unknown` if the name is no lookup name, or there is no file; out of memory.
+/// `Unknown` if the name is not a lookup name, or there is no file; out of memory.
 pub fn named_file<T: Tree>(
     alloc: Global,
     tree: &mut T,

@@ -44,7 +44,7 @@ fn fault_text(error: &ToolError) -> &'static str
     }
 }
 
-// What is said of the file at a path, and why.
+// What is reported about the file at a path, and why.
 fn path_text(
     alloc: Global,
     path: &str,

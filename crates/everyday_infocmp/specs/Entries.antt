@@ -37,7 +37,7 @@ AreRefused false bytes (errors.Entry why) = plain.Opens file_bytes_max bytes (Er
 AreRefused false bytes errors.BadExtension = ⊥
 AreRefused true bytes why = extended.Opens file_bytes_max bytes (Err why)
 
--- the failure says that the file is no entry, with its path and why
+-- the failure says that the file is not an entry, with its path and why
 abbrev pub IsRefusalOf : Found → ExtensionError → Failure → Type 0
 IsRefusalOf file why (BadEntry path said) = (string_bytes path ≡ string_bytes file.path) × (said ≡ why)
 IsRefusalOf file why failure = failure ≡ out_of_memory

@@ -29,8 +29,8 @@ PrintsFiles wanted files (Ok text) =
     × (text.items ≡ printed wanted.user_defined wanted.mode first others wanted.layout)
 PrintsFiles wanted files (Err failure) = IsBadFile wanted.user_defined files failure
 
--- what comes of files after which one cannot be had: the first of them that is no entry, else why
--- that one cannot be had
+-- what comes of files after which one cannot be had: the first of them that is not an entry, else
+-- why that one cannot be had
 abbrev pub EndsWith : InfocmpWanted → List Found → Option Failure → Result (Vec ℕ) Failure → Type 0
 EndsWith wanted files None result = PrintsFiles wanted files result
 EndsWith wanted files (Some stop) (Ok text) = ⊥

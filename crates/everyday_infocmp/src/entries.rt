@@ -36,7 +36,7 @@ fn view_of<'a>(alloc: Global, file: &'a Found) -> Result<View<'a>, Failure>
 /// The entries of these files, without user-defined capabilities.
 ///
 /// # Errors
-/// `BadEntry` at the first that is no entry; out of memory.
+/// `BadEntry` at the first that is not an entry; out of memory.
 pub fn plain_entries<'a>(alloc: Global, files: &'a [Found]) -> Result<Vec<View<'a>>, Failure>
     ensures ok { IfOk result (λ views. AreEntries false files.now (map (λ view. plain_entry view) views.items)) }
     ensures err { IfErr result (IsBadFile false files.now) }
@@ -68,7 +68,7 @@ fn extended_of<'a>(alloc: Global, file: &'a Found) -> Result<ExtendedEntry<'a>, 
 /// The entries of these files, with their user-defined capabilities.
 ///
 /// # Errors
-/// `BadEntry` at the first that is no entry; out of memory.
+/// `BadEntry` at the first that is not an entry; out of memory.
 pub fn extended_entries<'a>(
     alloc: Global,
     files: &'a [Found],

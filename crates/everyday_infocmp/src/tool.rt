@@ -88,7 +88,7 @@ fn check(alloc: Global, files: &[Found], user_defined: bool) -> Result<(), Failu
 ///
 /// # Errors
 /// `NoName` if a name is missing and the terminal has none; else of the first name that has one: why
-/// its file cannot be had, or `BadEntry` if it is no entry; out of memory.
+/// its file cannot be had, or `BadEntry` if it is not an entry; out of memory.
 pub fn infocmp<T: Tree>(
     alloc: Global,
     tree: &mut T,

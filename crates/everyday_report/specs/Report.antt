@@ -1,5 +1,5 @@
--- What is said of a source on standard error (own; the form is that of GNU's compilers): a line for
--- each fault, `FILE:LINE:COLUMN: error: SUBJECT: SENTENCE [CODE]`.
+-- What is reported about a source on standard error (own; the form is that of GNU's compilers): a
+-- line for each fault, `FILE:LINE:COLUMN: error: SUBJECT: SENTENCE [CODE]`.
 use Rattle.std.specs.Prelude.{ℕ, ◌+◌, ◌-◌, ◌++◌, ◌∷◌, [], ◌&&◌, filter, nat_lt, Bool, true, false, List, codes, slice_get, Option, Some, None}
 use Rattle.std.specs.Fmt.{decimal}
 use Rattle.std.specs.List.{concat, list_any}
@@ -29,7 +29,7 @@ abbrev pub severity : Bool → List ℕ
 severity true = codes ": error: "
 severity false = codes ": warning: "
 
--- what it is about, if that is told, as a report shows it
+-- what it is about, if that is known, as a report shows it
 abbrev pub subject_text : Option (List ℕ) → List ℕ
 subject_text None = []
 subject_text (Some subject) = shown_detail subject ++ codes ": "

@@ -1,11 +1,11 @@
--- What is said of each fault (own): the sentence of the language server, but for a use whose name
--- nobody has, since installed entries are looked at here.
+-- What is reported about each fault (own): the sentence of the language server, but for a use whose
+-- name nobody has, since installed entries are looked at here.
 use Rattle.std.specs.Prelude.{ℕ, List, codes}
 use Rattle.ti_source.specs.declared.code.Code.{Code}
 use Rattle.ti_source.specs.declared.code.Code.TheVariants.{BadHeader, NamesTooLong, BadNumber, NumberTooLarge, BadString, MissingUse, Circular, Unresolved}
 use Rattle.ti_source.specs.declared.code.Code.TheVariants.{TooLarge, UnknownCapability, WrongKind, UnknownEscape, DuplicateName}
 
--- what is said of a fault of the profile
+-- what is reported about a fault of the profile
 abbrev pub sentence : Code → List ℕ
 sentence BadHeader = codes "The line of names is not in order. Correct the name that is empty or has a space, a slash or a byte that is not visible ASCII."
 sentence NamesTooLong = codes "The names are over 127 bytes up to the first comma. Shorten them, or put in the comma that is missing."
@@ -21,18 +21,18 @@ sentence WrongKind = codes "The capability is of another kind, so it is ignored.
 sentence UnknownEscape = codes "This backslash does not begin an escape. Leave it out, or double it."
 sentence DuplicateName = codes "An earlier block has this name. Take it out of one of the two."
 
--- what is said of the value of a user-defined name that cannot be read
+-- what is reported about the value of a user-defined name that cannot be read
 abbrev pub bad_user_defined : List ℕ
 bad_user_defined = codes "The value of this user-defined name cannot be read, so the item is ignored. Correct the number or the string."
 
--- what is said of a block that is too long
+-- what is reported about a block that is too long
 abbrev pub block_too_long : List ℕ
 block_too_long = codes "The block is over 1048576 bytes, so the source is not read. Shorten it."
 
--- what is said of a block that is one too many
+-- what is reported about a block that is one too many
 abbrev pub too_many_blocks : List ℕ
 too_many_blocks = codes "The source has over 65535 blocks, so it is not read. Split it."
 
--- what is said of the block that has one user-defined name too many
+-- what is reported about the block that has one user-defined name too many
 abbrev pub too_many_names : List ℕ
 too_many_names = codes "The source has over 1024 user-defined names, so it is not compiled. Split it."

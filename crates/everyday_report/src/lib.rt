@@ -1,4 +1,4 @@
-//! What is said of a source on standard error: a line for each fault, in the form of GNU's
+//! What is reported about a source on standard error: a line for each fault, in the form of GNU's
 //! compilers.
 //!
 //! ```text
@@ -6,7 +6,7 @@
 //! ```
 //!
 //! - `report`: the lines (`write_said`, `write_faults`)
-//! - `sentences`: what is said of a fault
+//! - `sentences`: what is reported about a fault
 //! - `places`: the column of each fault, at the part of its block that it is of
 //! - `columns`: columns of a text
 #![tactic(auto)]

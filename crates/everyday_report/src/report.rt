@@ -65,7 +65,7 @@ fn shown_detail(alloc: Global, detail: &[u8]) -> Result<Vec<u8>, AllocError>
     Ok(text)
 }
 
-// What a fault is about, if that is told.
+// What a fault is about, if that is known.
 fn subject_text(alloc: Global, subject: Option<&[u8]>) -> Result<Vec<u8>, AllocError>
     ensures { IfOk result (λ text. text.items ≡ spec.subject_text (option_map (λ s. s.now) subject.entry)) }
 {

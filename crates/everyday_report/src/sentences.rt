@@ -1,11 +1,11 @@
-//! What is said of each fault: the sentence of the language server, but for a use whose name nobody
-//! has, since installed entries are looked at here.
+//! What is reported about each fault: the sentence of the language server, but for a use whose name
+//! nobody has, since installed entries are looked at here.
 ghost use Rattle.std.specs.Prelude.{◌≡◌};
 ghost use Rattle.everyday_report.specs.Sentences as spec;
 
 use ti_source::Code;
 
-/// What is said of a fault of the profile.
+/// What is reported about a fault of the profile.
 pub fn sentence(code: Code) -> &'static str
     ensures { result.now ≡ spec.sentence code }
 {
@@ -36,17 +36,17 @@ pub fn sentence(code: Code) -> &'static str
     }
 }
 
-/// What is said of the value of a user-defined name that cannot be read.
+/// What is reported about the value of a user-defined name that cannot be read.
 pub const BAD_USER_DEFINED: &str =
     "The value of this user-defined name cannot be read, so the item is ignored. Correct the number or the string.";
 
-/// What is said of a block that is too long.
+/// What is reported about a block that is too long.
 pub const BLOCK_TOO_LONG: &str =
     "The block is over 1048576 bytes, so the source is not read. Shorten it.";
 
-/// What is said of a block that is one too many.
+/// What is reported about a block that is one too many.
 pub const TOO_MANY_BLOCKS: &str = "The source has over 65535 blocks, so it is not read. Split it.";
 
-/// What is said of the block that has one user-defined name too many.
+/// What is reported about the block that has one user-defined name too many.
 pub const TOO_MANY_NAMES: &str =
     "The source has over 1024 user-defined names, so it is not compiled. Split it.";

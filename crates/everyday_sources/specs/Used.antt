@@ -45,7 +45,7 @@ abbrev pub problem_seen : Problem → ProblemSeen
 problem_seen problem = record { path = string_bytes problem.path; cause = problem.cause }
 
 -- what a search for the entry of a name found, by the failures that the tree counts before and
--- after: none is looked for by what is no lookup name
+-- after: none is looked for by what is not a lookup name
 abbrev pub LooksUp : Option Files → List (List ℕ) → List ℕ → ℕ → ℕ → Option FileAt → Type 0
 LooksUp files directories name before after (Some file) = (is_lookup_name name ≡ true) × Finds files (paths_of name directories) before after (Some file)
 LooksUp files directories name before after None =

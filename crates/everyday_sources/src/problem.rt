@@ -13,10 +13,10 @@ pub struct Problem {
 /// Why the entry of a file is not taken.
 #[derive(Clone, Copy, Debug, PartialEq, Eq)]
 pub enum Cause {
-    /// It is no entry.
+    /// It is not an entry.
     BadEntry(ExtensionError),
     /// The name by which it was looked for is not among its names.
     OtherNames,
-    /// Its listing is no block that the source has room for.
+    /// Its listing is not a block that the source has room for.
     NoRoom,
 }

@@ -1,4 +1,4 @@
--- What is said of files and of names (own): a line each, after the name of the program.
+-- What is reported about files and names (own): a line each, after the name of the program.
 use Rattle.std.specs.Prelude.{ℕ, nat_lt, Bool, false, List, [], ◌++◌, codes, Option, Some, None, if◌then◌else◌}
 use Rattle.std.specs.List.{flat_map}
 use Rattle.std.specs.Option.{option_map_or}
@@ -15,7 +15,7 @@ use Rattle.everyday_sources.specs.declared.problem.Cause.TheVariants.{BadEntry, 
 
 -- ---- files
 
--- what is said of a file that is not an entry
+-- what is reported about a file that is not an entry
 abbrev pub entry_words : ExtensionError → List ℕ
 entry_words (Entry Short) = codes ": bad entry (Short)\n"
 entry_words (Entry Magic) = codes ": bad entry (Magic)\n"

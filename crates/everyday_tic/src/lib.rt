@@ -9,13 +9,14 @@
 //!
 //! - `options`: how a source is compiled (`TicOptions`), and what comes of it (`TicOutcome`)
 //! - `entries`: the files of the entries
-//! - `messages`: what is said of files and of names that were asked for
+//! - `messages`: what is reported about files and names that were asked for
 //! - `compiling`: what comes of a source (`tic`)
 //! - `laws`: a block of the source keeps its names, whatever is installed
 //! - `writing`: what is written of it (`write`), and the line of `-s` (`summary`); `run` does both
 //!
 //! The crate `everyday_sources` has the source as it is taken: without what other systems put into
-//! it, and with the installed entries that it uses; `everyday_report` what is said of its faults.
+//! it, and with the installed entries that it uses; `everyday_report` what is reported about its
+//! faults.
 #![tactic(auto)]
 
 mod compiling;

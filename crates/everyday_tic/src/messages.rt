@@ -1,4 +1,4 @@
-//! What is said of files and of names that were asked for.
+//! What is reported about files and names that were asked for.
 ghost use Rattle.std.specs.Prelude.{◌≡◌, ◌++◌, IfOk, OnOk, map};
 ghost use Rattle.std.specs.List.{flat_map};
 ghost use Rattle.base_meaning.specs.Report as shown;
@@ -21,7 +21,7 @@ fn shown_detail(alloc: Global, detail: &[u8]) -> Result<Vec<u8>, AllocError>
     Ok(text)
 }
 
-// What is said of a file that is not an entry.
+// What is reported about a file that is not an entry.
 fn entry_words(error: ExtensionError) -> &'static [u8]
     ensures { result.now ≡ messages.entry_words error }
 {
@@ -38,7 +38,7 @@ fn entry_words(error: ExtensionError) -> &'static [u8]
     }
 }
 
-// What is said of a file whose entry is not taken.
+// What is reported about a file whose entry is not taken.
 fn cause_words(cause: Cause) -> &'static [u8]
     ensures { result.now ≡ messages.cause_words cause }
 {

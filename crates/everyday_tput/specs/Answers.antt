@@ -1,4 +1,4 @@
--- What `tput` answers to a command of an entry with user-defined capabilities (tput(1),
+-- The result of a `tput` command for an entry with user-defined capabilities (tput(1),
 -- user_caps(5)).
 use Rattle.std.specs.Prelude.{◌≡◌, ℕ, ◌<◌, ◌≤◌, ◌||◌, Bool, if◌then◌else◌, Option, Some, None, is_some, Result, Ok, Err, ℤ}
 use Rattle.std.specs.Prelude.{List, [], ◌∷◌, length, codes, bytes_eq}
@@ -49,8 +49,8 @@ AnswersDefined line cap words statics (content_number n) answer = answer ≡ rep
 AnswersDefined line cap words statics (content_text text) answer = AnswersString line cap words statics text answer
 AnswersDefined line cap words statics content_cancelled answer = ⊥
 
--- What a command answers; None is bad usage. A command whose name is not user-defined is answered as
--- of an entry without user-defined capabilities.
+-- What a command returns; None is bad usage. A command whose name is not user-defined is handled as
+-- for an entry without user-defined capabilities.
 pub data Answers (e : FullEntry) (rate : ℕ) (statics : List ℤ) : List (List ℕ) → Option Reply → Type 0 where
   of_tables : {words : List (List ℕ)} {answer : Option Reply} → defined_first e words ≡ None → results.Answers e.entry rate statics words answer →
       Answers e rate statics words answer
@@ -59,7 +59,7 @@ pub data Answers (e : FullEntry) (rate : ℕ) (statics : List ℤ) : List (List 
   of_defined : {cap : List ℕ} {words : List (List ℕ)} {content : Content} {answer : Reply} → defined e cap ≡ Some content → length words ≤ parameters_max →
       AnswersDefined (line_at_rate e.entry rate) cap words statics content answer → Answers e rate statics (cap ∷ words) (Some answer)
 
--- a command that is no bad usage: a name, and at most nine parameters
+-- a command that is not bad usage: a name, and at most nine parameters
 abbrev pub IsCommand : List (List ℕ) → Type 0
 IsCommand [] = ⊥
 IsCommand (cap ∷ words) = length words ≤ parameters_max

@@ -1,4 +1,4 @@
--- What `tput -S` answers to the lines of its input, and how a run over devices ends (tput(1); the
+-- What `tput -S` prints for the lines of its input, and how a run over devices ends (tput(1); the
 -- count of bad lines and the status are own).
 use Rattle.std.specs.Prelude.{◌≡◌, ⊤, ℕ, Option, Result, Ok, Err, List, [], ◌∷◌}
 use Rattle.tools_devices.specs.Answering.{LinesEnd}

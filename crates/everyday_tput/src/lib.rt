@@ -1,11 +1,11 @@
 //! The command `tput` with user-defined capabilities (user_caps(5)): the bytes that drive a
 //! terminal, from a compiled entry and the extension after it.
 //!
-//! It answers as `tools_tput` does, and beside that a name that is in no table and that the entry
+//! It does what `tools_tput` does, and also accepts a name that is in no table and that the entry
 //! has.
 //!
 //! - `entry`: an entry with its user-defined capabilities (`Entry`)
-//! - `commands`: what one command is answered (`tput`); `asked`: what a name asks for; `strings`:
+//! - `commands`: the result of one command (`tput`); `asked`: what a name asks for; `strings`:
 //!   what is sent for a string, with the words after its name
 //! - `streaming`: commands read line by line (`tput_lines`); `terminal` takes them, and `words`
 //!   splits a line

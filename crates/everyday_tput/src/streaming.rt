@@ -14,12 +14,12 @@ use tools_devices::{Counted, ToolError, answer_lines};
 // The greatest length of a line, without its newline.
 const LINE_MAX: usize = 4096;
 
-/// Reads commands to the end of an input, one per line, writes the output of each, and answers the
+/// Reads commands to the end of an input, one per line, writes the output of each, and returns the
 /// exit status: 0 if no line was bad, else 4 and the number of bad lines, at most 255.
 ///
 /// It does as [`tools_tput::tput_lines`] does, with the commands of [`crate::tput`]: a line that
-/// `tput` would refuse, or answer with status 4, is bad. One set of static variables serves all
-/// lines, whether their strings are of the tables or user-defined.
+/// `tput` would refuse, or for which it would exit with status 4, is bad. One set of static
+/// variables serves all lines, whether their strings are of the tables or user-defined.
 ///
 /// # Errors
 /// `ReadFault` if the reader fails, and after 4,294,967,296 reads; `WriteFault` if the writer

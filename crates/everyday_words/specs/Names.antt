@@ -34,7 +34,7 @@ called_first [] = None
 called_first (word ∷ words) = option_map (λ (t : Tool). (t, word ∷ words)) (called_tool word)
 
 -- the tool that a command line calls, and the words from its name on: the first word names it, or, if
--- that is no name of a tool, the second
+-- that is not the name of a tool, the second
 abbrev pub called_words : List (List ℕ) → Option (Tool × List (List ℕ))
 called_words [] = None
 called_words (word ∷ words) = option_or (called_first (word ∷ words)) (called_first words)

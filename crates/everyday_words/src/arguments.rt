@@ -24,8 +24,8 @@ use std::alloc::{AllocError, Global};
 /// newline.
 #[derive(Debug, Drop)]
 pub enum Refusal {
-    /// The words are no command line of the tool: what clap says of them, or, if clap takes them,
-    /// the line of the mistake, such as `ti-tput: bad usage: no capability is named`.
+    /// The words are not a command line of the tool: what clap says about them, or, if clap takes
+    /// them, the line of the mistake, such as `ti-tput: bad usage: no capability is named`.
     Usage(String),
     /// The words ask for the help or the version: its text.
     Text(String),
@@ -85,8 +85,8 @@ fn taken_request(alloc: Global, tool: Tool, matches: &ArgMatches<'_>) -> Result<
 ///
 /// # Errors
 /// Why they ask for nothing: `Text` if they ask for the help or the version, and `Usage` if they are
-/// no command line of the tool, with the text of clap if clap finds a fault in them, else the line
-/// of the mistake; then `Memory`.
+/// not a command line of the tool, with the text of clap if clap finds a fault in them, else the
+/// line of the mistake; then `Memory`.
 pub fn request(alloc: Global, tool: Tool, words: &[String]) -> Result<Request, Refusal>
     ensures right { IfOk result (λ request. OfTool tool (IsRequestOf tool (word_texts words.now) request)) }
     ensures answered { (wanted : Wanted) → OfEachTool tool (TakesAs tool (word_texts words.now) wanted)

@@ -43,7 +43,7 @@ pub fn called_tool(word: &str) -> Option<Tool>
 }
 
 /// The tool that a command line calls, and the words from its name on: the first word names it, or,
-/// if that is no name of a tool, the second.
+/// if that is not the name of a tool, the second.
 pub fn called_words(words: &[String]) -> Option<(Tool, &[String])>
     ensures { option_map (λ called. (called.0, word_texts called.1.now)) result ≡ called_words (word_texts words.now) }
 {

@@ -196,7 +196,7 @@ SomeBlockDecides =
     (blocks : List Reading) (c : Capability) (at : ℕ) (said : Content) → said_by blocks c at ≡ Some said
     → (by : ℕ) × Decides blocks c at by
 
--- a block that decides capabilities which the block at that position inherits, as it is told of
+-- a block that decides capabilities which the block at that position inherits, as it is shown
 pub record IsSource (texts : List (List ℕ)) (at : ℕ) (source : SourceSeen) : Type 0 where
   pub by : ℕ
   pub name : List ℕ
@@ -204,6 +204,6 @@ pub record IsSource (texts : List (List ℕ)) (at : ℕ) (source : SourceSeen) :
   pub shown : source.name ≡ shown_detail name
   pub decides : source.capabilities ≡ decided_by by (inherited_of (readings texts) at)
 
--- a block is told of by a name that it owns
+-- a block is shown under a name that it owns
 abbrev pub SourcesOwnTheirNames : Type 0
 SourcesOwnTheirNames = (texts : List (List ℕ)) (at : ℕ) → All (IsSource texts at) (sources_of texts at)

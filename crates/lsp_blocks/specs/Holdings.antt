@@ -1,4 +1,4 @@
--- What the entry of a block holds, as an editor tells it (own): how many capabilities of each kind
+-- What the entry of a block holds, as an editor shows it (own): how many capabilities of each kind
 -- have a value, and how many bytes it takes; or why there is no entry.
 use Rattle.std.specs.Prelude.{ℕ, zero, suc, List, length, Option, None, Some, if◌then◌else◌, slice_get}
 use Rattle.std.specs.Option.{option_map_or}
@@ -32,7 +32,7 @@ holding contents size = record {
 }
 
 -- what became of a name, as plain data: no block has it; the block that owns it has no entry, for
--- this cause, as the diagnostic tells it; or has one, which holds this
+-- this cause, as the diagnostic shows it; or has one, which holds this
 pub data EntrySeen : Type 0 where
   entry_missing : EntrySeen
   entry_faulty : Option Shown → EntrySeen

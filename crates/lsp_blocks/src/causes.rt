@@ -21,7 +21,7 @@ fn first_error(faults: &[Fault], at: usize) -> Option<usize>
         .position(|fault| fault.block == at && fault.code.is_error())
 }
 
-/// Why a block has no entry: the first error that the report has of it, as its diagnostic tells it.
+/// Why a block has no entry: the first error that the report has of it, as its diagnostic shows it.
 pub(crate) fn cause_told(
     alloc: Global,
     document: &Document,

@@ -327,7 +327,7 @@ pub fn deciders_say_it()
     ensures { spec.DecidersSayIt }
 {}
 
-/// A law, with no code: a block that decides what another inherits is told of by a name that it
+/// A law, with no code: a block that decides what another inherits is shown under a name that it
 /// owns.
 pub fn sources_own_their_names()
     ensures { spec.SourcesOwnTheirNames }

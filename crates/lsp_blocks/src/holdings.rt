@@ -35,7 +35,7 @@ pub enum Entry {
     /// No block has the name.
     Missing,
     /// The block that owns the name has no entry: why, as the diagnostic of the first error that
-    /// the report has of the block tells it.
+    /// the report has of the block shows it.
     Faulty(Diagnostic),
     /// The block that owns the name has an entry, which holds this.
     Held(Holding),

@@ -1,4 +1,4 @@
--- What is said of each capability (own sentences; the variables are those of X/Open Curses).
+-- What is said about each capability (own sentences; the variables are those of X/Open Curses).
 use Rattle.std.specs.Prelude.{◌≡◌, ℕ, List, [], ◌++◌, codes, map, slice_get, unwrap_or}
 use Rattle.ti_caps.specs.Tables.{Capability, names}
 use Rattle.ti_caps.specs.declared.capability.Kind.{Kind}
@@ -34,7 +34,7 @@ named_rows Text = text_rows_1 ++ text_rows_2 ++ text_rows_3 ++ text_rows_4 ++ te
 unfoldable pub rows : Kind → List Described
 rows kind = map said_in (named_rows kind)
 
--- what is said of a capability: the row of its kind at its index
+-- what is said about a capability: the row of its kind at its index
 abbrev pub described : Capability → Described
 described c = unwrap_or (slice_get (rows c.kind) c.index) (told [] [] [])
 

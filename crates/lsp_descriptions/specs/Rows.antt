@@ -1,5 +1,5 @@
--- What is said of each capability: its name, its variable in X/Open Curses, a sentence (own), and
--- the parameters that a string takes; in the order of the compiled entry.
+-- What is said about each capability: its name, its variable in X/Open Curses, a sentence (own),
+-- and the parameters that a string takes; in the order of the compiled entry.
 use Prim.Native.String.{String}
 use Rattle.std.specs.Prelude.{List, [], ◌∷◌}
 

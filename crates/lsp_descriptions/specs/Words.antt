@@ -1,4 +1,4 @@
--- What is said of a capability, as text (own).
+-- What is said about a capability, as text (own).
 use Rattle.std.specs.Prelude.{ℕ, List, [], ◌∷◌, ◌++◌, codes}
 use Rattle.ti_caps.specs.Tables.{Capability}
 use Rattle.ti_caps.specs.declared.capability.Kind.{Kind}
@@ -23,6 +23,6 @@ parameters_text (first ∷ rest) = codes "\nParameters: " ++ (first ∷ rest) ++
 abbrev pub documented : Described → List ℕ
 documented said = said.sentence ++ codes "." ++ parameters_text said.parameters
 
--- what is said of a capability: its sentence and its parameters
+-- what is said about a capability: its sentence and its parameters
 abbrev pub documentation_of : Capability → List ℕ
 documentation_of c = documented (described c)

@@ -12,7 +12,7 @@ ghost use Rattle.lsp_descriptions.specs.Descriptions.{RowsAreNamed, described, d
 
 use ti_caps::{Cap, FLAG_COUNT, Kind, NUMBER_COUNT, TEXT_COUNT};
 
-/// What is said of a capability.
+/// What is said about a capability.
 #[derive(Clone, Copy, PartialEq, Eq, Debug)]
 pub struct Description {
     /// The name of its variable in X/Open Curses, such as `cursor_address` for `cup`.
@@ -37,7 +37,7 @@ macro_rules! descriptions {
     };
 }
 
-/// What is said of a capability: the row of its kind at its index.
+/// What is said about a capability: the row of its kind at its index.
 pub fn description_of(cap: Cap) -> Description
     ensures { description_seen result ≡ described cap }
 {

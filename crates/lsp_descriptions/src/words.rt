@@ -1,4 +1,4 @@
-//! What is said of a capability, as text.
+//! What is said about a capability, as text.
 ghost use Rattle.std.specs.Prelude.{◌≡◌, ◌++◌, IfOk, codes};
 ghost use Rattle.std.specs.String.{string_bytes};
 ghost use Rattle.lsp_descriptions.specs.Descriptions.{description_seen};

@@ -39,7 +39,7 @@ label_of_problem BlockTooLong = codes "BlockTooLong"
 label_of_problem TooManyBlocks = codes "TooManyBlocks"
 
 -- a diagnostic as plain data: the part of the text that it is about, what is wrong, and what is
--- said of it
+-- said about it
 pub record Shown : Type 0 where
   pub range : Range
   pub problem : Problem
@@ -53,8 +53,8 @@ diagnostic_seen d = record { range = d.range; problem = d.problem; message = str
 abbrev pub shown_on : ℕ → List ℕ → Problem → List ℕ → Shown
 shown_on number line problem message = record { range = marked number line; problem = problem; message = message }
 
--- what is said of a fault: its name and the detail as its report shows it, what it means, and a
--- hint
+-- what is reported about a fault: its name and the detail as its report shows it, what it means,
+-- and a hint
 abbrev pub fault_message : Code → Option (List ℕ) → List ℕ
 fault_message code detail = code_name code ++ detail_text detail ++ codes ": " ++ advice code
 

@@ -16,7 +16,7 @@ text_at texts at = option_map_or (λ text. text) (slice_get texts at) []
 
 -- ---- what is shown of a part
 
--- a line of that number from its first byte that is no white space to its end
+-- a line of that number from its first byte that is not white space to its end
 abbrev pub marked : ℕ → List ℕ → Range
 marked number line = record {
   start = record { line = number; column = indent line };

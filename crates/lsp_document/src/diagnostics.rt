@@ -59,7 +59,7 @@ impl Problem {
 #[derive(Debug, Drop)]
 pub struct Diagnostic {
     /// What is shown as faulty: of a fault the item, the name or the names field that it is of, as
-    /// far as that is on its line; else its line, from the first byte that is no white space.
+    /// far as that is on its line; else its line, from the first byte that is not white space.
     pub range: Range,
     /// What is wrong.
     pub problem: Problem,

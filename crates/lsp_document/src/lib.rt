@@ -1,5 +1,5 @@
 //! A terminfo source as an editor holds it: a text that is exchanged, places in it as the Language
-//! Server Protocol counts them, and what is wrong with it, told with the place and with advice.
+//! Server Protocol counts them, and what is wrong with it, reported with the place and with advice.
 //!
 //! - `position`: places in a text by lines and UTF-16 columns
 //! - `splicing`: a text with a part of it exchanged

@@ -27,7 +27,7 @@ pub(crate) struct BlockSearch<'a> {
     pub(crate) walk: PlaceWalk<'a>,
 }
 
-/// A line of that number from its first byte that is no white space to its end.
+/// A line of that number from its first byte that is not white space to its end.
 pub(crate) fn marked(number: usize, line: &[u8]) -> Range
     ensures { result ≡ spec.marked number line.now }
 {

@@ -1,5 +1,5 @@
 //! Places in a text as the Language Server Protocol 3.17 counts them: lines from 0, and columns in
-//! UTF-16 units. A line ends with LF, or with CR LF, whose CR is no column. A lone CR ends none.
+//! UTF-16 units. A line ends with LF, or with CR LF, whose CR is not a column. A lone CR ends none.
 ghost use Rattle.std.specs.Prelude.{◌≡◌, ◌+◌, ◌*◌, ◌^◌, ◌<◌, ◌≤◌, length};
 ghost use Rattle.lsp_document.specs.Position as spec;
 

@@ -1,4 +1,4 @@
--- What an editor tells of what a place is on (own; Language Server Protocol 3.17, "Hover Request").
+-- What an editor shows about a position (own; Language Server Protocol 3.17, "Hover Request").
 use Rattle.std.specs.Prelude.{ℕ, List, map, Option, option_and_then, option_map}
 use Rattle.std.specs.Option.{option_or}
 use Rattle.std.specs.String.{string_bytes}
@@ -27,7 +27,7 @@ pub data AboutSeen : Type 0 where
   about_item : Capability → List ℕ → MeaningSeen → AboutSeen
   about_name : List ℕ → EntrySeen → List SourceSeen → AboutSeen
 
--- what is told of a part of a source, as plain data
+-- what is shown about a part of a source, as plain data
 pub record HoverSeen : Type 0 where
   pub range : Range
   pub about : AboutSeen
@@ -37,11 +37,11 @@ abbrev pub about_seen : About → AboutSeen
 about_seen (about.Item capability text meaning) = about_item capability (string_bytes text) (meaning_seen meaning)
 about_seen (about.Name name entry sources) = about_name (string_bytes name) (entry_seen entry) (map source_seen sources.items)
 
--- what is told, if its texts are in memory, as plain data
+-- what is shown, if its texts are in memory, as plain data
 abbrev pub hover_seen : Hover → HoverSeen
 hover_seen hover = record { range = hover.range; about = about_seen hover.about }
 
--- what is told of a name in a block of a text that begins on that line
+-- what is shown about a name in a block of a text that begins on that line
 abbrev pub name_told : List ℕ → ℕ → List ℕ → TouchedSeen → HoverSeen
 name_told text line block touched = record {
   range = range_in line block touched.span;
@@ -49,26 +49,26 @@ name_told text line block touched = record {
       (sources_named (held text) (name_of touched.subject));
 }
 
--- what is told of an item of a capability, which that offset is on
+-- what is shown about an item of a capability, which that offset is on
 abbrev pub capability_told : ℕ → List ℕ → ℕ → ItemSeen → Capability → HoverSeen
 capability_told line block offset item c = record {
   range = range_in line block item.span;
   about = about_item c (shown_detail item.text) (meaning_at block offset);
 }
 
--- what is told of an item, which that offset is on, if a capability has its name
+-- what is shown about an item, which that offset is on, if a capability has its name
 abbrev pub item_told : ℕ → List ℕ → ℕ → ItemSeen → Option HoverSeen
 item_told line block offset item = option_map (capability_told line block offset item) (capability_named item.name)
 
--- what is told at an offset of a block of a text that begins on that line
+-- what is shown at an offset of a block of a text that begins on that line
 abbrev pub told_at : List ℕ → ℕ → List ℕ → ℕ → Option HoverSeen
 told_at text line block offset =
     option_or (option_map (name_told text line block) (subject_at block offset)) (option_and_then (item_told line block offset) (item_at block offset))
 
--- what is told at a place in a block of a text
+-- what is shown at a place in a block of a text
 abbrev pub told_in : List ℕ → Spot → Option HoverSeen
 told_in text spot = told_at text spot.line (text_at (held text) spot.at) spot.offset
 
--- what is told at a place of a text
+-- what is shown at a place of a text
 abbrev pub hover_of : List ℕ → Position → Option HoverSeen
 hover_of text place = option_and_then (told_in text) (spot_at text place)

@@ -1,4 +1,4 @@
-//! What an editor tells of what a place is on.
+//! What an editor shows about a position.
 ghost use Rattle.std.specs.Prelude.{◌≡◌, ◌<◌, ◌+◌, ◌^◌, IfOk, length, option_map};
 ghost use Rattle.ti_source.specs.Cutting.{OneBlock};
 ghost use Rattle.lsp_spans.specs.Subjects.{touched_seen};
@@ -38,7 +38,7 @@ pub enum About {
     },
 }
 
-/// What is told of a part of a source.
+/// What is shown about a part of a source.
 #[derive(Debug, Drop)]
 pub struct Hover {
     /// The item or the name.
@@ -47,7 +47,7 @@ pub struct Hover {
     pub about: About,
 }
 
-// What is told of a name in a block that begins on that line.
+// What is shown about a name in a block that begins on that line.
 fn name_told(
     alloc: Global,
     document: &Document,
@@ -70,7 +70,7 @@ fn name_told(
     })
 }
 
-// What is told of an item, which that offset is on, in a block that begins on that line.
+// What is shown about an item, which that offset is on, in a block that begins on that line.
 fn item_told(
     alloc: Global,
     line: usize,
@@ -96,7 +96,7 @@ fn item_told(
     }))
 }
 
-// What is told at an offset of a block that begins on that line.
+// What is shown at an offset of a block that begins on that line.
 fn told_at(
     alloc: Global,
     document: &Document,
@@ -117,7 +117,7 @@ fn told_at(
     }
 }
 
-/// What is told of what a place is on: an item whose name is that of a capability, a name in a
+/// What is shown about a position: an item whose name is that of a capability, a name in a
 /// head, or a name that an item `use=` gives; `None` if it is on nothing of these.
 ///
 /// # Errors

@@ -3,7 +3,7 @@
 //!
 //! - `names`: where the names of a document lead
 //! - `meanings`: what an item says, as it is read
-//! - `hovers`: what an editor tells of what a place is on
+//! - `hovers`: what an editor shows about a position
 //! - `renaming`: what an editor renames
 //! - `completions`: what an editor offers to complete a word with
 #![tactic(auto)]

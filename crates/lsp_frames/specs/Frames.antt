@@ -108,7 +108,7 @@ abbrev pub frame_view : Frame → Option (List ℕ)
 frame_view (Body body) = Some body.items
 frame_view TooLong = None
 
--- ---- bytes that are no frame
+-- ---- bytes that are not a frame
 
 -- no frame is at the front of these bytes
 abbrev pub HasNoFrame : List ℕ → Type 0

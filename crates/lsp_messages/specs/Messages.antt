@@ -1,4 +1,4 @@
--- What a client asks for or tells (LSP 3.17; the section is named at each).
+-- What a client asks for or reports (LSP 3.17; the section is named at each).
 use Rattle.std.specs.Prelude.{ℕ, ◌^◌, ◌||◌, List, [], ◌∷◌, Bool, true, false, not, Option, None, Some, codes, is_some, option_and_then, option_map}
 use Rattle.std.specs.Prelude.{unwrap_or, nat_lt, if◌then◌else◌}
 use Rattle.std.specs.Option.{option_map_or}
@@ -28,7 +28,7 @@ pub data Query : Type 0 where
   prepare_rename : Position → Query
   fixes : Range → Bool → Query
 
--- a request: to begin, of what client; of a document its URI and what is asked about it;
+-- a request: to begin, and for which client; of a document its URI and what is asked about it;
 -- `unreadable` are those whose parameters are not those of the method
 pub data Asked : Type 0 where
   initialize : Client → Asked
@@ -105,8 +105,8 @@ edits_of no_items = Some []
 edits_of (item d ds) = option_and_then (λ edit. option_map (λ edits. edit ∷ edits) (edits_of ds)) (edit_of d)
 
 -- "VersionedTextDocumentIdentifier", "OptionalVersionedTextDocumentIdentifier": the version, if it
--- is known. That it is not where it is no number that all clients can hold is own: `null`, none, a
--- negative one, one with a fraction
+-- is known. That it is not where it is not a number that all clients can hold is own: `null`, none,
+-- a negative one, one with a fraction
 abbrev pub version_of : Data → Option ℕ
 version_of document = number_at (codes "version") document
 
@@ -222,14 +222,14 @@ prepares_renames abilities =
 abbrev pub takes_actions : Data → Bool
 takes_actions abilities = is_some (option_and_then (get (codes "codeActionLiteralSupport")) (get (codes "codeAction") abilities))
 
--- "TextDocumentClientCapabilities", if they are told
+-- "TextDocumentClientCapabilities", if they are given
 abbrev pub abilities_of : Data → Option Data
 abilities_of d = do
   params ← get (codes "params") d
   capabilities ← get (codes "capabilities") params
   get (codes "textDocument") capabilities
 
--- a client that tells nothing can do nothing of it
+-- a client that reports nothing can do none of it
 abbrev pub client_with : Option Data → Client
 client_with None = record { prepares_renames = false; takes_actions = false }
 client_with (Some abilities) = record { prepares_renames = prepares_renames abilities; takes_actions = takes_actions abilities }
@@ -249,7 +249,7 @@ asked_of method d =
     if bytes_eq method (codes "initialize") then initialize (client_of d)
     else (if bytes_eq method (codes "shutdown") then shutdown else asked_about (topic_of method) d)
 
--- what parameters tell, if they are those of the method
+-- what parameters say, if they are those of the method
 abbrev pub told_by : List ℕ → Data → Option Told
 told_by method params =
     if bytes_eq method (codes "textDocument/didOpen") then opened_of params

@@ -43,7 +43,7 @@ asked_view (call.Asked uri question) = means.about uri.now (question_view questi
 asked_view call.Faulty = means.unreadable
 asked_view call.Unknown = means.unknown
 
--- what a notification that is held in memory tells
+-- what a notification that is held in memory says
 abbrev pub told_view : Notice → Told
 told_view Exited = means.exited
 told_view (Opened uri version text) = means.opened uri.now version text.now

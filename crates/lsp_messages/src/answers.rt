@@ -50,7 +50,7 @@ fn plain_value(alloc: Global, text: &str) -> Result<Value, AllocError>
     json!(in alloc; {"kind": "plaintext", "value": text})
 }
 
-/// What is said of a part of a document ("Hover"), in plain text.
+/// What is reported about a part of a document ("Hover"), in plain text.
 ///
 /// # Errors
 /// `AllocError` if memory ran out.

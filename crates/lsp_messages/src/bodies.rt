@@ -167,7 +167,7 @@ fn value_in(alloc: Global, text: &[u8]) -> Result<Option<Value>, AllocError>
     }
 }
 
-/// The value that a body is. `None` if it is no JSON in UTF-8, or nests deeper than 127. Half of a
+/// The value that a body is. `None` if it is not JSON in UTF-8, or nests deeper than 127. Half of a
 /// pair of UTF-16 units that is alone in a string is read as U+FFFD, so that no text is lost.
 ///
 /// # Errors

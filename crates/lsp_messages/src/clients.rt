@@ -1,4 +1,4 @@
-//! What a client can do, as it tells when it asks for the server.
+//! What a client can do, as it reports when it asks for the server.
 ghost use Rattle.std.specs.Prelude.{◌≡◌, false, is_some, option_map, unwrap_or};
 ghost use Rattle.serde_json.specs.View.{view};
 ghost use Rattle.lsp_messages.specs.Messages.{abilities_of, client_of, prepares_renames, takes_actions};
@@ -21,14 +21,14 @@ fn prepares_renames(abilities: &Value) -> Option<bool>
     abilities.get("rename")?.get("prepareSupport")?.as_bool()
 }
 
-// What it is that tells of a client that it takes code actions, if there is something.
+// What says that a client accepts code actions, if anything does.
 fn action_support(abilities: &Value) -> Option<&Value>
     ensures { is_some result ≡ takes_actions (view abilities.now) }
 {
     abilities.get("codeAction")?.get("codeActionLiteralSupport")
 }
 
-// What a client tells that it can do with texts.
+// What a client reports that it can do with texts.
 fn abilities_of(value: &Value) -> Option<&Value>
     ensures { option_map (λ d. view d.now) result ≡ abilities_of (view value.now) }
 {

@@ -3,7 +3,7 @@
 //! - `writing`: the values that a server sends; `answers` has those that answer questions about a
 //!   document, and `objects` makes the larger ones
 //! - `bodies`: which value a body is
-//! - `messages`: what a client asks for or tells; `reading` reads it from values, with `members`
+//! - `messages`: what a client asks for or reports; `reading` reads it from values, with `members`
 //!   and `asking`
 //! - `clients`: what a client can do
 #![tactic(auto)]

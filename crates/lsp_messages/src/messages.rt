@@ -1,4 +1,4 @@
-//! What a client asks for or tells. The strings are those of the value that was read.
+//! What a client asks for or reports. The strings are those of the value that was read.
 use crate::clients::Client;
 use lsp_types::{Failure, Position, Range};
 use serde_json::Value;
@@ -77,7 +77,7 @@ pub enum Call<'a> {
     Unknown,
 }
 
-/// What a notification tells.
+/// What a notification says.
 #[derive(Drop)]
 pub enum Notice<'a> {
     /// The server is to end.

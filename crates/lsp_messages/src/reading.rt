@@ -102,7 +102,7 @@ fn read_closed(params: &Value) -> Option<Notice<'_>>
     Some(Notice::Closed { uri })
 }
 
-// What parameters tell, if they are those of the method.
+// What parameters say, if they are those of the method.
 fn read_params<'a>(
     alloc: Global,
     method: &str,
@@ -118,7 +118,7 @@ fn read_params<'a>(
     }
 }
 
-// What a notification tells.
+// What a notification says.
 fn read_notice<'a>(alloc: Global, method: &str, value: &'a Value) -> Result<Notice<'a>, AllocError>
     ensures { IfOk result (λ notice. told_view notice ≡ told_of method.now (view value.now)) }
 {

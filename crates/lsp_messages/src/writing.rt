@@ -160,7 +160,7 @@ pub fn reply_value(alloc: Global, id: &Value, reply: Reply) -> Result<Value, All
     }
 }
 
-// How documents are told ("TextDocumentSyncOptions").
+// How the client reports documents ("TextDocumentSyncOptions").
 fn sync_value(alloc: Global) -> Result<Value, AllocError>
     ensures { IfOk result (λ v. view v ≡ sync_data) }
 {

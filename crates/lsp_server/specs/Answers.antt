@@ -9,7 +9,7 @@ use Rattle.lsp_server.specs.Steps.{Answer, ready, done, refused, answered, shown
 abbrev pub server_version : List ℕ
 server_version = codes "1.0.0"
 
--- the message that an answer is, if `says` gives what is said of each document
+-- the message that an answer is, if `says` gives what is reported about each document
 abbrev pub answer_data : Sayings → Answer → Data
 answer_data says (ready id client) = response_data id (initialized_data client server_version)
 answer_data says (done id) = response_data id null

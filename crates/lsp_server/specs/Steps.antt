@@ -153,7 +153,7 @@ phase_told phase (changed uri version edits) = phase
 phase_told phase (closed uri) = phase
 phase_told phase nothing = phase
 
--- documents are told of while the server runs
+-- documents are told about notifications while the server runs
 abbrev pub told_in : Places → Phase → Told → List Open → List Open × Option Answer
 told_in places Fresh notice documents = (documents, None)
 told_in places Running notice documents = told places notice documents

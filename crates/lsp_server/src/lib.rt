@@ -1,11 +1,11 @@
 //! What a language server does with each message, over any texts that can be edited: its state, and
-//! its answers (LSP 3.17). It knows no terminfo.
+//! its answers (LSP 3.17). It knows nothing about terminfo.
 //!
 //! - `source`: what a text has to offer that is open in an editor
-//! - `phase`: how far the server has come; `requests` answers requests by it
+//! - `phase`: how far the server has come; `requests` replies to requests by it
 //! - `documents`: the documents that are open; `editing` changes the text of one
-//! - `server`: the state, changed by a message; `serving` answers frames by it; `runs` has the law
-//!   on whole runs
+//! - `server`: the state, changed by a message; `serving` replies to frames with it; `runs` has the
+//!   law on whole runs
 #![tactic(auto)]
 
 mod documents;

@@ -46,7 +46,7 @@ fn phase_told(phase: Phase, notice: &Notice<'_>) -> Phase
     }
 }
 
-// Tells the documents of a notification. The answer is what is published.
+// Tells the documents about a notification. The answer is what is published.
 fn tell<D: HeldText + Drop>(
     alloc: Global,
     documents: &mut Vec<Opened<D>>,
@@ -69,8 +69,8 @@ fn tell<D: HeldText + Drop>(
     }
 }
 
-// Tells the documents of a notification while the server runs; before and after that, nothing. The
-// answer is what is published.
+// Tells the documents about a notification while the server runs; before and after that, nothing.
+// The answer is what is published.
 fn tell_in<D: HeldText + Drop>(
     alloc: Global,
     phase: Phase,
@@ -138,7 +138,7 @@ impl<D: HeldText + Drop> Server<D> {
         }
     }
 
-    /// Takes the value of a body, or `None` for a body that is no JSON or too long. The answer is
+    /// Takes the value of a body, or `None` for a body that is not JSON or too long. The answer is
     /// what is to be sent, if something is.
     ///
     /// # Errors

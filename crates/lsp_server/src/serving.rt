@@ -64,7 +64,7 @@ fn serve_frame<D: HeldText + Drop, R: Read, W: Write>(
     write_answer(alloc, writer, answer.as_ref())
 }
 
-/// Answers frames until `exit` comes, each before more is read. The answer is the status of the
+/// Replies to frames until `exit` comes, each before more is read. The answer is the status of the
 /// process: 0 if `shutdown` came before, else 1.
 ///
 /// # Errors

@@ -18,7 +18,7 @@ pub trait HeldText {
     // Where a place is in a text.
     ghost place_in: { List ℕ → Position → ℕ };
 
-    // What is said of a text.
+    // What is reported about a text.
     ghost says: { Sayings };
 
     /// Holds a text.

@@ -1,5 +1,5 @@
 -- The text of a block as it is read (terminfo(5); X/Open Curses Issue 7, "Terminfo Source Format"),
--- each byte with its offset in the block: the lines that are no comments, joined.
+-- each byte with its offset in the block: the lines that are not comments, joined.
 use Rattle.ti_text.specs.Ascii as ascii
 use Rattle.std.specs.Prelude.{ℕ, suc, ◌≡◌, ◌<◌, ◌==◌, ◌||◌, ◌&&◌, not, All, Bool, true, false, List, [], ◌∷◌, filter, flat_map, length, slice_index}
 use Rattle.std.specs.Prelude.{if◌then◌else◌}
@@ -11,7 +11,7 @@ abbrev pub bytes_at : ℕ → List ℕ → List PlacedByte
 bytes_at offset [] = []
 bytes_at offset (byte ∷ bytes) = (byte, offset) ∷ bytes_at (suc offset) bytes
 
--- the bytes of lines that are no comments
+-- the bytes of lines that are not comments
 abbrev pub kept_of : List (List PlacedByte) → List PlacedByte
 kept_of lines = flat_map (λ line. line) (filter (λ line. not (is_comment line)) lines)
 

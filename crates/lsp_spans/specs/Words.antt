@@ -10,8 +10,8 @@ use Rattle.lsp_spans.specs.Parts.{field_of}
 use Rattle.lsp_spans.specs.Subjects.{begins_with, items_of}
 use Rattle.lsp_spans.specs.declared.words.Word.{Word}
 
--- whether a text ends in a line that has begun and is no comment; `before` is the byte before the
--- text, and `plain` says it of the line that goes on
+-- whether a text ends in a line that has begun and is not a comment; `before` is the byte before
+-- the text, and `plain` says it of the line that goes on
 abbrev pub is_open : Bool → ℕ → List ℕ → Bool
 is_open plain before [] = plain && not (before == ascii.newline)
 is_open plain before (byte ∷ bytes) = is_open (if before == ascii.newline then not (byte == ascii.number_sign) else plain) byte bytes

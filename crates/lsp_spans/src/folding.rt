@@ -53,7 +53,7 @@ fn push_line(
     push_range(text, block, start, end)
 }
 
-// The bytes of the lines that are no comments.
+// The bytes of the lines that are not comments.
 fn kept_lines(alloc: Global, block: &[u8]) -> Result<Vec<(u8, usize)>, AllocError>
     ensures { IfOk result (λ text. KeepsLines block.now text.items) }
 {

@@ -56,7 +56,7 @@ fn push_if(
 }
 
 /// Where a block has this name in its head: more than one place if it is there twice. The
-/// description is no name.
+/// description is not a name.
 ///
 /// # Errors
 /// Out of memory.

@@ -40,8 +40,8 @@ fn takes(before: u8, byte: u8, next: u8) -> bool
     byte == b'\\' || (byte == b'^' && before != b'%' && next != b',')
 }
 
-// How many bytes an item goes on by at the front of a text, which is just after `before`; none at
-// the comma that ends it.
+// How many bytes an item continues for at the front of a text, which is just after `before`; none
+// at the comma that ends it.
 fn step_len(text: &[(u8, usize)], before: u8) -> usize
     requires { 0 < length text.now }
     ensures within { result ≤ length text.now }

@@ -22,7 +22,7 @@ pub struct Word {
     pub used: bool,
 }
 
-// Whether a text ends in a line that has begun and is no comment.
+// Whether a text ends in a line that has begun and is not a comment.
 fn is_open(text: &[u8]) -> bool
     ensures { result ≡ spec.is_open false ascii.newline text.now }
 {

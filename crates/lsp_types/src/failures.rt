@@ -5,9 +5,9 @@ ghost use Rattle.lsp_types.specs.Failures.{code_of, sentence_of};
 /// Why a request is refused.
 #[derive(Clone, Copy, Debug, PartialEq, Eq)]
 pub enum Failure {
-    /// The body of a frame is no JSON, or is too long.
+    /// The body of a frame is not JSON, or is too long.
     NoJson,
-    /// The value is no request, or no request may come now.
+    /// The value is not a request, or no request may come now.
     NoRequest,
     /// The server has no such method.
     NoMethod,

@@ -43,7 +43,7 @@ fn each_refusal_of_no_blocks(rt: HostRuntime) -> Result<(), AllocError> {
     expect_source(&rt, rt.alloc(), &REFUSALS_OF_NO_BLOCKS)
 }
 
-// These bytes, with the byte `middle` this many times between them.
+// These bytes, with the byte `middle` repeated this many times between them.
 fn text_with_run(
     alloc: Global,
     front: &[u8],

@@ -1,4 +1,4 @@
-//! Steps that a source is led through: an edit, what it answers, and what the source is after it.
+//! Steps that a source is led through: an edit, what it returns, and what the source is after it.
 use std::alloc::{AllocError, Global};
 use std::process::Abort;
 use ti_base::{Database, Edit, EditError, Edited};
@@ -16,7 +16,7 @@ pub enum Entry {
     Cols(u8, u8),
 }
 
-/// An edit, what it answers, and what the source is after it.
+/// An edit, what it returns, and what the source is after it.
 pub struct Step<'a> {
     pub edit: Edit<'a>,
     /// The positions that are rebuilt and the work of that, or why the edit is refused.

@@ -1,4 +1,4 @@
-//! What is said of capabilities, as text.
+//! What is said about capabilities, as text.
 use lsp_descriptions::{detail_of, documentation_of};
 use std::process::Abort;
 use std::test::Fail;

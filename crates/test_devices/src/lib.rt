@@ -6,7 +6,7 @@ ghost use Rattle.std.specs.Prelude.{◌≡◌, IfOk};
 
 use std::io::{self, ErrorKind, Read, Write};
 
-/// What a device answers when it comes to its end.
+/// What a device returns when it comes to its end.
 #[derive(Clone, Copy, Debug)]
 pub enum End {
     /// A fault, at each call from then on.

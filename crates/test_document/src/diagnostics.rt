@@ -147,7 +147,7 @@ fn a_large_entry(rt: HostRuntime) -> Result<(), AllocError> {
     Ok(())
 }
 
-// The CR of a CR LF is no column of its line. It is an item of its own, since it is no white
+// The CR of a CR LF is not a column of its line. It is an item of its own, since it is not white
 // space.
 #[rattlefmt::skip]
 const RETURNS: [Row; 2] = [

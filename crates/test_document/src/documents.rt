@@ -10,7 +10,7 @@ fn text_of(alloc: Global, bytes: &[u8]) -> Result<Vec<u8>, AllocError> {
     Ok(text)
 }
 
-// A text, the text after it, and the edits from the one to the other: one for each block of the
+// A text, the text after it, and the edits from one to the other: one for each block of the
 // longer part between what both have in common at the ends.
 #[rattlefmt::skip]
 const EXCHANGES: [(&[u8], &[u8], usize); 14] = [

@@ -36,7 +36,7 @@ fn starts_of_characters(rt: HostRuntime) {
 
 // Places that are none: their line, their column and the offset that they are taken for.
 const OTHERS: [(usize, usize, usize); 6] = [
-    // Past the end of a line, whose CR is no column.
+    // Past the end of a line, whose CR is not a column.
     (0, 7, 11),
     (0, 2147483647, 11),
     (2, 1, 16),

@@ -12,7 +12,7 @@ const FIRST_LINES: [(&[u8], bool, usize); 9] = [
     (b"a|b,", false, 1),
     (b"# c\n\na|b,\n", true, 3),
     (b"# c\r\n# d\r\na|b,", false, 3),
-    // A CR is no white space, so it begins a block.
+    // A CR is not white space, so it begins a block.
     (b"# c\r\n\r\na|b,", false, 2),
     (b"\tam,\na|b,\n", true, 2),
     // If there is no block, that of one that is put at the end.

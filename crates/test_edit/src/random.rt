@@ -89,7 +89,7 @@ pub(crate) fn make_edit<'a>(draws: &mut Draws, len: usize, text: &'a [u8]) -> Ed
     }
 }
 
-// Makes the edit in a list of texts, if its positions are of the list. Answers whether they are.
+// Makes the edit in a list of texts, if its positions are of the list. Returns whether they are.
 fn change_texts(
     alloc: Global,
     texts: &mut Vec<Vec<u8>>,
@@ -172,7 +172,7 @@ fn is_afresh(alloc: Global, database: &Database, texts: &[Vec<u8>]) -> Result<bo
     is_same(database, &fresh)
 }
 
-// Makes an edit in the database and in the list. Answers whether the outcome is right, and both
+// Makes an edit in the database and in the list. Returns whether the outcome is right, and both
 // show the same.
 fn try_edit(
     alloc: Global,

@@ -11,7 +11,7 @@ const RUNS: u32 = 150;
 // How many edits each of them has.
 const EDITS: u32 = 24;
 
-// A block, and now and then a text that is no block.
+// A block, and now and then a text that is not a block.
 fn make_any_text(alloc: Global, draws: &mut Draws) -> Result<Vec<u8>, AllocError> {
     if draws.below(8) == 0 {
         return Vec::from_slice(alloc, b"a,\nb,\n");

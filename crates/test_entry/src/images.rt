@@ -57,7 +57,7 @@ fn take_text(image: &mut Image, index: usize) -> Option<Result<(), WriteError>> 
     Some(image.set(cap, None))
 }
 
-// What an image answers to what it is given; `None` if it may not be called.
+// What an image returns for what it is given; `None` if it may not be called.
 fn give(image: &mut Image, alloc: Global, given: Given<'_>) -> Option<Result<(), WriteError>> {
     match given {
         Given::Flag(index) => give_flag(image, index),
@@ -158,7 +158,7 @@ fn longest_entry(alloc: Global) -> Result<Vec<u8>, AllocError> {
     Ok(bytes)
 }
 
-// What an image answers to a `cbt` with this many bytes `A`.
+// What an image returns for a `cbt` with this many bytes `A`.
 fn give_long(
     image: &mut Image,
     alloc: Global,

@@ -222,8 +222,8 @@ fn damaged_texts_are_refused(rt: HostRuntime) -> Result<(), AllocError> {
     expect_refused(&rt, rt.alloc(), &OVERLAP, &DAMAGED_TEXTS)
 }
 
-// Whether the first name is no longer than the names field. Every getter is asked too, and
-// answers.
+// Whether the first name is no longer than the names field. Every getter is called too, and
+// returns.
 fn answers(view: &View<'_>) -> bool {
     for name in ["am", "OTxr"] {
         let _ = flag(view, name);
@@ -237,7 +237,7 @@ fn answers(view: &View<'_>) -> bool {
     view.first_name().len() <= view.names().len()
 }
 
-// Whatever a byte is changed to, reading answers, and so does every getter.
+// Whatever a byte is changed to, reading returns, and so does every getter.
 #[test]
 fn any_changed_byte_is_answered(rt: HostRuntime) -> Result<(), AllocError> {
     let bytes = dumb(rt.alloc())?;

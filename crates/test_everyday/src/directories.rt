@@ -152,7 +152,7 @@ fn a_directory_that_cannot_be_searched_is_passed(rt: HostRuntime) -> Result<(), 
     Ok(())
 }
 
-// Bytes, how many zeros follow them, and why they are no entry.
+// Bytes, how many zeros follow them, and why they are not an entry.
 const REFUSED: [(&[u8], usize, ExtensionError); 3] = [
     (b"\0\0", 0, ExtensionError::Entry(ReadError::Short)),
     (SHORT, 65_523, ExtensionError::Entry(ReadError::Counts)),

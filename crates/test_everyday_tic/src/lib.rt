@@ -1,11 +1,11 @@
 //! Worked rows of `everyday_tic` as tests, with answers from the manuals and by hand; no code of the
 //! product.
 //!
-//! - `sentences`: what is said of each fault, as the language server says it
+//! - `sentences`: what is reported about each fault, as the language server says it
 //! - `sources`: sources of other systems
 //! - `writing`: what is written, and where it stops
-//! - `compiling`: what is said of a source and which files come of it
-//! - `entries`: what the entries say of a source that uses installed ones
+//! - `compiling`: what is reported about a source and which files come of it
+//! - `entries`: what the entries say about a source that uses installed ones
 #![tactic(auto)]
 
 #[cfg(test)]

@@ -7,7 +7,7 @@ use tools_devices::{Counted, MemTree, ToolError};
 
 const SOURCE: &[u8] = b"a|b|two names,am,\nc,cols#x,\n";
 
-// What is said of it before its files are written.
+// What is reported about it before its files are written.
 const SAID: &[u8] =
     b"x.ti:2:3: error: cols: This is not a number. Write it in decimal, in octal after 0, or in hexadecimal after 0x. [E3 BadNumber]\n";
 

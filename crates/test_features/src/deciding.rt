@@ -66,7 +66,7 @@ fn are_wanted(sources: &[DecidingBlock], wanted: &[Decided]) -> bool {
     true
 }
 
-/// Whether it is told of a name, and these blocks decide what its owner inherits.
+/// Whether the hover is about a name, and these blocks decide what its owner inherits.
 fn is_told(told: &Hover, wanted: &[Decided]) -> bool {
     match &told.about {
         About::Name { sources, .. } => are_wanted(sources, wanted),
@@ -106,7 +106,7 @@ x|z|y|three,it#8,
 user,use=z,use=y,
 ";
 
-/// They are told of by the first name that they own.
+/// They are shown under the first name that they own.
 #[rattlefmt::skip]
 const BY_OWN_NAMES: [((usize, usize), &[Decided]); 2] = [
     ((1, 2), &[]),
@@ -134,7 +134,8 @@ fn source_with_large(alloc: Global) -> Result<Vec<u8>, AllocError> {
     Ok(text)
 }
 
-/// What is inherited through an entry that is over the limit; of that itself nothing is told.
+/// What is inherited through an entry that is over the limit; of that entry itself nothing is
+/// shown.
 #[rattlefmt::skip]
 const THROUGH_LARGE: [((usize, usize), &[Decided]); 2] = [
     ((1, 0), &[]),

@@ -34,7 +34,7 @@ pub(crate) fn are_parts(found: &[Range], parts: &[Part]) -> bool {
 }
 
 /// A source after a preface: lines that end with CR LF, a name that is twice in a head, a name that
-/// two blocks have, a comment, letters of two units, an item that is no use, an open last line.
+/// two blocks have, a comment, letters of two units, an item that is not a use, an open last line.
 pub(crate) const NAMED: &[u8] = b"# preface\r\n\r\n\
 a|aa|a|first one,\r\n\
 \tam, use=b,\r\n\
@@ -46,7 +46,7 @@ c|c,\n\
 \x20 a, use=b";
 
 /// Places in it that are on no name that a block has: in the preface, in a description, on an item
-/// that is no use, between items, in a comment, on a name that no block has.
+/// that is not a use, between items, in a comment, on a name that no block has.
 #[rattlefmt::skip]
 pub(crate) const NAMELESS: [(usize, usize); 8] = [(0, 3), (1, 0), (2, 9), (3, 2), (3, 4), (5, 4), (6, 4), (6, 20)];
 

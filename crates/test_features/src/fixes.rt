@@ -124,7 +124,7 @@ const CASES: [(&'static [u8], Row); 26] = [
     (b"a,bel=x\\q\r,\n", (((0, 3), (0, 3)), &[(Wanted::Spelling, ((0, 6), (0, 9)), "xq")])),
     (b"a,bel=x\\q\r\n\ty,\r\n", (((0, 3), (0, 3)), &[(Wanted::Spelling, ((0, 6), (1, 2)), "xq\\ry")])),
     (b"a,bel=x\\q,\r\n", (((0, 3), (0, 3)), &[(Wanted::Spelling, ((0, 6), (0, 9)), "xq")])),
-    // no editor takes the CR of a CR LF away, so a name that has it is no other then
+    // no editor takes the CR of a CR LF away, so a name that has it is not changed then
     (b"a,xenll\r\n", (((0, 3), (0, 3)), &[])),
     (b"a,xenll,\r\n", (((0, 3), (0, 3)), &[(Wanted::Name("xenll"), ((0, 2), (0, 7)), "xenl")])),
     (b"base,\nb,use=basse\r\n", (((1, 3), (1, 3)), &[])),

@@ -1,4 +1,4 @@
-//! What is told of what places of documents are on.
+//! What is shown about positions in documents.
 use crate::documents::{document_of, range_of};
 use lsp_blocks::{Entry, Holding};
 use lsp_document::Document;
@@ -29,7 +29,7 @@ enum Reads {
     Cancelled,
 }
 
-/// What is wanted of what a place is on: a capability by its name and kind, the item, and how it is
+/// What is wanted for a position: a capability by its name and kind, the item, and how it is
 /// read; or a name, and what became of it.
 #[derive(Clone, Copy)]
 enum Wanted {
@@ -109,7 +109,7 @@ fn became(entry: &Entry, wanted: Becomes) -> bool {
     }
 }
 
-/// Whether what is told is as it is wanted.
+/// Whether what is shown is as it is wanted.
 fn is_wanted(told: &Hover, range: Range, wanted: Wanted) -> bool {
     let same = match (&told.about, wanted) {
         (
@@ -173,7 +173,7 @@ const CAUSES: [((usize, usize), &str, Becomes); 12] = [
     ((8, 0), "i", Becomes::Faulty(10, "E4", "NumberTooLarge cols: The")),
 ];
 
-/// Whether what is told at a place is of that name, which became what is wanted.
+/// Whether what is shown at a place is of that name, which became what is wanted.
 fn is_told(
     alloc: Global,
     document: &Document,
@@ -234,8 +234,8 @@ fn what_is_over_a_limit_has_no_entry(rt: HostRuntime) -> Result<(), AllocError> 
     Ok(())
 }
 
-/// Places of which nothing is told: in the preface, in a description, between items, on an unknown
-/// name, on a disabled item, on a `use` in another form, past the end.
+/// Places about which nothing is shown: in the preface, in a description, between items, on an
+/// unknown name, on a disabled item, on a `use` in another form, past the end.
 const NOWHERE: [(usize, usize); 7] = [(0, 1), (1, 6), (2, 4), (4, 18), (4, 27), (6, 20), (9, 0)];
 
 #[test]

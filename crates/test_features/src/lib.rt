@@ -5,7 +5,7 @@
 //! - `deciding`: the blocks that decide what an entry inherits
 //! - `documents`: documents, and parts of them by lines and columns
 //! - `fixes`: what is offered against the faults of documents
-//! - `hovers`: what is told of what places of documents are on
+//! - `hovers`: what is shown about positions in documents
 //! - `names`: where the names of documents lead
 //! - `outlines`: the blocks of documents as their outlines show them
 //! - `renaming`: what is renamed in documents

@@ -31,7 +31,7 @@ const OUTLINES: [(&[u8], &[Row]); 6] = [
         ("a", (3, 0, 4, 4), (3, 0, 3, 7)),
         ("longe", (5, 0, 7, 9), (5, 0, 7, 4)),
     ]),
-    // The CR of a CR LF is no column.
+    // The CR of a CR LF is not a column.
     (b"a,\r\n\tam,\r\nb,\r\n", &[("a", (0, 0, 1, 4), (0, 0, 0, 1)), ("b", (2, 0, 2, 2), (2, 0, 2, 1))]),
     // A names field that is not in order is shown in ASCII, an empty one as a hyphen.
     (b"a b|c\xC3\xA9\xF0\x9F\x98\x80,\n,am,\n", &[

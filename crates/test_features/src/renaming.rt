@@ -18,7 +18,7 @@ const RENAMED: [((usize, usize), &[u8], &[Part]); 9] = [
     ((6, 10), b"new", &[(2, 2, 4), (6, 14, 16)]),
     // Uses before and after the head.
     ((9, 9), b"x\\\\", &[(3, 9, 10), (4, 0, 1), (9, 9, 10)]),
-    // The description is no name.
+    // The description is not a name.
     ((7, 0), b"c^", &[(7, 0, 1)]),
     // Names that the block has already.
     ((2, 0), b"a", &[(2, 0, 1), (2, 5, 6), (8, 5, 6)]),

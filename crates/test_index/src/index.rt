@@ -50,7 +50,7 @@ fn all_stand(order: &BlockOrder, ids: &[u32]) -> bool
     true
 }
 
-// Puts this many ids in at the front. Answers whether each was the next number.
+// Puts this many ids in at the front. Returns whether each was the next number.
 fn put_ids(order: &mut BlockOrder, count: u32) -> Result<bool, AllocError> {
     for number in 0..count {
         if put(order, 0)? != Some(number) {

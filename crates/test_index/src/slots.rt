@@ -8,7 +8,7 @@ use std::test::*;
 use ti_compiled::{Image, Table};
 use ti_source::Code;
 
-// Takes the slot at a position out, and puts it back without memory. Answers how many names it
+// Takes the slot at a position out, and puts it back without memory. Returns how many names it
 // has.
 fn exchange(slots: &mut Slots, at: usize) -> Option<usize> {
     if at >= slots.len() {

@@ -1,4 +1,4 @@
-//! What is said of a tool that stops, and its status.
+//! What is reported about a tool that stops, and its status.
 use everyday_entries::{Failure, Tool, capability_line, line, status};
 use std::alloc::{AllocError, Global};
 use ti_layout::ReadError;

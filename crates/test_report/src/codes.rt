@@ -2,7 +2,7 @@
 use crate::saying::said_of;
 use std::alloc::AllocError;
 
-// A source, and what is said of it.
+// A source, and what is reported about it.
 #[derive(Clone, Copy)]
 struct Row {
     source: &'static [u8],

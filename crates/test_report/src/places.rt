@@ -3,7 +3,7 @@ use crate::saying::said_of;
 use std::alloc::AllocError;
 use std::str;
 
-// A source, and how each line begins that is said of it.
+// A source, and how each line that is reported about it begins.
 #[derive(Clone, Copy)]
 struct Row {
     source: &'static [u8],

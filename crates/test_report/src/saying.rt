@@ -1,11 +1,11 @@
-//! What is said of the faults of a source.
+//! What is reported about the faults of a source.
 use everyday_report::write_faults;
 use std::alloc::{AllocError, Global};
 use tools_sources::database_of;
 use user_compiling::{compile, faults};
 
-/// What is said of the faults of the first blocks, `count` of them, of a source that is called
-/// `x.ti`, if its first line has the number `first_line`.
+/// What is reported about the faults of the first blocks, `count` of them, of a source that is
+/// called `x.ti`, if its first line has the number `first_line`.
 pub fn said_of(
     alloc: Global,
     source: &[u8],

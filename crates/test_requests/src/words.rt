@@ -28,7 +28,7 @@ fn asks(alloc: Global, tool: Tool, texts: &[&str], wanted: Request) -> Result<bo
     }
 }
 
-// What is said of words that ask a tool for nothing, whether it is usage.
+// What is reported about words that ask a tool for nothing, whether it is usage.
 fn refusal(alloc: Global, tool: Tool, texts: &[&str]) -> Result<(bool, String), Fail> {
     let words = words(alloc, texts)?;
     match request(alloc, tool, words.as_slice()) {

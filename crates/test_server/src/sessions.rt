@@ -27,7 +27,7 @@ const READY: &str =
 const INITIALIZE_ABLE: &str =
     r#"{"jsonrpc":"2.0","id":1,"method":"initialize","params":{"capabilities":{"textDocument":{"rename":{"prepareSupport":true},"codeAction":{"codeActionLiteralSupport":{}}}}}}"#;
 
-// A client that tells what it can do, and nothing of renames.
+// A client that reports what it can do, and nothing about renames.
 const INITIALIZE_PLAIN: &str =
     r#"{"jsonrpc":"2.0","id":1,"method":"initialize","params":{"capabilities":{"textDocument":{"codeAction":{"codeActionLiteralSupport":{}}}}}}"#;
 

@@ -13,7 +13,7 @@ static HEADERS: [(&'static [u8], &'static [&'static [u8]]); 4] = [
     (b"...|..", &[b"..."]),
 ];
 
-// Texts that are no names field.
+// Texts that are not a names field.
 static NO_HEADERS: [&'static [u8]; 11] = [
     b"", b"x|", b"|x", b"x||y", b"x y", b"x y|d", b"x|\0", b"..|d", b"a/b|d", b"a,b|d", b"\r",
 ];

@@ -22,7 +22,7 @@ const BLOCKS: [(&[u8], &[Row]); 7] = [
         (2, Code::BadNumber, Some(b"cols"), Some((27, 34))),
         (2, Code::MissingUse, Some(b"u"), Some((35, 40))),
         (2, Code::WrongKind, Some(b"am"), Some((41, 45))),
-        // The second use, whose break is no part of it.
+        // The second use, whose break is not part of it.
         (2, Code::Circular, Some(b"u"), Some((46, 52))),
         (4, Code::UnknownCapability, Some(b"foo"), Some((57, 60))),
         (4, Code::UnknownEscape, Some(b"bel"), Some((61, 67))),

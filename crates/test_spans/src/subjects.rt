@@ -58,7 +58,7 @@ fn uses(rt: HostRuntime) -> Result<(), AllocError> {
 const OWN: [(&[u8], &[u8], &[(usize, usize)]); 8] = [
     (BLOCK, b"x", &[(0, 1)]),
     (BLOCK, b"y z", &[(2, 5)]),
-    // The description is no name, unless it is alone.
+    // The description is not a name, unless it is alone.
     (BLOCK, b"long one", &[]),
     (b"a,use=a,\n", b"a", &[(0, 1)]),
     (b"a|b|a|a,\n", b"a", &[(0, 1), (4, 5)]),
@@ -95,7 +95,7 @@ const SUBJECTS: [(&[u8], usize, (usize, usize), (usize, usize), Wanted); 8] = [
     (BLOCK, 1, (0, 1), (0, 1), Wanted::Own(b"x")),
     (BLOCK, 5, (2, 5), (2, 5), Wanted::Own(b"y z")),
     (b"alone,\n", 5, (0, 5), (0, 5), Wanted::Own(b"alone")),
-    // Anywhere in the item, from its first byte that is no white space.
+    // Anywhere in the item, from its first byte that is not white space.
     (BLOCK, 21, (21, 32), (26, 30), Wanted::Used(b"ab")),
     (BLOCK, 30, (21, 32), (26, 30), Wanted::Used(b"ab")),
     (BLOCK, 68, (63, 68), (67, 68), Wanted::Used(b"c")),

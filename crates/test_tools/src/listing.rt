@@ -118,7 +118,7 @@ fn lists_in_the_order_asked_for(rt: HostRuntime) -> Result<(), Fail> {
     Ok(())
 }
 
-// What is said of A compared with B.
+// What is reported about A compared with B.
 fn comparison(alloc: Global, mode: Mode, order: Order) -> Result<Vec<u8>, Fail> {
     let (a, b) = (View::read(A)?, View::read(B)?);
     Ok(compare(alloc, &a, &b, mode, order)?)

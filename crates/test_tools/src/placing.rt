@@ -23,7 +23,7 @@ fn holds(tree: &MemTree, path: &str, want: Option<&[u8]>) -> bool {
     tree.file(path) == want
 }
 
-// Whether a read answers the front of a file, or that there is none.
+// Whether a read returns the front of a file, or that there is none.
 fn reads(tree: &mut MemTree, alloc: Global, path: &str, limit: usize, want: Option<&[u8]>) -> bool {
     match tree.read(alloc, path, limit) {
         Ok(Some(front)) => want == Some(front.as_slice()),

@@ -162,7 +162,7 @@ fn commands_on_a_dumb_terminal(rt: HostRuntime) -> Result<(), ToolError> {
     Ok(())
 }
 
-// What `tput` answers to this many words `0` on a dumb terminal.
+// What `tput` prints for this many words `0` on a dumb terminal.
 fn status_of_zeros(alloc: Global, count: usize) -> Result<Result<u8, ToolError>, ToolError> {
     let bytes = dumb(alloc)?;
     let view = entry(bytes.as_slice())?;

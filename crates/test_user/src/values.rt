@@ -14,7 +14,7 @@ fn say_name(said: &mut String, name: &[u8]) -> Result<(), AllocError> {
     Ok(())
 }
 
-// What is said of a name, with a string in hexadecimal.
+// What is said about a name, with a string in hexadecimal.
 fn say_value(said: &mut String, value: &Value) -> Result<(), AllocError> {
     match value {
         Value::True => Ok(()),

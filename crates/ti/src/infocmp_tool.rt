@@ -13,7 +13,7 @@ use tools_disk::DiskTree;
 /// `names` are those of the terminals, or the one that `TERM` names if there is none. `first_dir`
 /// is the only directory for the first of them, and `other_dir` the only one for the others. The
 /// entries are read in the order of their names, and the first that cannot be read ends the run.
-/// Answers the status of the process.
+/// Returns the status of the process.
 pub fn run<R: Clock + Env + Files + Print + Eprint + AllocGlobal>(
     rt: &R,
     job: &Job,

@@ -4,7 +4,7 @@ use ti_tools::{Counted, Job, ToolError, message, status};
 use tools_disk::ErrorStream;
 
 /// Says on standard error why a job stopped; `name` is that of the terminal, and `found` says that
-/// its entry was read. Answers the status of the process, even if standard error takes nothing.
+/// its entry was read. Returns the status of the process, even if standard error takes nothing.
 pub fn end_job<R: Eprint>(rt: &R, job: &Job, name: &str, failure: Failure, found: bool) -> u8 {
     match failure {
         Failure::Tool(error) => {

@@ -20,7 +20,7 @@ fn main(rt: HostRuntime) -> ExitCode {
     ExitCode::from(run(&rt))
 }
 
-// Does what the command line asks for. Answers the status of the process.
+// Does what the command line asks for. Returns the status of the process.
 fn run<R: Clock + Env + Files + Input + Print + Eprint + AllocGlobal>(rt: &R) -> u8 {
     let words = match words(rt) {
         Ok(words) => words,
@@ -32,7 +32,7 @@ fn run<R: Clock + Env + Files + Input + Print + Eprint + AllocGlobal>(rt: &R) ->
     }
 }
 
-// Does a job. Answers the status of the process.
+// Does a job. Returns the status of the process.
 fn run_job<R: Clock + Env + Files + Input + Print + Eprint + AllocGlobal>(rt: &R, job: &Job) -> u8 {
     match job {
         Job::Tic { check, dir, file } => {

@@ -1,8 +1,8 @@
-//! `ti session`: answers a script.
+//! `ti session`: replies to a script.
 use std::io;
 use ti_tools::{Counted, ToolError, session};
 
-/// Answers the script on standard input, on standard output.
+/// Reads the script on standard input, and replies on standard output.
 ///
 /// # Errors
 /// Why it stopped. The replies before have been written.

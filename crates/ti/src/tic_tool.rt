@@ -7,7 +7,7 @@ use ti_tools::{TicOptions, ToolError, TreeFault, place, tic};
 use tools_disk::{DiskTree, read_source};
 
 /// Compiles the source in `file`, or on standard input, and writes the files below `dir`. Nothing
-/// is written before the whole source is compiled. Answers the status of the process.
+/// is written before the whole source is compiled. Returns the status of the process.
 ///
 /// # Errors
 /// Why it stopped. If a file could not be written, the report and earlier files stay.

@@ -10,7 +10,7 @@ use tools_disk::{DiskTree, ErrorStream};
 
 /// Writes to standard output what the words ask of a terminal, or what each line of standard input
 /// asks if `lines` is set, or says on standard error why it did not. The terminal is `term`, else
-/// that of `TERM`; `rate` is the speed of its line in bits per second. Answers the status of the
+/// that of `TERM`; `rate` is the speed of its line in bits per second. Returns the status of the
 /// process.
 pub fn run<R: Clock + Env + Files + Input + Print + Eprint + AllocGlobal>(
     rt: &R,

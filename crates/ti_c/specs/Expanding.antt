@@ -1,4 +1,4 @@
--- What an expansion answers to C: terminfo(5), "Parameterized Strings".
+-- What an expansion returns to C: terminfo(5), "Parameterized Strings".
 use Rattle.std.specs.Prelude.{◌≡◌, ◌<◌, ◌==◌, ℕ, ℤ, pos, List, [], ◌∷◌, length, if◌then◌else◌, option_map, unwrap_or, slice_get}
 use Rattle.ti_param.specs.Expansion.{Expands}
 use Rattle.ti_param.specs.Meaning.{FormatArgument, number, text}

@@ -1,4 +1,4 @@
--- The line to a terminal as C has it, and what padding answers: terminfo(5), "Delays and Padding".
+-- The line to a terminal as C has it, and what padding returns: terminfo(5), "Delays and Padding".
 use Rattle.std.specs.Prelude.{◌≡◌, ◌<◌, ℕ, List, length, if◌then◌else◌, Option, Some, None}
 use Rattle.ti_printing.specs.declared.padding.Line.{Line}
 use Rattle.ti_printing.specs.Padding.{IsPadded}

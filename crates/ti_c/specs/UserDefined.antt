@@ -18,7 +18,8 @@ sections_held e = record { flags = e.flags.now; numbers = e.numbers.now; values 
 unfoldable pub rows_held : EntryExtension → List ReadRow
 rows_held e = rows_in (format_of e.wide) (sections_held e)
 
--- the number of a refusal: that of the entry's own, or 12 if what follows the entry is no extension
+-- the number of a refusal: that of the entry's own, or 12 if what follows the entry is not an
+-- extension
 abbrev pub refusal_number : ExtensionError → ℕ
 refusal_number (errors.Entry e) = rank e
 refusal_number errors.BadExtension = 12

@@ -1,4 +1,4 @@
-//! Reading an entry, and what it says: each call makes a view of the library of what C holds.
+//! Reading an entry, and what it says: each call makes the library's view of what C holds.
 ghost use Rattle.std.specs.Prelude.{◌≡◌, ◌≢◌, ◌==◌, ◌<◌, IfOk, IfErr, length, pos, unwrap_or};
 ghost use Rattle.std.specs.List.{after_last, before_first};
 ghost use Rattle.ti_text.specs.Ascii as ascii;
@@ -163,7 +163,7 @@ fn copied(alloc: Global, bytes: &[u8]) -> Result<Box<Entry<'static>>, u32>
     }
 }
 
-/// Reads an entry of a copy of the bytes, which C gives back with `ti_entry_free`. The answer is 0,
+/// Reads an entry of a copy of the bytes, which C frees with `ti_entry_free`. The answer is 0,
 /// the number of the first refusal that holds, or 9 if memory was refused; if it is not 0, `entry`
 /// is as it was.
 #[unsafe(no_mangle)]

@@ -11,7 +11,7 @@
 //! - `delays`: such bytes up to a delay, and its time
 //! - `places`: the directories in which entries are, those of the system, and the file of one
 //! - `laws`: that a NUL follows each string of an entry
-//! - `answers`: what a call says of the bytes that it wrote
+//! - `answers`: what a call says about the bytes that it wrote
 //!
 //! Nothing checks that a caller in C upholds what a type or a `requires` states: `include/ti.h`
 //! says it at each call.

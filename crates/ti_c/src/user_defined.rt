@@ -1,4 +1,4 @@
-//! The user-defined capabilities of an entry: each call makes an extension of the library of what C
+//! The user-defined capabilities of an entry: each call makes the library's extension of what C
 //! holds.
 ghost use Rattle.std.specs.Prelude.{◌≡◌, [], false, is_some, length, option_map, slice_get, Some};
 ghost use Rattle.ti_layout.specs.Values as values;
@@ -15,7 +15,7 @@ use crate::extension::EntryExtension;
 use ti_layout::Content;
 use user_extension::{Extension, ExtensionError, ExtensionParts, read};
 
-// What follows the entry is no extension.
+// What follows the entry is not an extension.
 const BAD_EXTENSION: u32 = 12;
 
 /// The value of a user-defined capability: its kind, which is 0 of a boolean, 1 of a number and 2 of
@@ -75,7 +75,7 @@ fn refusal_number(error: ExtensionError) -> u32
 
 /// Reads the user-defined capabilities of an entry where its bytes are, in one pass and without
 /// memory. The answer is 0; or the number of the first refusal of the entry that holds, or 12 if
-/// what follows the entry is no extension, and `extension` is then as it was.
+/// what follows the entry is not an extension, and `extension` is then as it was.
 #[unsafe(no_mangle)]
 pub extern "C" fn ti_extension_read<'a>(
     entry: &Entry<'a>,

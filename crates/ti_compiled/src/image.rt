@@ -42,7 +42,7 @@ impl Image {
     /// The image of a names field and a table.
     ///
     /// # Errors
-    /// Those of [`write`], each exactly if `write` answers it.
+    /// Those of [`write`], each exactly if `write` returns it.
     pub fn new(alloc: Global, names: &[u8], table: &Table) -> Result<Image, WriteError>
         requires present { names.now ≢ [] }
         requires no_nul { HasNoNul names.now }
@@ -80,7 +80,7 @@ impl Image {
     /// new entry is over the limit, or the copy gets no memory, the entry is written anew.
     ///
     /// # Errors
-    /// [`WriteError::TooLarge`] exactly if [`write`] answers it, and [`WriteError::Memory`].
+    /// [`WriteError::TooLarge`] exactly if [`write`] returns it, and [`WriteError::Memory`].
     pub fn patch(&self, old: &Table, new: &Table) -> Result<Image, WriteError>
         requires held { (c : Capability) → IsCapability c → held_by self.now c ≡ without_cancel (contents old.now c) }
         ensures image { IfOk result (λ i. bytes_of i ≡ image self.now.names (contents new.now)) }
@@ -185,7 +185,7 @@ impl Image {
     /// image as it was.
     ///
     /// # Errors
-    /// [`WriteError::TooLarge`] exactly if [`write`] of the names and the new values answers it,
+    /// [`WriteError::TooLarge`] exactly if [`write`] of the names and the new values returns it,
     /// and [`WriteError::Memory`]; never [`WriteError::NamesTooLong`].
     pub fn set(&mut self, cap: Cap, value: Option<Value>) -> Result<(), WriteError>
         requires agrees { AgreesIfSome cap (option_map content_of value) }

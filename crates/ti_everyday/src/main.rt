@@ -21,7 +21,7 @@ fn main(rt: HostRuntime) -> ExitCode {
     ExitCode::from(run(&rt))
 }
 
-// Does what the command line asks for. Answers the status of the process.
+// Does what the command line asks for. Returns the status of the process.
 fn run<R: Clock + Env + Files + Input + Print + Eprint + AllocGlobal>(rt: &R) -> u8 {
     let words = match words(rt) {
         Ok(words) => words,
@@ -36,7 +36,7 @@ fn run<R: Clock + Env + Files + Input + Print + Eprint + AllocGlobal>(rt: &R) ->
     }
 }
 
-// Does what is asked for. Answers the status of the process.
+// Does what is asked for. Returns the status of the process.
 fn run_request<R: Clock + Env + Files + Input + Print + Eprint + AllocGlobal>(
     rt: &R,
     request: &Request,

@@ -39,7 +39,7 @@ impl From<Failure> for Stop {
     }
 }
 
-/// Says on standard error why a tool stopped. Answers the status of the process, even if standard
+/// Says on standard error why a tool stopped. Returns the status of the process, even if standard
 /// error takes nothing.
 pub fn end_tool<R: Eprint + AllocGlobal>(rt: &R, tool: Tool, stop: Stop) -> u8 {
     match stop {

@@ -15,7 +15,7 @@ use tools_disk::{DiskTree, ErrorStream, read_whole, reason, takes_files};
 // What standard input is called in the report.
 const STANDARD_INPUT: &str = "<stdin>";
 
-/// Compiles the source that is asked for. Answers the status of the process.
+/// Compiles the source that is asked for. Returns the status of the process.
 ///
 /// # Errors
 /// Why it stopped. If a file could not be written, the report and earlier files stay.

@@ -14,7 +14,7 @@ use tools_devices::Counted;
 use tools_disk::DiskTree;
 
 /// Writes to standard output what the words ask of a terminal, or what each line of standard input
-/// asks. The terminal is that of the request, else that of `TERM`. Answers the status of the
+/// asks. The terminal is that of the request, else that of `TERM`. Returns the status of the
 /// process.
 ///
 /// # Errors

@@ -49,7 +49,7 @@ abbrev pub AgreesIfSome : Capability → Option Content → Type 0
 AgreesIfSome c None = Unit {0}
 AgreesIfSome c (Some content) = Agrees c content
 
--- ---- own: what is said of capabilities, one after another
+-- ---- own: what is said about capabilities, one after another
 
 -- a capability, and the value or the cancel that it is given
 abbrev pub Mention : Type 0

@@ -1,8 +1,8 @@
-//! Why bytes are no compiled entry.
+//! Why bytes are not a compiled entry.
 
 use thiserror::Error;
 
-/// Why bytes are no compiled entry: the first of these that holds, in this order.
+/// Why bytes are not a compiled entry: the first of these that holds, in this order.
 #[derive(Clone, Copy, PartialEq, Eq, Debug, Error)]
 pub enum ReadError {
     /// Fewer than the twelve bytes of a header.

@@ -3,7 +3,7 @@ ghost use Rattle.ti_layout.specs.Laws.{ImagesAreOfValues, ImagesAreRead, ImagesI
 ghost use Rattle.ti_layout.specs.Reading.{EntriesHaveOneReading};
 
 /// Bytes are an entry in at most one way, are refused in at most one way, and never both; so the
-/// bytes determine what [`View::read`](crate::View::read) answers.
+/// bytes determine what [`View::read`](crate::View::read) returns.
 pub fn one_reading()
     ensures { EntriesHaveOneReading }
 {}

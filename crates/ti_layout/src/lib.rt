@@ -9,7 +9,7 @@
 //! - `view`: an entry read where it is; each name and value is a slice of the caller's bytes
 //! - `view_parts`: such an entry as its sections, for a caller that holds it in another struct
 //! - `sections`: the sections of an entry, cut by its header and each looked through once
-//! - `fault`: why bytes are no entry
+//! - `fault`: why bytes are not an entry
 //! - `laws`: the definitions of reading determine one answer, and what is written is read again
 #![tactic(auto)]
 

@@ -31,8 +31,8 @@ impl From<AllocError> for ListError {
 
 /// The source of an entry that uses others, by their first names, as infocmp(1)'s `-u` prints it:
 /// laid out as a listing, with the items whose values are not those of the first of the others that
-/// has the capability, and cancels of what only others have. Then comes a line `use=` for each of
-/// the others, in order.
+/// has the capability, and cancellations of those that only others have. Then comes a line `use=`
+/// for each of the others, in order.
 ///
 /// # Errors
 /// `NoOthers` if there are none; then `Memory`.

@@ -19,7 +19,7 @@ stdio_rule = record (new_rule (codes "stdio")) { long = Some (codes "stdio"); ac
 abbrev pub lsp_app : App
 lsp_app = with_rule (on_top (λ top. record top { has_version = true }) (new_app (codes "ti-lsp"))) stdio_rule
 
--- clap answers with a text: it was asked for the help or the version
+-- clap returns a text: it was asked for the help or the version
 abbrev pub AsksForText : ErrorKind → Type 0
 AsksForText kind = (kind ≡ DisplayHelp) ⊎ (kind ≡ DisplayVersion)
 

@@ -8,13 +8,13 @@ use Rattle.lsp_messages.specs.Shapes.{action_data}
 use Rattle.lsp_fixes.specs.Edits.{AdviceSeen, advises_name, advises_sign, advises_spelling, advises_caret}
 use Rattle.lsp_fixes.specs.Fixes.{FixSeen}
 
--- what is said of the sign of a kind
+-- what is said about the sign of a kind
 abbrev pub sign_told : Kind → List ℕ
 sign_told Flag = codes "Leave the sign out"
 sign_told Number = codes "Write `#` before the number"
 sign_told Text = codes "Write `=` before the string"
 
--- what is said of advice, by which this text is written
+-- what is said about advice, by which this text is written
 abbrev pub advice_told : AdviceSeen → List ℕ → List ℕ
 advice_told (advises_name name) text = codes "Replace `" ++ name ++ codes "` by `" ++ text ++ codes "`"
 advice_told (advises_sign kind) text = sign_told kind

@@ -1,4 +1,4 @@
--- What is told of what a place is on, as a value of the protocol (LSP 3.17, "Hover"); the sentences
+-- What is shown about a position, as a value of the protocol (LSP 3.17, "Hover"); the sentences
 -- are own.
 use Rattle.std.specs.Prelude.{ℕ, List, [], ◌∷◌, ◌++◌, Option, None, Some, codes}
 use Rattle.std.specs.Fmt.{decimal}
@@ -18,7 +18,7 @@ use Rattle.lsp_descriptions.specs.Words.{detail_of, documentation_of}
 abbrev pub size_told : ℕ → List ℕ
 size_told bytes = codes "an entry of " ++ decimal bytes ++ codes " bytes"
 
--- how many there are of what a word says
+-- how many there are of the thing that a word names
 abbrev pub count_told : List ℕ → ℕ → List ℕ
 count_told word count = word ++ codes ": " ++ decimal count
 
@@ -45,7 +45,7 @@ entry_told (entry_held holding) = size_told holding.bytes ++ codes "\n" ++ count
 abbrev pub head_told : Capability → List ℕ
 head_told c = name_of c ++ codes ": " ++ detail_of c
 
--- what is said of it, and the item as it is written
+-- what is said about it, and the item as it is written
 abbrev pub item_told : Capability → List ℕ → List ℕ
 item_told c text = documentation_of c ++ codes "\nWritten: " ++ text
 
@@ -61,7 +61,7 @@ meaning_told means_cancelled = codes "cancelled"
 abbrev pub read_told : MeaningSeen → List ℕ
 read_told meaning = codes "Read" ++ codes ": " ++ meaning_told meaning
 
--- what is said of it, and the item as it is written and as it is read
+-- what is said about it, and the item as it is written and as it is read
 abbrev pub lines_told : Capability → List ℕ → MeaningSeen → List ℕ
 lines_told c text meaning = item_told c text ++ codes "\n" ++ read_told meaning
 
@@ -93,7 +93,7 @@ abbrev pub about_told : AboutSeen → List ℕ
 about_told (about_item c text meaning) = capability_told c text meaning
 about_told (about_name name entry sources) = name ++ codes ": " ++ entry_told entry ++ sources_told sources
 
--- what is told ("Hover"), or null
+-- what is shown ("Hover"), or null
 abbrev pub hover_shown : Option HoverSeen → Data
 hover_shown None = null
 hover_shown (Some told) = hover_data (about_told told.about) told.range

@@ -15,7 +15,7 @@ use serde_json::Value;
 use std::alloc::{AllocError, Global};
 use ti_caps::Kind;
 
-// What is said of the sign of a kind.
+// What is said about the sign of a kind.
 fn sign_told(kind: Kind) -> &'static str
     ensures { result.now ≡ sign_told kind }
 {
@@ -33,7 +33,7 @@ fn other_told(alloc: Global, text: &str) -> Result<String, AllocError>
     format!(in alloc; "` by `{text}`")
 }
 
-// What is said of another name in place of one.
+// What is said about another name in place of one.
 fn name_told(alloc: Global, name: &str, text: &str) -> Result<String, AllocError>
     ensures { IfOk result (λ told. string_bytes told ≡ codes "Replace `" ++ name.now ++ codes "` by `" ++ text.now ++ codes "`") }
 {
@@ -41,14 +41,14 @@ fn name_told(alloc: Global, name: &str, text: &str) -> Result<String, AllocError
     format!(in alloc; "Replace `{name}{other}")
 }
 
-// What is said of another spelling of the last byte of a string.
+// What is said about another spelling of the last byte of a string.
 fn caret_told(alloc: Global, text: &str) -> Result<String, AllocError>
     ensures { IfOk result (λ told. string_bytes told ≡ codes "Write `" ++ text.now ++ codes "` at the end") }
 {
     format!(in alloc; "Write `{text}` at the end")
 }
 
-// What is said of advice, by which a text is written.
+// What is said about advice, by which a text is written.
 fn advice_told(alloc: Global, advice: &Advice, text: &str) -> Result<String, AllocError>
     ensures { IfOk result (λ told. string_bytes told ≡ advice_told (advice_seen advice.now) text.now) }
 {

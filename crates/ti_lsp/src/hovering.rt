@@ -1,4 +1,4 @@
-//! What is told of what a place is on, as a value of the protocol.
+//! What is shown about a position, as a value of the protocol.
 ghost use Rattle.std.specs.Prelude.{◌≡◌, ◌++◌, IfOk, OnOk, Some, codes, map};
 ghost use Rattle.std.specs.Fmt.{decimal};
 ghost use Rattle.std.specs.String.{string_bytes};
@@ -41,7 +41,7 @@ fn digits(alloc: Global, number: usize) -> Result<String, AllocError>
     format!(in alloc; "{number}")
 }
 
-// How many there are of what a word says.
+// How many there are of the thing that a word names.
 fn count_told(alloc: Global, word: &str, count: usize) -> Result<String, AllocError>
     ensures { IfOk result (λ text. string_bytes text ≡ count_told word.now count) }
 {
@@ -110,7 +110,7 @@ fn head_told(alloc: Global, capability: Cap) -> Result<String, AllocError>
     joined(alloc, name(capability), ": ", detail.as_str())
 }
 
-// What is said of a capability, and the item as it is written.
+// What is said about a capability, and the item as it is written.
 fn item_told(alloc: Global, capability: Cap, text: &str) -> Result<String, AllocError>
     ensures { IfOk result (λ told. string_bytes told ≡ item_told capability text.now) }
 {
@@ -139,7 +139,7 @@ fn read_told(alloc: Global, meaning: &Meaning) -> Result<String, AllocError>
     joined(alloc, "Read", ": ", meaning.as_str())
 }
 
-// What is said of a capability, and the item as it is written and as it is read.
+// What is said about a capability, and the item as it is written and as it is read.
 fn lines_told(
     alloc: Global,
     capability: Cap,
@@ -244,7 +244,7 @@ fn about_told(alloc: Global, about: &About) -> Result<String, AllocError>
     }
 }
 
-/// What is told of what a place of a source is on.
+/// What is shown about a position in a source.
 ///
 /// # Errors
 /// Out of memory.

@@ -2,7 +2,7 @@
 //!
 //! - `command`: what the words of the command line ask for
 //! - `terminfo`: a source as the server holds and shows it; `answering` answers questions about it,
-//!   `offers` has the capabilities as a completion offers them, `hovering` tells what a place is on,
+//!   `offers` has the capabilities as a completion offers them, `hovering` says what a place is on,
 //!   `renaming` renames, and `fixing` says what is offered against faults
 #![tactic(auto)]
 
@@ -51,7 +51,7 @@ fn words<R: Env + AllocGlobal>(rt: &R) -> io::Result<Vec<String>> {
     Ok(env::args(rt)?.collect(rt.alloc())?)
 }
 
-// Answers what comes on standard input. The answer is the status of the process: 1 at a fault.
+// Replies to what comes on standard input. The answer is the status of the process: 1 at a fault.
 fn serve_input<R: Input + Print + AllocGlobal>(rt: &R) -> u8 {
     match serve_buffered(rt) {
         Ok(status) => status,
@@ -59,7 +59,7 @@ fn serve_input<R: Input + Print + AllocGlobal>(rt: &R) -> u8 {
     }
 }
 
-// Answers what comes on standard input, read with a buffer.
+// Replies to what comes on standard input, read with a buffer.
 fn serve_buffered<R: Input + Print + AllocGlobal>(rt: &R) -> Result<u8, FrameError> {
     let mut server: Server<Terminfo> = Server::new(rt.alloc());
     let Ok(reader) = io::BufReader::new(rt.alloc(), rt.reader()) else {

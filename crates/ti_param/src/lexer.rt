@@ -99,7 +99,7 @@ impl<'a> Lexer<'a> {
         Some(Placed { place, token })
     }
 
-    /// Takes all tokens that are left, and answers where the format is stuck, if it is.
+    /// Takes all tokens that are left, and returns where the format is stuck, if it is.
     pub(crate) fn end(&mut self) -> Option<usize>
         ensures { result ≡ (left_of self.old).stop }
     {

@@ -243,7 +243,7 @@ fn zeros_before(directive: &Directive, digits: &[u8]) -> usize
     }
 }
 
-// Writes the number's digits to the end of the buffer, and answers where they begin.
+// Writes the number's digits to the end of the buffer, and returns where they begin.
 fn write_numeral(buffer: &mut [u8; MOST_DIGITS], conversion: Conversion, number: i32) -> usize
     ensures bound { result ≤ digits_max }
     ensures digits { drop result buffer.new ≡ numeral conversion number }
@@ -258,7 +258,7 @@ fn write_numeral(buffer: &mut [u8; MOST_DIGITS], conversion: Conversion, number:
     }
 }
 
-// Writes the digits of a number to a base to the end of the buffer, none for 0, and answers where
+// Writes the digits of a number to a base to the end of the buffer, none for 0, and returns where
 // they begin.
 fn write_digits(buffer: &mut [u8; MOST_DIGITS], number: u32, base: u32, upper: bool) -> usize
     requires { (8 ≤ base) × (base ≤ 16) }

@@ -53,7 +53,7 @@ pub data Joins : (text kept : List PlacedByte) → Type 0 where
   piece_and_break : (piece run rest kept : List PlacedByte) (at : ℕ) → HasNoNewline piece → IsBlankRun run → BeginsNoBlank rest → Joins rest kept
       → Joins (piece ++ (ascii.newline, at) ∷ (run ++ rest)) (piece ++ kept)
 
--- the folded text of a block: its lines that are no comments, joined
+-- the folded text of a block: its lines that are not comments, joined
 pub record Folds (block : List ℕ) (text : List PlacedByte) : Type 0 where
   pub whole : List PlacedByte
   pub lines : List (List PlacedByte)

@@ -1,6 +1,6 @@
 -- The names field, which opens a block: the names of the terminal and a description, separated by
 -- `|` (X/Open Curses Issue 7, "Terminfo Source Format"). Which names can be looked up is own: names
--- are names of files, so they are printable and are no path.
+-- are names of files, so they are printable and not paths.
 use Rattle.ti_text.specs.Ascii as ascii
 use Rattle.std.specs.Prelude.{◌≡◌, ◌≢◌, ℕ, ◌-◌, ◌≤◌, Bool, not, ◌||◌, ◌&&◌, ◌==◌, nat_le, if◌then◌else◌, List, [], ◌∷◌, length, take, All, Any, Contains}
 use Rattle.std.specs.Prelude.{◌⊎◌, Option, Some, None}

@@ -13,11 +13,11 @@ pub enum Code {
     BadHeader,
     /// `E2`: the names field is longer than 127 bytes.
     NamesTooLong,
-    /// `E3`: the text after `#` is no number.
+    /// `E3`: the text after `#` is not a number.
     BadNumber,
     /// `E4`: the number is over 2,147,483,647.
     NumberTooLarge,
-    /// `E5`: the text after `=` is no string.
+    /// `E5`: the text after `=` is not a string.
     BadString,
     /// `E6`: no entry has the name that `use=` names.
     MissingUse,

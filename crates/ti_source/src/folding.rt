@@ -49,7 +49,7 @@ impl<'a> Folded<'a> {
     }
 
     /// Takes the run at the front over which an item goes on: `escape` takes the first byte, which
-    /// is just after `before`. Answers `None` if that byte may belong to a comment or a line break.
+    /// is just after `before`. Returns `None` if that byte may belong to a comment or a line break.
     pub(crate) fn take_run(&mut self, escape: Escape, before: u8) -> Run<'a>
         ensures { TakesRun self.old escape before result self.new }
     {

@@ -12,7 +12,7 @@ use ti_text::limits::NUMBER_MAX;
 // The greatest value of a number.
 const GREATEST: u32 = NUMBER_MAX;
 
-/// Why a text is no number.
+/// Why a text is not a number.
 #[derive(Clone, Copy, PartialEq, Eq, Debug, Error)]
 pub enum NumberError {
     /// It is not written as a number is.

@@ -244,7 +244,7 @@ impl<'a> Pieces<'a> {
         literal
     }
 
-    // Takes the next piece, or answers that none is left.
+    // Takes the next piece, or returns that none is left.
     fn next_piece(&mut self) -> Result<Option<Piece>, UnescapeError>
         ensures { TakesPiece self.old result self.new }
     {
@@ -268,7 +268,7 @@ fn check(raw: &[u8]) -> Result<(), UnescapeError>
     Ok(())
 }
 
-// Puts what `raw` spells into `bytes`, in one walk over it, and answers whether an escape is odd.
+// Puts what `raw` spells into `bytes`, in one walk over it, and returns whether an escape is odd.
 // The error may be `Memory` though `raw` spells nothing.
 fn decode(bytes: &mut Vec<u8>, raw: &[u8]) -> Result<bool, UnescapeError>
     ensures { IfOk result (λ odd. unescape_result raw.now ≡ Ok (bytes.new.items, odd)) }
@@ -312,11 +312,11 @@ pub fn unescape(alloc: Global, raw: &[u8]) -> Result<Unescaped, UnescapeError>
 }
 
 /// Puts the bytes that `raw` spells, which [`unescape`] gives, into `bytes` in the place of what
-/// was there, and answers whether an escape is odd. Room that `bytes` has is used again.
+/// was there, and returns whether an escape is odd. Room that `bytes` has is used again.
 ///
 /// # Errors
 ///
-/// Those of [`unescape`]. What `bytes` has then is not told.
+/// Those of [`unescape`]. What `bytes` then has is not specified.
 pub fn unescape_into(bytes: &mut Vec<u8>, raw: &[u8]) -> Result<bool, UnescapeError>
     ensures ok { IfOk result (λ odd. Spells raw.now bytes.new.items odd) }
     ensures err { IfErr result (λ cause. IsCauseOf cause raw.now) }

@@ -1,4 +1,4 @@
--- What is said of lists of any kind (own).
+-- Properties of lists of any kind (own).
 use Rattle.std.specs.Prelude.{◌≡◌, ◌<◌, ℕ, Bool, true, List, ◌++◌, Option, Some, None, slice_get}
 use Rattle.std.specs.List.{AllByRecursion}
 

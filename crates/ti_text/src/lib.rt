@@ -1,7 +1,7 @@
 //! What every layer shares: lines, digits, limits, white space, and growth into room made before.
 //!
 //! - `specs/`: `Ascii` names the bytes that terminfo gives a meaning, `Texts` says what is known of
-//!   a text by its bytes alone, `Lists` what is said of lists of any kind, `Digits` what decimal
+//!   a text by its bytes alone, `Lists` properties of lists of any kind, `Digits` what decimal
 //!   digits write, and `Limits` what the limits of the product are.
 //! - `limits`: the limits, for the code
 //! - `lines`: counts lines; `laws`: the lines of joined texts

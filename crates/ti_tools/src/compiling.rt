@@ -79,7 +79,7 @@ pub fn tic(alloc: Global, source: &[u8], options: &TicOptions) -> Result<TicOutc
 {
     match compile_source(alloc, source, options) {
         Ok(outcome) => Ok(outcome),
-        // What is wrong with the source is told before that memory ran out.
+        // What is wrong with the source is reported before that memory ran out.
         Err(_) => Err(refusal(source)),
     }
 }

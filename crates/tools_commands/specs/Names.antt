@@ -17,6 +17,6 @@ infocmp_name = codes "infocmp"
 abbrev pub tput_name : List ℕ
 tput_name = codes "tput"
 
--- the tool that answers a script
+-- the tool that replies to a script
 abbrev pub session_name : List ℕ
 session_name = codes "session"

@@ -24,7 +24,7 @@ use ti_text::limits::PARAMETERS_MAX;
 /// Why the words of a command line ask for no job.
 #[derive(Clone, Copy, Debug, PartialEq, Eq, Error)]
 pub enum UsageError {
-    /// The words are no command line of the program.
+    /// The words are not a command line of the program.
     #[error("bad usage")]
     Usage,
     /// The words ask for help.
@@ -38,8 +38,8 @@ pub enum UsageError {
 /// Why words ask for no job, with the message for them, which ends with a newline.
 #[derive(Debug, Drop)]
 pub enum Refusal {
-    /// The words are no command line of the program: what clap says of them, or, if clap takes
-    /// them, the line of the mistake, such as `ti: bad usage: no capability is named`.
+    /// The words are not a command line of the program: what clap says about them, or, if clap
+    /// takes them, the line of the mistake, such as `ti: bad usage: no capability is named`.
     Usage(String),
     /// The words ask for help: its text.
     Help(String),
@@ -216,9 +216,9 @@ fn job_of_program(alloc: Global, words: &[String]) -> Result<Job, Refusal>
 /// first word is the program's name.
 ///
 /// # Errors
-/// `Usage` if the words are no command line of the program, and `Help` if they ask for help; then
-/// `Memory`. `Usage` has the text of clap if clap finds a fault in the words, else the line of the
-/// mistake.
+/// `Usage` if the words are not a command line of the program, and `Help` if they ask for help;
+/// then `Memory`. `Usage` has the text of clap if clap finds a fault in the words, else the line of
+/// the mistake.
 pub fn job_or_refusal(alloc: Global, words: &[String]) -> Result<Job, Refusal>
     ensures right { IfOk result (λ job. OfProgram (IsJobOf (word_texts words.now) job)) }
     ensures answered { (task : Task) → OfEachProgram (TakesAs (word_texts words.now) task)
@@ -234,8 +234,8 @@ pub fn job_or_refusal(alloc: Global, words: &[String]) -> Result<Job, Refusal>
 /// What the words of a command line ask for. The first word is the program's name.
 ///
 /// # Errors
-/// `Usage` if the words are no command line of the program, and `Help` if they ask for help; then
-/// `Memory`.
+/// `Usage` if the words are not a command line of the program, and `Help` if they ask for help;
+/// then `Memory`.
 pub fn job(alloc: Global, words: &[String]) -> Result<Job, UsageError>
     ensures right { IfOk result (λ job. OfProgram (IsJobOf (word_texts words.now) job)) }
     ensures answered { (task : Task) → OfEachProgram (TakesAs (word_texts words.now) task)

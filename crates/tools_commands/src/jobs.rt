@@ -42,7 +42,7 @@ pub enum Job {
         /// A capability's name and its parameters; none with `lines`.
         words: Vec<String>,
     },
-    /// Read a script and answer it.
+    /// Read a script and reply to it.
     Session,
     /// List, compare or relate entries.
     Infocmp {

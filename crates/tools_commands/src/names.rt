@@ -12,5 +12,5 @@ pub(crate) const INFOCMP: &str = "infocmp";
 /// The tool that writes what drives a terminal.
 pub(crate) const TPUT: &str = "tput";
 
-/// The tool that answers a script.
+/// The tool that replies to a script.
 pub(crate) const SESSION: &str = "session";

@@ -14,7 +14,7 @@ failures_of c = c.failures.count
 abbrev pub reads_of : {D : Type 0} → Counted D → ℕ
 reads_of c = c.reads.count
 
--- a call that answers a fault is one failure
+-- a call that returns a fault is one failure
 abbrev pub failed_read : {X E : Type 0} → Result X E → ℕ
 failed_read (Ok x) = 0
 failed_read (Err e) = 1
@@ -25,7 +25,7 @@ none_taken zero [] = 0
 none_taken zero (b ∷ bytes) = 1
 none_taken (suc n) bytes = 0
 
--- a write that answers a fault is one failure, as is one that takes no byte of a piece that has
+-- a write that returns a fault is one failure, as is one that takes no byte of a piece that has
 -- some
 abbrev pub failed_write : {E : Type 0} → Result ℕ E → List ℕ → ℕ
 failed_write (Ok n) bytes = none_taken n bytes

@@ -35,7 +35,7 @@ pub record ComesNearer (before now : MemTree) : Type 0 where
   pub nearer : due_of now ≡ due_of before - 1
   pub failures : tree_failures_of now ≡ tree_failures_of before
 
--- the call that is to fail answers `Failed`, and no other call does
+-- the call that is to fail returns `Failed`, and no other call does
 abbrev pub FailsWhereSet : {X : Type 0} → MemTree → MemTree → Result X TreeFault → Type 0
 FailsWhereSet before now (Ok _) = ComesNearer before now
 FailsWhereSet before now (Err Failed) = FailsAsSet before now

@@ -60,8 +60,8 @@ abbrev pub Finds : ℕ → Option Files → List ℕ → List (List ℕ) → Opt
 Finds count None name directories found = Unit {0}
 Finds count (Some files) name directories found = found ≡ option_map (take count) (first_file files name directories)
 
--- what a search answers: the file, or that there is no terminal of the name, which is so if it is
--- no lookup name
+-- what a search returns: the file, or that there is no terminal of the name, which is so if it is
+-- not a lookup name
 abbrev pub Locates : ℕ → Option Files → List ℕ → List (List ℕ) → Result (Vec ℕ) ToolError → Type 0
 Locates count files name directories (Ok bytes) = (is_lookup_name name ≡ true) × Finds count files name directories (Some bytes.items)
 Locates count files name directories (Err NoTerminal) =

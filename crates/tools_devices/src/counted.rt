@@ -11,7 +11,7 @@ use std::io::{Read, Result, Write};
 /// A reader or a writer, how often it has failed, and how often it was read from. Only contracts
 /// see the counts. They take no memory and have no greatest value.
 ///
-/// A call through it raises the count of failures by one exactly if the device answers a fault, or
+/// A call through it raises the count of failures by one exactly if the device returns a fault, or
 /// takes no byte of a piece that has some. Each read raises the count of reads by one.
 #[derive(Drop)]
 pub struct Counted<D> {

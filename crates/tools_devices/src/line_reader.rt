@@ -90,7 +90,7 @@ impl LineReader {
     }
 
     // Puts what is before the first newline ahead after the line; all that is ahead, if there is no
-    // newline. Answers whether there is one.
+    // newline. Returns whether there is one.
     fn take_line(&mut self) -> Result<bool, ToolError>
         ensures taken { TakesLine self.old self.new result }
         ensures limit { line_limit_of self.new ≡ line_limit_of self.old }
@@ -112,7 +112,7 @@ impl LineReader {
         }
     }
 
-    // Reads once more, if nothing is ahead. Answers whether a byte came.
+    // Reads once more, if nothing is ahead. Returns whether a byte came.
     fn refill<R: Read>(&mut self, reader: &mut Counted<R>) -> Result<bool, ToolError>
         requires { ahead_of self.old ≡ [] }
         ensures came { Refills self.old self.new (observation R.remaining reader.old)

@@ -37,14 +37,14 @@ impl MemTree {
     }
 
     /// The bytes of the file at `path`, or `None` if there is no such file. Takes no memory, and is
-    /// no call that may fail.
+    /// not a call that may fail.
     pub fn file(&self, path: &str) -> Option<&[u8]>
         ensures { option_map (λ bytes. bytes.now) result ≡ files_of self.now path.now }
     {
         self.held.get(path).map(|bytes| bytes.as_slice())
     }
 
-    /// Has the `n`th call of `read` and `write` from now, counted from 1, answer `Failed` once.
+    /// Has the `n`th call of `read` and `write` from now, counted from 1, return `Failed` once.
     /// That call changes no file. An earlier setting for a call that is still to come no longer
     /// holds.
     pub fn fail_at(&mut self, n: u64)

@@ -7,7 +7,7 @@ use crate::counted::Counted;
 use crate::tool_error::ToolError;
 use std::io::Read;
 
-/// Reads once, into the front of a piece that has room. Answers how many bytes came: 0 only at the
+/// Reads once, into the front of a piece that has room. Returns how many bytes came: 0 only at the
 /// end.
 ///
 /// # Errors

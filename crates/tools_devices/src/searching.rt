@@ -48,7 +48,7 @@ fn search<T: Tree>(
 /// name and `c` its first byte. Of a file over 65,536 bytes it gives the first 65,537.
 ///
 /// # Errors
-/// `NoTerminal` if the name is no lookup name, or no directory has its file; `ReadFault` if the
+/// `NoTerminal` if the name is not a lookup name, or no directory has its file; `ReadFault` if the
 /// tree failed; `Memory`. The last two come at the directory at which they happen.
 pub fn locate<T: Tree>(
     alloc: Global,

@@ -9,13 +9,13 @@ use ti_layout::ReadError;
 /// Why a tool stops before its work is done.
 #[derive(Clone, Copy, Debug, PartialEq, Eq, Error)]
 pub enum ToolError {
-    /// The words are no command line of the tool.
+    /// The words are not a command line of the tool.
     #[error("bad usage")]
     Usage,
     /// There is no such terminal.
     #[error("unknown terminal")]
     NoTerminal,
-    /// The file of a terminal is no compiled entry, and the reason.
+    /// The file of a terminal is not a compiled entry, and the reason.
     #[error("bad entry ({0})")]
     BadEntry(ReadError),
     /// A file or an input could not be read.

@@ -82,7 +82,7 @@ impl<'a, R: Files + Clock + AllocGlobal> Tree for DiskTree<'a, R> {
 }
 
 // The first `limit + 1` bytes of a file, or all if it has fewer; `None` if it is not there. A path
-// that is no regular file is an error: to open a FIFO would wait for a writer.
+// that is not a regular file is an error: to open a FIFO would wait for a writer.
 fn read_file<R: Files>(
     rt: &R,
     alloc: Global,

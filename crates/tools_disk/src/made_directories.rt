@@ -20,7 +20,7 @@ impl MadeDirectories {
     /// Makes a directory that is missing, with those above it.
     ///
     /// # Errors
-    /// What the system answers.
+    /// What the system returns.
     pub fn make<R: Files + AllocGlobal>(&mut self, rt: &R, directory: &str) -> io::Result<()> {
         fs::create_dir_all(rt, directory)?;
         // Without memory to remember it, it counts as one that was there.

@@ -14,7 +14,7 @@ const LEFT_OVER_AFTER: u64 = 3600;
 /// system has any. After a failure no new file is left.
 ///
 /// # Errors
-/// What the system answers; `OutOfMemory` if a growth of memory was refused.
+/// What the system returns; `OutOfMemory` if a growth of memory was refused.
 pub fn replace_file<R: Files + Clock + AllocGlobal>(
     rt: &R,
     made: &mut MadeDirectories,
@@ -67,7 +67,7 @@ fn directory_of(path: &str) -> &str {
 }
 
 // A new file in the directory of the one at the path, under the first number that is free. Its name
-// has a comma, as no lookup name does, so it is no terminal's.
+// has a comma, as no lookup name does, so it is not a terminal's.
 fn create_beside<R: Files + Clock + AllocGlobal>(
     rt: &R,
     path: &str,

@@ -14,7 +14,7 @@ const PIECE: usize = 16_384;
 /// which has room for some. A read that was interrupted is made again.
 ///
 /// # Errors
-/// What the reader answers; `Other` if 4,294,967,296 reads came to no end; `OutOfMemory` if a
+/// What the reader returns; `Other` if 4,294,967,296 reads came to no end; `OutOfMemory` if a
 /// growth of memory was refused.
 pub fn read_up_to(
     alloc: Global,

@@ -10,12 +10,12 @@ OneAnswer = (meaning : Meaning) (before after other : SessionState) (reply answe
     → LineLeads meaning before other answer
     → (reply ≡ refused_text Memory) ⊎ (answer ≡ refused_text Memory) ⊎ ((after ≡ other) × (reply ≡ answer))
 
--- these replies begin with the answer of out of memory
+-- these replies begin with the out-of-memory reply
 abbrev pub SaysMemory : List ℕ → Type 0
 SaysMemory replies = (later : List ℕ) × (replies ≡ refused_text Memory ++ later)
 
--- two outputs are equal up to a byte from which one of them goes on with the answer of out of
--- memory
+-- two outputs are equal up to a byte from which one of them continues with the
+-- out-of-memory reply
 pub record DifferAtMemory (output other : List ℕ) : Type 0 where
   pub front : List ℕ
   pub rest : List ℕ
@@ -24,7 +24,7 @@ pub record DifferAtMemory (output other : List ℕ) : Type 0 where
   pub other_is : other ≡ front ++ other_rest
   pub wants : SaysMemory rest ⊎ SaysMemory other_rest
 
--- two outputs of one input are equal, or equal up to a byte from which one goes on with the answer
--- of out of memory
+-- two outputs of one input are equal, or equal up to a byte from which one continues with the
+-- out-of-memory reply
 abbrev pub OneOutput : Type 0
 OneOutput = (input output other : List ℕ) → Session input output → Session input other → (output ≡ other) ⊎ DifferAtMemory output other

@@ -8,8 +8,8 @@ pub fn one_answer()
     ensures { OneAnswer }
 {}
 
-/// Two outputs of one script are equal, or equal up to a byte from which one goes on with the
-/// answer of out of memory.
+/// Two outputs of one script are equal, or equal up to a byte from which one continues with the
+/// out-of-memory reply.
 pub fn one_output()
     ensures { OneOutput }
 {}

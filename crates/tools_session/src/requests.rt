@@ -47,7 +47,7 @@ pub enum Request {
     Report,
     /// To show which blocks the last accepted edit rebuilt.
     Rebuilt,
-    /// The line is no request.
+    /// The line is not a request.
     Unknown,
 }
 

@@ -1,5 +1,5 @@
-//! What is said of a whole source before any of it is compiled: its preface, the lines and texts of
-//! its blocks, and why it is refused; and a database of its blocks.
+//! What is known about a whole source before any of it is compiled: its preface, the lines and
+//! texts of its blocks, and why it is refused; and a database of its blocks.
 //!
 //! - `source_error`: why a source is refused
 //! - `checking`: whether a source is refused, and the line of its first block

@@ -1,4 +1,4 @@
--- What the calls of `tput` answer (own).
+-- What the calls of `tput` return (own).
 use Rattle.std.specs.Prelude.{ℕ, List, Some, None, Result, Ok, Err, ℤ}
 use Rattle.tools_devices.specs.declared.tool_error.ToolError.{ToolError}
 use Rattle.tools_devices.specs.declared.tool_error.ToolError.TheVariants.{Usage, Memory}

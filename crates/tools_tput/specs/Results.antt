@@ -1,4 +1,4 @@
--- What `tput` answers to a command (tput(1)): bytes, exit status and static variables.
+-- The result of a `tput` command (tput(1)): bytes, exit status and static variables.
 use Rattle.std.specs.Prelude.{◌≡◌, ℕ, ◌<◌, ◌≤◌, ◌||◌, ◌==◌, Bool, true, false, if◌then◌else◌, Option, Some, None, is_some, ℤ}
 use Rattle.std.specs.Prelude.{List, [], ◌∷◌, ◌++◌, length, codes, bytes_eq}
 use Rattle.std.specs.Fmt.{decimal}
@@ -137,7 +137,7 @@ pub data AnswersName (entry : Entry) (rate : ℕ) (cap : List ℕ) (words : List
       AnswersCapability (line_at_rate entry rate) cap words statics entry.contents (capability_named cap) answer
       → AnswersName entry rate cap words statics answer
 
--- What a command answers; None is bad usage: no word, or more than nine parameters.
+-- What a command returns; None is bad usage: no word, or more than nine parameters.
 pub data Answers (entry : Entry) (rate : ℕ) (statics : List ℤ) : List (List ℕ) → Option Reply → Type 0 where
   no_word : Answers entry rate statics [] None
   too_many : {cap : List ℕ} {words : List (List ℕ)} → parameters_max < length words → Answers entry rate statics (cap ∷ words) None

@@ -1,4 +1,4 @@
--- What `tput -S` answers to the lines of its input (tput(1); the count of bad lines and the status
+-- What `tput -S` prints for the lines of its input (tput(1); the count of bad lines and the status
 -- are own).
 use Rattle.std.specs.Prelude.{◌≡◌, ℕ, zero, suc, ◌+◌, ◌==◌, nat_lt, min, Bool, if◌then◌else◌, Option, Some, None, ℤ}
 use Rattle.std.specs.Prelude.{List, [], ◌∷◌, ◌++◌, length, filter}

@@ -1,6 +1,6 @@
 //! The command `tput`: the bytes that drive a terminal, from a compiled entry, as tput(1) has it.
 //!
-//! - `commands`: what one command is answered; `replies` makes its bytes and status, of what
+//! - `commands`: the result of one command; `replies` makes its bytes and status, of what
 //!   `entries` finds in the entry and of the words, which `parameters` reads as numbers and texts
 //! - `streaming`: commands read line by line; `terminal` takes them, and `words` splits a line
 //! - `laws`: each command has one answer, and a bad one changes nothing

@@ -14,13 +14,14 @@ use tools_devices::{Counted, ToolError, answer_lines};
 // The greatest length of a line, without its newline.
 const LINE_MAX: usize = 4096;
 
-/// Reads commands to the end of an input, one per line, writes the output of each, and answers the
+/// Reads commands to the end of an input, one per line, writes the output of each, and returns the
 /// exit status: 0 if no line was bad, else 4 and the number of bad lines, at most 255.
 ///
 /// A line is split at spaces and tabs into a capability's name and its parameters, which are those
 /// of [`crate::tput`]. A line without words is skipped. One set of static variables serves all
-/// lines. A line that `tput` would refuse, or answer with status 4, is bad: it writes nothing, and
-/// leaves the variables as they were. The call holds one line, and never the whole input.
+/// lines. A line that `tput` would refuse, or for which it would exit with status 4, is bad: it
+/// writes nothing, and leaves the variables as they were. The call holds one line, and never the
+/// whole input.
 ///
 /// # Errors
 /// `ReadFault` if the reader fails, and after 4,294,967,296 reads; `WriteFault` if the writer

@@ -99,7 +99,7 @@ extended_faults_after blocks at (text ∷ texts) (state ∷ states) =
 abbrev pub extended_faults : List (List ℕ) → List EntryState → List ExtendedSourceFault
 extended_faults texts states = extended_faults_after (readings texts) 0 texts states
 
--- ---- what a fault tells
+-- ---- what a fault says
 
 -- the position of its block
 abbrev pub block_of : ExtendedSourceFault → ℕ

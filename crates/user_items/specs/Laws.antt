@@ -42,7 +42,7 @@ warning_of fault (Some name) =
 abbrev pub user_warning : ReadFault → List NamedPlace
 user_warning fault = warning_of fault fault.detail
 
--- whether an item defines its name, and is no use
+-- whether an item defines its name, and is not a use
 abbrev pub defines : UserVerdict → Bool
 defines (user_accepted (imports name)) = false
 defines _ = true

@@ -17,7 +17,7 @@ named_item name (content_number n) = name ++ ascii.number_sign ∷ decimal n
 named_item name (content_text t) = name ++ ascii.equals ∷ spelling_of t
 named_item name content_cancelled = name ++ ascii.at_sign ∷ []
 
--- the item of a name, none if nothing is said of it
+-- the item of a name, none if nothing is said about it
 abbrev pub item_if_said : List ℕ → Option Content → List (List ℕ)
 item_if_said name None = []
 item_if_said name (Some content) = named_item name content ∷ []

@@ -11,8 +11,8 @@ use ti_list::{Layout, ListError};
 
 /// The source of an entry that uses others, by their first names, as infocmp(1)'s `-u` prints it at
 /// `-x`: laid out as a listing, with the items whose values are not those of the first of the
-/// others that has the capability or the name, and cancels of what only others have. Then comes a
-/// line `use=` for each of the others, in order.
+/// others that has the capability or the name, and cancellations of those that only others have.
+/// Then comes a line `use=` for each of the others, in order.
 ///
 /// # Errors
 /// `NoOthers` if there are none; then `Memory`.

@@ -55,7 +55,7 @@ ListingsCompileByTheProfile =
 
 -- ---- relative source
 
--- what is said of a name, if something is
+-- what is said about a name, if something is
 abbrev pub said_if : List ℕ → Option Content → List UserSaid
 said_if name None = []
 said_if name (Some content) = says name content ∷ []

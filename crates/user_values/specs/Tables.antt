@@ -11,7 +11,7 @@ use Rattle.user_values.specs.Expansion.{UserMention, first_said, mentions_of, ex
 use Rattle.std.specs.Prelude.{option_and_then}
 use Rattle.user_values.specs.declared.table.UserTable.{UserTable}
 
--- what is said of each name
+-- what is said about each name
 abbrev pub Said : Type 0
 Said = List ℕ → Option Content
 

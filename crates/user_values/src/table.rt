@@ -11,7 +11,7 @@ use std::alloc::{AllocError, Global};
 use std::collections::BTreeMap;
 use ti_layout::Value;
 
-/// What is said of each of some user-defined names: a value, or that it is cancelled.
+/// What is said about each of some user-defined names: a value, or that it is cancelled.
 #[derive(Drop)]
 pub struct UserTable {
     entries: BTreeMap<Vec<u8>, Value>,
@@ -42,14 +42,14 @@ impl UserTable {
         }
     }
 
-    /// What is said of a name, if something is.
+    /// What is said about a name, if something is.
     pub fn get(&self, name: &[u8]) -> Option<&Value>
         ensures { option_map (λ value. content_of value.now) result ≡ said_at self.now name.now }
     {
         self.entries.get(name)
     }
 
-    /// Says this of a name, unless something is said of it already.
+    /// Says this of a name, unless something is said about it already.
     ///
     /// # Errors
     /// Out of memory.

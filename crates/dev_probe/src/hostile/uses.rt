@@ -120,7 +120,7 @@ impl Tally {
         }
     }
 
-    /// A line of what was read and refused, and one of what was made.
+    /// A line about what was read and refused, and one about what was made.
     pub fn write_to(&self, out: &mut impl Write, what: &str) -> io::Result<()> {
         writeln!(
             out,

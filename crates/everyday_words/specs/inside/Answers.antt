@@ -1,4 +1,4 @@
--- What reading the matches of a tool answers (own).
+-- What reading the matches of a tool returns (own).
 use Rattle.std.specs.Prelude.{◌≡◌, ◌⊎◌, ⊤, Ok, Err, Result, MatchResult}
 use Rattle.everyday_words.specs.Arguments.{Asked, SaysWrong}
 use Rattle.everyday_words.specs.Requests.{wanted_of}

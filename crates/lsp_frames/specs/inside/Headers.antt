@@ -8,7 +8,7 @@ use Rattle.lsp_frames.specs.Frames.{GivesLength, IsHeaderLine, IsLengthLine, hea
 abbrev pub FirstLength : List (List ℕ) → Option (List ℕ) → Type 0
 FirstLength lines value = MatchOption value (All (λ line. ¬ IsLengthLine line) lines) (GivesLength lines)
 
--- there is no value, or it is no number
+-- there is no value, or it is not a number
 abbrev pub IsNoNumber : Option (List ℕ) → Type 0
 IsNoNumber value = MatchOption value (Unit {0}) (λ bytes. number_of bytes ≡ None)
 

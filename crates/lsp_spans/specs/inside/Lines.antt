@@ -14,7 +14,7 @@ pub record IsLineAt (block : List ℕ) (start end : ℕ) : Type 0 where
   pub line : (lines : List (List PlacedByte)) → AreLines (bytes_at end (drop end block)) lines
       → AreLines (bytes_at start (drop start block)) (range_at block start end ∷ lines)
 
--- these are the bytes of the lines of a block that are no comments
+-- these are the bytes of the lines of a block that are not comments
 pub record KeepsLines (block : List ℕ) (text : List PlacedByte) : Type 0 where
   pub lines : List (List PlacedByte)
   pub are_lines : AreLines (bytes_at 0 block) lines

@@ -5,7 +5,7 @@ use Rattle.std.specs.List.{slice_index_or}
 use Rattle.ti_source.specs.Folding.{PlacedByte}
 use Rattle.ti_source.specs.Items.{AreItems}
 
--- an item goes on by so many bytes at the front of a text, which is just after the byte `before`
+-- an item continues for so many bytes at the front of a text, which is just after the byte `before`
 abbrev pub GoesOn : List PlacedByte → ℕ → ℕ → Type 0
 GoesOn text before size =
     (d : PlacedByte) (item : List PlacedByte) (items : List (List PlacedByte)) → AreItems (slice_index_or text (size - 1) d).0 (drop size text) (item ∷ items)

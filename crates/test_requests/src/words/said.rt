@@ -1,4 +1,4 @@
-//! What is said of words that ask for nothing.
+//! What is reported about words that ask for nothing.
 use super::refusal;
 use everyday_words::{Tool, VERSION};
 use std::test::Fail;

@@ -1,4 +1,4 @@
--- What is said in an item of what an entry has of a capability (own).
+-- What an item says about a capability of an entry (own).
 use Rattle.std.specs.Prelude.{◌<◌, length}
 use Rattle.ti_caps.specs.Tables.{Capability}
 use Rattle.ti_source.specs.Reading.{Said, said_flag, said_number, said_text, said_cancel}

@@ -1,4 +1,4 @@
--- What reading the matches of a tool answers (own).
+-- What reading the matches of a tool returns (own).
 use Rattle.std.specs.Prelude.{◌≡◌, ◌⊎◌, ⊤, Ok, Err, Result, MatchResult, String}
 use Rattle.std.specs.String.{string_bytes}
 use Rattle.std.specs.declared.alloc.Global.{Global}

@@ -1,4 +1,4 @@
--- What `tput` answers to a command, computed (own).
+-- The result of a `tput` command, computed (own).
 use Rattle.std.specs.Prelude.{ℕ, nat_lt, if◌then◌else◌, Option, Some, None, ℤ}
 use Rattle.std.specs.Prelude.{List, [], ◌∷◌, length, codes, bytes_eq}
 use Rattle.ti_text.specs.Lists.{both_lists}
@@ -71,7 +71,7 @@ named_reply entry rate cap words statics =
     else if bytes_eq cap (codes "reset") then sent_reply (padded_texts (line_at_rate entry rate) (reset_strings entry)) statics statics
     else capability_reply (line_at_rate entry rate) cap words statics entry.contents (capability_named cap)
 
--- What a command answers; None is bad usage: no word, or more than nine parameters.
+-- What a command returns; None is bad usage: no word, or more than nine parameters.
 unfoldable pub tput_result : Entry → List (List ℕ) → ℕ → List ℤ → Option Reply
 tput_result entry [] rate statics = None
 tput_result entry (cap ∷ words) rate statics =

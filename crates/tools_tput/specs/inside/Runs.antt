@@ -1,4 +1,4 @@
--- What `tput -S` answers to a line, computed (own).
+-- What `tput -S` prints for a line, computed (own).
 use Rattle.std.specs.Prelude.{ℕ, List, [], ◌∷◌}
 use Rattle.ti_layout.specs.View.{Entry}
 use Rattle.tools_tput.specs.Runs.{RunState, LineStep, reply_step, words_of}
