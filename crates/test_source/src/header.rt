@@ -2,7 +2,7 @@
 use std::alloc::{AllocError, Global};
 use std::rc::RcSlice;
 use std::test::Fail;
-use ti_source::{Code, is_lookup_name, lookup_names};
+use ti_source::{Code, is_lookup_name, lookup_names, names_field};
 
 // A names field, and its lookup names.
 #[rattlefmt::skip]
@@ -51,6 +51,26 @@ fn reads_headers(rt: HostRuntime) -> Result<(), Fail> {
 fn refuses_what_is_no_header(rt: HostRuntime) -> Result<(), Fail> {
     for field in NO_HEADERS.iter() {
         assert!(rt; lookup_names(rt.alloc(), field)?.is_none(), "{field:?}");
+    }
+    Ok(())
+}
+
+// Blocks, and their names fields.
+#[rattlefmt::skip]
+static FIELDS: [(&'static [u8], &'static [u8]); 6] = [
+    (b"dumb|80-column dumb tty,\n\tam,\n", b"dumb|80-column dumb tty"),
+    // A line that is continued, with a comment before it.
+    (b"x|the\n# no part\n  last,am,\n", b"x|thelast"),
+    (b"x y,\n", b"x y"),
+    (b",am,\n", b""),
+    (b"x|no comma\n", b"x|no comma"),
+    (b"x\\,y,am,\n", b"x\\"),
+];
+
+#[test]
+fn names_fields_are_read_alone(rt: HostRuntime) -> Result<(), Fail> {
+    for (block, field) in FIELDS.iter() {
+        assert!(rt; names_field(rt.alloc(), block)?.as_slice() == *field, "{block:?}");
     }
     Ok(())
 }

@@ -9,7 +9,7 @@
 //!   end of a text.
 //! - `folding`: a block without its comments and line breaks; `items`: the names field and the
 //!   items of a block, and what an item states; `verdicts`: what comes of that; `sharing`: strings
-//!   that blocks share; `parsing`: a block as it is read, with its faults.
+//!   that blocks share; `parsing`: a block as it is read, with its faults, or its names field alone.
 //! - `laws`: that each source has one cut, and each block one reading.
 //!
 //! The crate `ti_spelling` has the spelling of string values. What the layers above need of it is
@@ -36,7 +36,7 @@ pub use cutting::{blocks, is_block};
 pub use header::{is_lookup_name, lookup_names};
 pub use items::{Claim, RawItem, Statement, statement_of, strip};
 pub use numbers::{NumberError, read_number};
-pub use parsing::{Item, Local, Parsed, What, parse, parse_sharing};
+pub use parsing::{Item, Local, Parsed, What, names_field, parse, parse_sharing};
 pub use sharing::SharedTexts;
 pub use statements::ItemWalk;
 pub use ti_spelling::{UnescapeError, Unescaped, escape, unescape};

@@ -108,6 +108,18 @@ pub fn parse_sharing(
     Ok(parsed)
 }
 
+/// The names field of a block as [`parse`] gives it, without the reading of its items.
+///
+/// # Errors
+/// Out of memory.
+pub fn names_field(alloc: Global, block: &[u8]) -> Result<Vec<u8>, AllocError>
+    ensures { IfOk result (λ field. field.items ≡ (reading_of_text block.now).field) }
+{
+    let mut source = Folded::new(block);
+    let field = read_field(alloc, &mut source)?;
+    Ok(field)
+}
+
 // A fault of the names field, which is on the first line.
 fn header_fault(code: Code) -> Local
     ensures { fault_of result ≡ header_fault code }
