@@ -178,6 +178,17 @@ no_warnings (f ∷ fs) cs h = elim (cases_Bool (is_user_warning f)) [
       ∙ ap (λ xs. of_profile f ∷ xs) (no_warnings fs cs (sym (any_later f fs n) ∙ h))
 ]
 
+-- codes of which none is there replace as no codes do
+pub nothing_wrong : (fs : List SourceFault) (os : List ℕ) → replaced fs [] ≡ replaced fs (pairs os [])
+nothing_wrong [] os = refl
+nothing_wrong (f ∷ fs) [] = refl
+nothing_wrong (f ∷ fs) (o ∷ os) =
+    elim (is_user_warning f) as (λ b. cond b (in_place f None ++ replaced fs []) (of_profile f ∷ replaced fs [])
+    ≡ cond b (in_place f None ++ replaced fs (pairs os [])) (of_profile f ∷ replaced fs (None ∷ pairs os []))) [
+      | true ↦ ap (λ xs. in_place f None ++ xs) (nothing_wrong fs os)
+      | false ↦ ap (λ xs. of_profile f ∷ xs) (nothing_wrong fs (o ∷ os))
+    ]
+
 pub replaced-front : (fs gs : List SourceFault) (cs : List (Option UserCode)) → list_any is_user_warning fs ≡ false
     → replaced (fs ++ gs) cs ≡ map of_profile fs ++ replaced gs cs
 replaced-front [] gs cs h = refl

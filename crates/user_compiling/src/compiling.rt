@@ -18,7 +18,7 @@ use crate::rows::rows_of;
 use std::alloc::{AllocError, Global};
 use ti_base::Database;
 use ti_layout::{Table, WriteError};
-use ti_source::parse;
+use ti_source::names_field;
 use user_extension::{UserDefined, write};
 use user_values::{UserTable, ValuesError, user_values};
 
@@ -34,8 +34,10 @@ fn write_block(
     ensures { IfOk result (λ state. (mentions : List Mention) → IsTableOfMentions (contents table.now) mentions
         → state_seen state ≡ state_with (reading_of_text text.now) mentions (rows_seen rows.now)) }
 {
-    let parsed = parse(alloc, text)?;
-    match write(alloc, &parsed.field, table, rows) {
+    // A law, with no code: the names field of a sound block can be written.
+    ti_source::laws::each_is_well_read();
+    let field = names_field(alloc, text)?;
+    match write(alloc, &field, table, rows) {
         Ok(entry) => Ok(Compiled::Written(entry)),
         Err(WriteError::TooLarge) => Ok(Compiled::TooLarge),
         Err(WriteError::Memory) => Err(AllocError),

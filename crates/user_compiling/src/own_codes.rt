@@ -9,7 +9,8 @@ ghost use Rattle.ti_source.specs.Parsing.{reading_of_text};
 ghost use Rattle.ti_source.specs.Reading.{fault_of};
 ghost use Rattle.user_items.specs.Parsing.{user_reading_of_text};
 ghost use Rattle.user_items.specs.Reading.{user_fault_of};
-ghost use Rattle.user_compiling.specs.inside.Pairs.{code_here, pairs, warning_ordinals};
+ghost use Rattle.base_meaning.specs.Faults.{SourceFault};
+ghost use Rattle.user_compiling.specs.inside.Pairs.{code_here, pairs, replaced, warning_ordinals};
 
 use std::alloc::{AllocError, Global};
 use std::rc::RcSlice;
@@ -90,15 +91,21 @@ fn pair(
 }
 
 /// For each warning of a block that a name is unknown which is user-defined, what is wrong with the
-/// item that defines it, if something is.
+/// item that defines it, if something is. No code is given if nothing is wrong with any: the block
+/// is then not read by the profile again.
 ///
 /// # Errors
 /// Out of memory.
 pub(crate) fn own_codes(alloc: Global, text: &[u8]) -> Result<Vec<Option<UserCode>>, AllocError>
     requires { OneBlock text.now }
-    ensures { IfOk result (λ codes. codes.items ≡ pairs (warning_ordinals (reading_of_text text.now).faults) (user_reading_of_text text.now).faults) }
+    ensures { IfOk result (λ codes. (fs : List SourceFault)
+        → replaced fs codes.items ≡ replaced fs (pairs (warning_ordinals (reading_of_text text.now).faults) (user_reading_of_text text.now).faults)) }
 {
     let read = user_items(alloc, text)?;
+    if read.faults.is_empty() {
+        return Ok(Vec::new(alloc));
+    }
     let parsed = parse(alloc, text)?;
-    pair(alloc, &parsed.faults, &read.faults)
+    let codes = pair(alloc, &parsed.faults, &read.faults)?;
+    Ok(codes)
 }

@@ -8,7 +8,7 @@ use Rattle.user_compiling.proofs.Pairs.{no_warnings}
 use Rattle.user_compiling.proofs.block_faults.codes_of.Goals as goal
 
 pub returns-then-has_user_warning : goal.returns-then-has_user_warning
-returns-then-has_user_warning c = λ fs e. ap (replaced fs) c.in_ok-codes.ensures
+returns-then-has_user_warning c = λ fs e. c.in_ok-codes.ensures fs
 
 pub returns : goal.returns
 returns c = λ fs e.
