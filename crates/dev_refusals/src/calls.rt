@@ -17,8 +17,11 @@ const FAULTY: [&[u8]; 8] = [
     b"j,use=d,use=nobody,\n",
 ];
 
-// A database of blocks.
-fn database_of(alloc: Global, blocks: &[&[u8]]) -> Result<Database, Trouble> {
+/// A database of blocks.
+///
+/// # Errors
+/// `Memory`, or that a block was refused.
+pub fn database_of(alloc: Global, blocks: &[&[u8]]) -> Result<Database, Trouble> {
     let mut database = Database::new(alloc);
     for block in blocks {
         let end = database.len();

@@ -15,6 +15,7 @@ mod scenarios;
 mod scripts;
 mod strings;
 mod tools;
+mod user_defined;
 
 use dev_tried_edits::{Tried, Trouble};
 use scenarios::Scenario;

@@ -1,5 +1,5 @@
 //! The scenarios, and their names.
-use crate::{calls, entries, listings, scripts, strings, tools};
+use crate::{calls, entries, listings, scripts, strings, tools, user_defined};
 use dev_tried_edits::blocks::{circular_edits, insertions, moved_names, moves, owners, three};
 use dev_tried_edits::many::Many;
 use dev_tried_edits::{Tried, Trouble, edits, many, wholes};
@@ -35,6 +35,8 @@ pub enum Scenario {
     Tput,
     Lines,
     Session,
+    UserDefined,
+    UserDefinedListings,
     ManyAlone,
     ManyReplace,
     ManyInsert,
@@ -44,7 +46,7 @@ pub enum Scenario {
 
 impl Scenario {
     /// All of them, each with the word that names it.
-    pub const ALL: [(Scenario, &'static str); 32] = [
+    pub const ALL: [(Scenario, &'static str); 34] = [
         (Scenario::Three, "edits-of-three-blocks"),
         (Scenario::Circular, "edits-of-circular-uses"),
         (Scenario::Owners, "edits-of-owners"),
@@ -72,6 +74,8 @@ impl Scenario {
         (Scenario::Tput, "tput"),
         (Scenario::Lines, "tput-lines"),
         (Scenario::Session, "session"),
+        (Scenario::UserDefined, "user-defined"),
+        (Scenario::UserDefinedListings, "user-defined-listings"),
         (Scenario::ManyAlone, "many-blocks"),
         (Scenario::ManyReplace, "many-blocks-one-replaced"),
         (Scenario::ManyInsert, "many-blocks-one-inserted"),
@@ -112,6 +116,8 @@ impl Scenario {
             Scenario::Tput => tools::commands(alloc),
             Scenario::Lines => scripts::lines(alloc),
             Scenario::Session => scripts::session_script(alloc),
+            Scenario::UserDefined => user_defined::source(alloc),
+            Scenario::UserDefinedListings => user_defined::listings(alloc),
             Scenario::ManyAlone => many::edit(alloc, Many::None),
             Scenario::ManyReplace => many::edit(alloc, Many::Replace),
             Scenario::ManyInsert => many::edit(alloc, Many::Insert),
