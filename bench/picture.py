@@ -1,8 +1,8 @@
 #!/usr/bin/env python3
-"""README's table of speed as a picture.
+"""The first table of docs/PERFORMANCE.md as a picture.
 
     bench/picture.py --write    draws it into docs/speed.svg
-    bench/picture.py --check    fails unless docs/speed.svg is drawn from README's table as it is
+    bench/picture.py --check    fails unless docs/speed.svg is drawn from that table as it is
 """
 
 import os
@@ -26,16 +26,16 @@ def cells(line):
     return [cell.strip() for cell in line.strip("|").split("|")]
 
 
-def rows_of_readme():
-    """The rows of README's table of speed: the name of the work, and both ratios."""
-    section = text_of("README.md").split("\n## Speed\n")[1].split("\n## ")[0]
+def rows_at_a_glance():
+    """The rows of the table: the name of the work, and both ratios."""
+    section = text_of("docs", "PERFORMANCE.md").split("\n## At a glance\n")[1].split("\n## ")[0]
     head, _, *rows = [cells(line) for line in section.split("\n") if line.startswith("|")]
     at = [head.index(name) for name in RATIOS]
     return [(row[0], *(float(row[column]) for column in at)) for row in rows]
 
 
 def row(measure):
-    """A row of README's table."""
+    """A row of the table."""
     took, their_time = (f"{1000 * seconds:.{1 if seconds >= 0.01 else 2}f}" for seconds in measure.seconds)
     ratios = (measure.ratio(measure.seconds), measure.ratio(measure.instructions))
     return f"| {measure.name} | {took} | {their_time} | " + " | ".join(f"{ratio:.2f}" for ratio in ratios) + " |"
@@ -83,11 +83,11 @@ def main():
         print(__doc__, file=sys.stderr)
         return 2
     if sys.argv[1] == "--check":
-        if text_of("docs", "speed.svg") == drawn(rows_of_readme()):
+        if text_of("docs", "speed.svg") == drawn(rows_at_a_glance()):
             return 0
-        print("docs/speed.svg is not drawn from README's table: run bench/picture.py --write")
+        print("docs/speed.svg is not drawn from the first table of docs/PERFORMANCE.md: run bench/picture.py --write")
         return 1
-    draw(rows_of_readme())
+    draw(rows_at_a_glance())
     return 0
 
 

@@ -1,10 +1,10 @@
 #!/usr/bin/env python3
 """Speed, compared with ncurses's tools on the same work.
 
-    bench/run.py [PART..]      the parts named, or all but `readme`
+    bench/run.py [PART..]      the parts named, or all but `glance`
 
-readme    the rows of README's table alone, some three minutes
-entries   sources of many entries, compiled into files: 1,800 of 1.1 KB each that all say the same;
+glance    the rows of the first table of docs/PERFORMANCE.md alone, some three minutes
+entries   sources of many entries, compiled into files: 1,800 of 1.1 KB each with the same items;
           1,800 of which no two have a string in common; 1,800 of which 1,500 have a use; 2,000
           small ones; and 1,000 of which all but the first use one before them
 system    the entries of the system, as ncurses's infocmp lists them, compiled into files; and
@@ -19,7 +19,7 @@ rates     MB/s (10^6 bytes a second) of `ti tic -c` on one-block sources of 64 K
           1 MiB, and of ncurses's `tic -c` on the last: the best of several runs
 machine   what `dev_bench` prints of the libraries alone
 
-If each row of README's table was measured, that table is printed and docs/speed.svg is drawn anew.
+If each row of that table was measured, it is printed and docs/speed.svg is drawn anew.
 ncurses's own source is misc/terminfo.src of ncurses; the variable MASTER names the file, and
 without it what is about that source is left out.
 
@@ -74,7 +74,7 @@ def tic_work(room, name, source):
 
 def entries(room):
     for name, source in {
-        "`tic -o`, 1,800 entries that say the same": lambda: sources.large_entries(1800),
+        "`tic -o`, 1,800 entries with the same items": lambda: sources.large_entries(1800),
         "`tic -o`, 1,800 entries, no string twice": lambda: sources.differing_entries(1800),
         "`tic -o`, 1,800 entries, 1,500 with a use": lambda: sources.entries_with_uses(300, 1500),
         "`tic -o`, 2,000 small entries": lambda: sources.small_entries(2000),
@@ -169,20 +169,20 @@ def compare_all(works, room):
         compare(room, make())
 
 
-def readme(room):
-    """Compares the rows of README's table."""
+def glance(room):
+    """Compares the rows of the first table of docs/PERFORMANCE.md."""
     makers = dict((*entries(room), *system(room), *tools(room)))
-    for name, *_ in picture.rows_of_readme():
+    for name, *_ in picture.rows_at_a_glance():
         if name in makers:
             compare(room, makers[name]())
 
 
-def show_readme():
-    """If each row of README's table was measured, prints that table and draws its picture."""
-    taken = [MEASURED.get(name) for name, *_ in picture.rows_of_readme()]
+def show_glance():
+    """If each row of that table was measured, prints it and draws its picture."""
+    taken = [MEASURED.get(name) for name, *_ in picture.rows_at_a_glance()]
     if any(one is None or one.ratio(one.instructions) is None for one in taken):
         return
-    print(f"\nREADME's table, drawn into docs/speed.svg:\n\n{picture.HEAD}")
+    print(f"\nThe first table of docs/PERFORMANCE.md, drawn into docs/speed.svg:\n\n{picture.HEAD}")
     print("\n".join(picture.row(one) for one in taken))
     picture.draw([(one.name, one.ratio(one.seconds), one.ratio(one.instructions)) for one in taken])
 
@@ -253,16 +253,16 @@ def rates(room):
 PARTS = {
     "entries": lambda room: compare_all(entries, room), "system": lambda room: compare_all(system, room),
     "tools": lambda room: compare_all(tools, room), "edits": edits, "editor": editor, "rates": rates,
-    "machine": machine, "readme": readme,
+    "machine": machine, "glance": glance,
 }
 HEADS = {
-    "readme": TOOLS_HEAD, "entries": TOOLS_HEAD, "system": TOOLS_HEAD, "tools": TOOLS_HEAD,
+    "glance": TOOLS_HEAD, "entries": TOOLS_HEAD, "system": TOOLS_HEAD, "tools": TOOLS_HEAD,
     "edits": EDITS_HEAD, "editor": EDITOR_HEAD,
 }
 
 
 def main():
-    wanted, begun = sys.argv[1:] or [name for name in PARTS if name != "readme"], ""
+    wanted, begun = sys.argv[1:] or [name for name in PARTS if name != "glance"], ""
     for name in wanted:
         if name not in PARTS:
             print(f"no such part: {name}; the parts are {', '.join(PARTS)}")
@@ -276,7 +276,7 @@ def main():
                 print(("\n" if begun else "") + head, flush=True)
             begun = head
             PARTS[name](room)
-    show_readme()
+    show_glance()
     print("".join(f"\n{note}" for note in NOTES), end="\n" if NOTES else "")
     for fault in FAULTS:
         print(f"FAILED: {fault}")
