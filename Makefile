@@ -1,31 +1,32 @@
-# ti, the terminfo toolkit. `make help` prints what there is to make: the lines of this head that
-# begin with two signs.
+# ti, the terminfo toolkit. `make help` prints the targets: the lines of this head that begin with
+# two signs.
 #
 ##   make            builds the program (proving every crate that it depends on)
 ##   make help       prints this list
-##   make check      whether a change is in order, as far as no proof is needed
-##   make test       the merge gate and the black-box cases: what CI runs
-##   make cli        the black-box cases alone, on the built program
-##   make integration  the program with editors, and with programs in a terminal
-##   make package    whether pages, completions, install and packages are in order
-##   make hostile    malicious inputs of full size, and 20,000 made at random
-##   make wrong-bodies   the further wrong bodies, which the prover must refuse too
+##   make check      checks a change without proofs
+##   make test       runs every proof and test, as CI does
+##   make cli        runs only the black-box cases, on the built program
+##   make integration  runs the program with editors, and with programs in a terminal
+##   make package    checks pages, completions, install and packages
+##   make newcomers  runs the commands of the pages in a new system of Debian, as root
+##   make hostile    runs malicious inputs of full size, and 20,000 random ones
+##   make wrong-bodies   tries the further wrong bodies, which the prover must refuse too
 ##   make library    builds the C library: libti.a, libti.so.1 and ti.pc
 ##   make tinfo      builds the C library and libtinfo.so.6 over it, for programs that
 ##                   are built for ncurses's
 ##   make lsp        builds the language server, ti-lsp
 ##   make everyday   builds ti-everyday, the program of ti-tic, ti-infocmp and ti-tput
-##   make bench      times and counts the tools and ncurses's on the same work, and edits of lists
-##   make install    puts the program, its manual pages, README and docs, completions and
-##                   examples, and what Vim, Neovim and Emacs show of terminfo source, below
-##                   DESTDIR and PREFIX (which is /usr/local); with TOOLS=1 also ti-everyday,
-##                   with its links ti-tic, ti-infocmp and ti-tput; the C library, libtinfo.so.6 and the
-##                   language server too, if they are made
-##   make install-library   the C library alone, with its headers and page, into
+##   make bench      measures the tools and ncurses's on the same work, and edits of lists
+##   make install    installs the program, its manual pages, README and docs, completions and
+##                   examples, and the highlighting for Vim, Neovim and Emacs, below DESTDIR
+##                   and PREFIX (which is /usr/local); with TOOLS=1 also ti-everyday, with its
+##                   links ti-tic, ti-infocmp and ti-tput; the C library, libtinfo.so.6 and the
+##                   language server too, if they are built
+##   make install-library   installs only the C library, with its headers and page, into
 ##                   LIBDIR and INCLUDEDIR
-##   make install-python    the module for Python, into PYTHONDIR
-##   make install-tinfo     libtinfo.so.6 alone, into LIBDIR/ti, with ti-run and its page
-##   make uninstall  takes all of that away again
+##   make install-python    installs the module for Python, into PYTHONDIR
+##   make install-tinfo     installs only libtinfo.so.6, into LIBDIR/ti, with ti-run and its page
+##   make uninstall  removes all of these
 ##   make dist       makes ti-VERSION.tar.gz of the last commit, which builds
 ##   make deb        makes Debian packages of the built programs, in packages/
 ##   make wheel      makes the wheel of the module for Python, in packages/
@@ -81,7 +82,7 @@ TINFO_FILES = $(TINFODIR)/libtinfo.so.6 $(BINDIR)/ti-run $(MANDIR)/man1/ti-run.1
 PC_VALUES = -e 's|@PREFIX@|$(PREFIX)|' -e 's|@LIBDIR@|$(LIBDIR)|' -e 's|@INCLUDEDIR@|$(INCLUDEDIR)|'
 
 .PHONY: all help check test cli integration package hostile wrong-bodies library tinfo lsp
-.PHONY: everyday bench
+.PHONY: everyday bench newcomers
 .PHONY: install install-library install-python install-tinfo
 .PHONY: uninstall uninstall-library uninstall-python uninstall-tinfo
 .PHONY: dist deb wheel release reproduce
@@ -106,6 +107,9 @@ integration: all lsp everyday
 
 package: all everyday
 	python3 tests/package/run.py
+
+newcomers: all lsp tinfo everyday
+	python3 tests/newcomers/run.py
 
 hostile: all lsp
 	python3 build/build.py dev_probe

@@ -1,6 +1,7 @@
 """What the runners of tests share: where things are, what a case needs, and the closing line."""
 
 import os
+import re
 import shutil
 import sys
 
@@ -44,6 +45,12 @@ def commands_of(page, heading):
     """The commands of the first block of sh after a heading of a page, without their comments."""
     block = text_of(page).split(f"\n{heading}\n")[1].split("```sh\n")[1].split("```")[0]
     return [line.split("  #")[0].strip() for line in block.strip().split("\n")]
+
+
+def programs_of(page):
+    """The programs in C and Python of a page of Markdown that have a name there, `As NAME` after
+    them: the text and the name of each."""
+    return re.findall(r"^```(?:c|python)\n([^`]*)^```\n\nAs `([\w.]+)`", text_of(page), re.M)
 
 
 def is_missing(program, word):

@@ -42,9 +42,10 @@ from concurrent.futures import ThreadPoolExecutor
 HERE = os.path.dirname(os.path.abspath(__file__))
 sys.path.insert(0, os.path.dirname(HERE))
 from common import (  # noqa: E402
-    ENTRY_DIRECTORIES, PROGRAM, TOP, Skipped, Tally, commands_of, entry_file, files_below, text_of,
+    ENTRY_DIRECTORIES, PROGRAM, TOP, Skipped, Tally, entry_file, files_below, programs_of, text_of,
 )
 import library  # noqa: E402
+import transcript  # noqa: E402
 
 ARCHIVE = os.path.join(TOP, "crates", "ti_c", "out", "libti_c.a")
 INCLUDE = os.path.join(TOP, "include")
@@ -533,19 +534,22 @@ def check_commands(room):
         raise Skipped("pkg-config is not installed")
     if not entry_file("xterm-256color"):
         raise Skipped("the system has no entry of xterm-256color")
-    prefix, place = room.path("prefix"), room.path("commands")
+    prefix, place, page = room.path("prefix"), room.path("commands"), os.path.join(TOP, "docs", "LIBRARY.md")
     os.mkdir(place)
-    os.symlink(os.path.join(TOP, "examples"), os.path.join(place, "examples"))
+    for text, name in programs_of(page):
+        with open(os.path.join(place, name), "w", encoding="utf-8") as file:
+            file.write(text)
     words = ["make", "-s", "-C", TOP, f"PREFIX={prefix}", f"LIBRARY={room.directory}", "install-library"]
     status, said = run(words)
     faults = [said] if status else []
     environment = clean_environment(
         PKG_CONFIG_PATH=f"{prefix}/lib/pkgconfig", LD_LIBRARY_PATH=f"{prefix}/lib",
-        TERMINFO_DIRS=":".join(ENTRY_DIRECTORIES), TERM="xterm-256color",
+        TERMINFO_DIRS=":".join(ENTRY_DIRECTORIES), PYTHONPATH=os.path.join(TOP, "python"),
+        PYTHONDONTWRITEBYTECODE="1",
     )
-    for command in commands_of("docs/LIBRARY.md", "## Build"):
+    for command, shown in transcript.commands(page):
         status, said = run(["sh", "-c", command], cwd=place, env=environment)
-        if status or "\033[38;5;200m" not in said:
+        if status or said.rstrip("\n") != shown:
             faults.append(f"{command}: {status}, {said!r}")
     return faults
 

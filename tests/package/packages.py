@@ -12,7 +12,7 @@ import tempfile
 import zipfile
 
 from shared import (
-    EVERYDAY_TOOLS, HAS_LSP, INSTALLED_PAGES, TOP, Skipped, commands_of, files_below, install_command, need, output,
+    EVERYDAY_TOOLS, HAS_LSP, INSTALLED_PAGES, TOP, Skipped, files_below, install_command, need, output,
     text_of, ti,
 )
 
@@ -279,85 +279,6 @@ def check_deb():
         libraries = os.path.join(room, "libti1", "usr", "lib")
         shared = next(name for name in files_below(libraries) if name.endswith("libti.so.1"))
         yield from python_faults("python3-ti", modules, os.path.dirname(os.path.join(libraries, shared)))
-
-
-def check_deb_in_chroot():
-    """Whether the package installs, runs and goes away again in a system of its own."""
-    need("debootstrap")
-    need("dh")
-    if not HAS_LIBRARY or not HAS_LSP or not HAS_TINFO:
-        raise Skipped("not all is made: make lsp tinfo")
-    if os.geteuid() != 0:
-        raise Skipped("a chroot takes root's rights")
-    with tempfile.TemporaryDirectory(prefix="ti-package-") as room:
-        made, system = os.path.join(room, "made"), os.path.join(room, "system")
-        packages = [os.path.join(made, name) for name in make("deb", made)]
-        words = ["debootstrap", "--variant=minbase", "--include=python3", debian_release(), system]
-        if subprocess.run(words, stdout=subprocess.DEVNULL, stderr=subprocess.DEVNULL, check=False).returncode:
-            raise Skipped("debootstrap could make no system here")
-        yield from chroot_faults(system, packages)
-
-
-def debian_release():
-    """The name of this system's release of Debian."""
-    with open("/etc/os-release", encoding="utf-8") as file:
-        found = re.search(r"VERSION_CODENAME=(\w+)", file.read())
-    return found[1] if found else "stable"
-
-
-# a program in Python over the library, and one in C over libtinfo of the package
-LIBRARY_SCRIPT = """TERM=xterm python3 -B -c 'import ti; print(ti.Entry.find()["cup"](4, 9))' &&
-ti-run bash -c 'echo "bash runs"'"""
-LIBRARY_PRINTED = "b'\\x1b[5;10H'\nbash runs\n"
-
-
-def chroot_faults(system, packages):
-    """What is wrong with the packages in a system: installing, running, removing, purging."""
-    before = set(files_below(system))
-    room = os.path.join(system, "room")
-    os.makedirs(os.path.join(room, "packages"))
-    (package,) = (path for path in packages if os.path.basename(path).startswith("ti_"))
-    shutil.copy(package, os.path.join(room, "packages"))
-    shutil.copy(os.path.join(TOP, "examples", "dumb.ti"), room)
-
-    def run(script):
-        words = ["chroot", system, "sh", "-c", f"cd /room && {script}"]
-        return output(words, env={"PATH": "/usr/sbin:/usr/bin:/sbin:/bin"})
-
-    command = install_command("dpkg -i")
-    said = run(f"{command} >log 2>&1 || cat log")
-    if said:
-        yield f"{command}: {said!r}"
-    got = run(SCRIPT)
-    if got != PRINTED:
-        yield f"the installed program prints {got!r}"
-    yield from alternative_faults(run)
-    for path in packages:
-        shutil.copy(path, os.path.join(room, "packages"))
-    said = run("dpkg -i packages/*.deb >log 2>&1 || cat log")
-    if said:
-        yield f"the packages of the library: {said!r}"
-    got = run(LIBRARY_SCRIPT)
-    if got != LIBRARY_PRINTED:
-        yield f"the programs over the installed library print {got!r}"
-    for action in ("--remove", "--purge"):
-        run(f"dpkg {action} {' '.join(PACKAGES)}")
-    shutil.rmtree(room)
-    left = set(files_below(system)) - before
-    if left:
-        yield f"after a purge there are {sorted(left)[:5]}"
-
-
-def alternative_faults(run):
-    """What is wrong with the commands of COMPARED.md that put `ti-tput` in the place of tput."""
-    (command,) = commands_of("docs/COMPARED.md", "## In place of ncurses's tools")
-    said = run(f"{command} >log 2>&1 || cat log; /usr/local/bin/tput --version")
-    if said != f"ti-tput {version()}\n":
-        yield f"{command}: {said!r}"
-    command = re.search(r"`(update-alternatives --remove [^`]*)`", text_of("docs", "COMPARED.md"))[1]
-    said = run(f"{command}; ls /usr/local/bin")
-    if said:
-        yield f"{command}: {said!r}"
 
 
 def extension_faults(path, room):

@@ -13,7 +13,7 @@ bash, fish, zsh
 pages        the pages are clean under `mandoc -T lint`, and each says what a page is to say
 markdown     pages link to the pages that they name, links lead to files, lines keep to the width,
              words are plain, and the pictures of crates and of speed are those of crates.txt and of
-             README's table
+             docs/PERFORMANCE.md
 scripts      comments of scripts, of the header and of examples keep to the width, in plain words
 spelling     codespell knows the words of pages, scripts and doc comments, or words.txt has them
 grammar      the grammar of VS Code gives the scopes that are wanted, and shows no fault of spelling
@@ -25,8 +25,6 @@ install      what `make install` puts into a directory runs from there, and `mak
              takes all of it away
 version      help, pages, changes, the header and the extension have the version of VERSION
 deb          the Debian packages are the same each time, run unpacked, and please lintian
-deb-in-chroot
-             the packages install, run, are removed and purged in a system made by debootstrap
 release      the archives of a release are the same each time; install.sh installs what runs; the
              extension of Visual Studio Code has what it names, and the wheel's module runs
 tarball      `make dist` makes a tarball of every file of the commit
@@ -68,7 +66,6 @@ CHECKS = {
     "install": packages.check_install,
     "version": packages.check_version,
     "deb": packages.check_deb,
-    "deb-in-chroot": packages.check_deb_in_chroot,
     "release": packages.check_release,
     "tarball": building.check_tarball,
     "tarball-builds": building.check_tarball_builds,

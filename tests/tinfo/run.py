@@ -65,6 +65,8 @@ class Room:
         self.sanitized = os.path.join(directory, "sanitized")
         self.libraries = os.path.join(directory, "installed", "lib", "ti")
         self.ti_run = os.path.join(directory, "installed", "bin", "ti-run")
+        # what a program is started by with ncurses's library
+        self.plain = ""
         self.lock = threading.Lock()
 
     def make(self):

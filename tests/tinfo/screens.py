@@ -22,9 +22,9 @@ PROGRAMS = {
         "bash --norc --noprofile -i",
         ["echo hello", "Enter", "C-r", "hel", "C-a", "Right", "x", "M-f", "C-k", "Up", "C-l", "Enter", "exit", "Enter"],
     ),
-    "less": ("less lines.txt", ["G", "g", "/37", "Enter", "Up", "n", "PageDown", "Space", "q"]),
+    "less": ("less notes.txt", ["G", "g", "/37", "Enter", "Up", "n", "PageDown", "Space", "q"]),
     "vim": (
-        "vim -u NONE -i NONE -n -N lines.txt",
+        "vim -u NONE -i NONE -n -N notes.txt",
         [":set number hlsearch ruler", "Enter", "/line 9", "Enter", "dd", "itext ", "Escape", "C-f", "C-b", "p",
          ":q!", "Enter"],
     ),
@@ -41,9 +41,9 @@ PROGRAMS = {
         "fish --no-config -i",
         ["echo hello", "Enter", "Up", "C-a", "Right", "x", "C-k", "C-u", "ec", "C-e", "Enter", "C-l", "exit", "Enter"],
     ),
-    "more": ("more lines.txt", ["Space", "Enter", "Space", "=", "q"]),
+    "more": ("more notes.txt", ["Space", "Enter", "Space", "=", "q"]),
     "emacs": (
-        "emacs -Q -nw lines.txt",
+        "emacs -Q -nw notes.txt",
         ["C-n", "C-e", "M-b", "C-v", "M-<", "C-s", "line 9", "C-g", "C-x", "C-c"],
     ),
 }
@@ -57,12 +57,12 @@ TMUX_CONF = "set -g status-right ''\nset -g status-interval 0\nset -g default-te
 class Screen:
     """A program in a terminal, in a directory of its own."""
 
-    def __init__(self, command, term, ti_run):
+    def __init__(self, command, term, start):
         self.directory = tempfile.mkdtemp(prefix="ti-tinfo-")
         # directories of the same name, since programs show them
         here = os.path.join(self.directory, "here")
         os.mkdir(here)
-        for name, text in (("lines.txt", LINES), ("tmux.conf", TMUX_CONF)):
+        for name, text in (("notes.txt", LINES), ("tmux.conf", TMUX_CONF)):
             with open(os.path.join(here, name), "w", encoding="utf-8") as file:
                 file.write(text)
         variables = {
@@ -71,7 +71,7 @@ class Screen:
         }
         words = " ".join(f"{name}='{value}'" for name, value in variables.items())
         # a shell waits for the program, since tmux may not see that a pane's own process has ended
-        started = self.write("program.sh", f"echo $$ >{self.path('process')}\nexec env -i {words} {ti_run} {command}\n")
+        started = self.write("program.sh", f"echo $$ >{self.path('process')}\nexec env -i {words} {start} {command}\n")
         # what the program writes is recorded before it begins
         main = self.write("main.sh", f"read begin\nstty sane\nsh {started}\necho ended\nread end\n")
         self.tmux = ["tmux", "-S", self.path("outer"), "-f", "/dev/null"]
@@ -165,12 +165,12 @@ class Run:
     """A program that is run several times at once, first by ti-run and then with ncurses's library:
     the keys are pressed in all of them, and each key waits until the screens are alike."""
 
-    def __init__(self, name, term, room, quiet):
-        command, keys = PROGRAMS[name]
+    def __init__(self, name, command, term, room, quiet):
+        keys = PROGRAMS[name][1]
         self.shown, self.wrong, screens = [], None, []
         try:
-            for ti_run in (room.ti_run, "", ""):
-                screens.append(Screen(command, term, ti_run))
+            for start in (room.ti_run, room.plain, room.plain):
+                screens.append(Screen(command, term, start))
             self.libraries = [screen.libraries() for screen in screens]
             for key in ("at first", *keys):
                 if self.shown:
@@ -187,12 +187,13 @@ class Run:
                 screen.close()
 
 
-def compare(name, term, room):
-    """What is wrong with a program on a terminal, and whether its bytes were compared. They are if
-    those of each library are the same in all runs; more time is given if something differs."""
+def compare(name, term, room, command=None):
+    """What is wrong with a program on a terminal, started by its command or by another one, and
+    whether its bytes were compared. They are if those of each library are the same in all runs; more
+    time is given if something differs."""
     ours, theirs = set(), set()
     for quiet in (0.15, 0.6, 2):
-        ran = Run(name, term, room, quiet)
+        ran = Run(name, command or PROGRAMS[name][0], term, room, quiet)
         ours.add(ran.written[0])
         theirs.update(ran.written[1:])
         repeats = len(ours) == len(theirs) == 1
