@@ -1,5 +1,5 @@
 #!/bin/sh
-# Installs ti from the directory of its release, or takes it away again.
+# Installs ti from the directory of its release, or removes it.
 #
 #     ./install.sh                      below /usr/local
 #     PREFIX=/usr ./install.sh          below another directory
@@ -20,7 +20,7 @@ install)
         mkdir -p "$target/$(dirname "$link")"
         ln -sf "$(readlink "$link")" "$target/$link"
     done
-    # pkg-config is told where the library now is
+    # pkg-config has to find the library in its new place
     if [ -f lib/pkgconfig/ti.pc ]; then
         sed "s|=/usr|=${PREFIX:-/usr/local}|" lib/pkgconfig/ti.pc >"$target/lib/pkgconfig/ti.pc"
     fi

@@ -21,8 +21,8 @@ KINDS = [("bool", "TI_FLAG", "booleans"), ("num", "TI_NUMBER", "numbers"), ("str
 HEAD = """\
 /*
  * A constant for each capability, for ti_flag_at, ti_number_at and ti_string_at: TI_ and its name
- * in capitals, with a `_` where its letters first go over to or from capitals: TI_K_BEG is kBEG.
- * The comments have the name, and the variable of X/Open Curses.
+ * in capitals, with a `_` where its letters first change between lower and upper case, as TI_K_BEG
+ * for kBEG. The comments have the name, and the variable of X/Open Curses.
  *
  * Written by build/names.py.
  */

@@ -1,5 +1,5 @@
 #!/usr/bin/env python3
-"""Draws docs/editor.svg: Neovim's screen with a faulty source, and what `ti-lsp` tells of it.
+"""Draws docs/editor.svg: Neovim's screen with a source, and the errors and warnings of `ti-lsp`.
 
     docs/screen.py
 
@@ -37,8 +37,8 @@ mine|my terminal,
 """
 # how many faults it has
 FAULTS = 5
-# The faults are listed below the source, each with its whole message. The cursor goes to a faulty
-# item: what is told of its capability is shown, and the fixes are asked for, which is shown last.
+# The errors and warnings are listed below the source, each with its whole message. The cursor goes
+# to such an item: its hover information is shown, and last the fixes that are offered.
 SETTINGS = """
 vim.o.background, vim.o.ruler, vim.o.showcmd, vim.o.showmode, vim.o.laststatus = 'light', false, false, false, 0
 vim.o.fillchars, vim.o.number, vim.o.cmdheight = 'eob: ', true, 4

@@ -73,8 +73,8 @@ static uint32_t read_entry(int file, struct ti_entry **entry) {
 }
 
 /*
- * Opens a regular file for reading; -1 if there is none. What was opened is looked at, so that no
- * other file can take its place, and a pipe without a writer does not block.
+ * Opens a regular file for reading, or returns -1. The file is checked after it is opened, so that
+ * another one cannot replace it in between, and a pipe without a writer does not block.
  */
 static int open_regular(const char *path) {
     int file = open(path, O_RDONLY | O_CLOEXEC | O_NOCTTY | O_NONBLOCK);

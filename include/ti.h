@@ -3,14 +3,14 @@
  *
  * A program finds and reads the entry of its terminal (ti_open), looks up booleans, numbers and
  * strings (ti_capability, ti_flag, ti_number, ti_string), expands a string with its parameters
- * (ti_expand) and writes the bytes with their delays (ti_pad, ti_puts). ti_send does all of this
- * for one string. <ti_names.h> has a constant for each capability. See ti(3).
+ * (ti_expand) and writes the bytes with their delays (ti_pad, ti_puts). ti_send looks up, expands
+ * and writes one string. <ti_names.h> has a constant for each capability. See ti(3).
  *
  * The functions of the first part are written in Rattle and proved against their contracts, in
  * crates/ti_c of the sources; the definitions are in crates/ti_c/specs. Those of the last part,
  * "Files and output", are written in C on top of the first part, and are tested but not proved.
  *
- * Nothing checks the following, so callers must make sure of it:
+ * The library does not check the following, so callers must ensure it:
  *
  * - A pointer refers to a whole value and is not NULL. Next to a size of 0 it may be NULL: that is
  *   the empty text, no parameters, or no room.
@@ -34,8 +34,8 @@
 #include <string.h>
 
 /*
- * The version of this interface, as text and as a number that grows. The calls and structs that are
- * there, and the name of the shared library, change only with the major version.
+ * The version of this interface, as text and as a number that increases. Functions and structs, and
+ * the name of the shared library, change only with the major version.
  */
 #define TI_VERSION "1.0.0"
 #define TI_VERSION_MAJOR 1
@@ -66,7 +66,7 @@ struct ti_place {
     uint32_t index;
 };
 
-/* A place with this kind and index. The constants of <ti_names.h> are such, as TI_CUP. */
+/* A place with this kind and index, as the constants of <ti_names.h> are. */
 #ifdef __cplusplus
 #define TI_PLACE(kind, index) (ti_place{ kind, index })
 #else
@@ -137,10 +137,10 @@ uint32_t ti_entry_read(const uint8_t *bytes, size_t size, struct ti_entry *entry
 uint32_t ti_entry_new(const uint8_t *bytes, size_t size, struct ti_entry **entry);
 
 /*
- * The following functions read an entry from ti_entry_read, ti_entry_new or ti_open, or
+ * The following functions use an entry from ti_entry_read, ti_entry_new or ti_open, or
  * TI_ENTRY_EMPTY. A text that they store points into the entry's bytes, and is valid as long as
- * these are. An index is within the kind of the function, which cannot know what kind it was meant
- * for: ti_flag_at, ti_number_at and ti_string_at take a place, and look at its kind.
+ * these are. An index counts within the kind of the function; use ti_flag_at, ti_number_at and
+ * ti_string_at to have the kind of a capability checked.
  */
 
 /* Stores the names field, such as "xterm|xterm terminal emulator", without its NUL, in *text. */
@@ -197,7 +197,7 @@ struct ti_value {
  */
 uint32_t ti_extension_read(const struct ti_entry *entry, struct ti_extension *extension);
 
-/* Returns how many there are. */
+/* Returns the number of user-defined capabilities. */
 size_t ti_user_defined_count(const struct ti_extension *extension);
 
 /*
@@ -239,7 +239,7 @@ enum {
     TI_TOO_MUCH,    /* 0: more than 65,536 pad bytes */
     TI_BAD_NAME,    /* 0: not a valid name of a terminal */
     TI_ABSENT,      /* 0: the terminal does not have the string */
-    TI_NOT_TAKEN    /* the number of bytes that were taken; there were more */
+    TI_NOT_TAKEN    /* the number of bytes that were accepted; there were more */
 };
 struct ti_outcome {
     uint32_t status;
@@ -280,7 +280,7 @@ void ti_line(const struct ti_entry *entry, uint32_t rate, struct ti_line *line);
 struct ti_outcome ti_pad(const uint8_t *text, size_t size, uint32_t lines,
                          const struct ti_line *line, uint8_t *out, size_t room);
 
-/* A text cut at its first delay `$<..>`. */
+/* A text split at its first delay `$<..>`. */
 struct ti_delay {
     struct ti_text before; /* the bytes before the delay */
     struct ti_text after;  /* the bytes after it, which may have further delays */
@@ -289,7 +289,7 @@ struct ti_delay {
 #define TI_DELAY_EMPTY { TI_NOTHING, TI_NOTHING, 0 }
 
 /*
- * Cuts a text that affects `lines` lines of the screen at its first delay and stores the parts,
+ * Splits a text that affects `lines` lines of the screen at its first delay and stores the parts,
  * which point into the text, in *delay. The time is 0 unless the delay is mandatory, or the
  * terminal does not control the flow and the rate is at least `pad_from`; the pad byte does not
  * matter. Returns false and leaves *delay unchanged if the text has no delay.
@@ -329,15 +329,15 @@ struct ti_outcome ti_path(const uint8_t *dir, size_t dir_size, const uint8_t *na
 /*
  * Finds and reads the entry of a terminal: in the directories of ti_places, with the variables of
  * the environment; then in $HOME/.terminfo; then in those of ti_system_directories. The first
- * directory that has a file with this name decides; one that cannot be searched is skipped. If
+ * directory that has a file with this name counts; one that cannot be searched is skipped. If
  * `name` is NULL, TERM is used. Returns 0, and *entry must later be passed to ti_entry_free; or,
  * with *entry unchanged, what ti_entry_new returns, TI_NO_TERMINAL or TI_READ_FAILED. A file of
  * more than 65,536 bytes is refused, by its first 65,537 bytes or else as TI_COUNTS; anything but a
- * regular file as TI_READ_FAILED. The variables are trusted, so a setuid program must not call it.
+ * regular file as TI_READ_FAILED. The variables are trusted, so setuid programs must not call it.
  */
 uint32_t ti_open(const char *name, struct ti_entry **entry);
 
-/* Returns an English sentence for what ti_open or ti_extension_read returned; never NULL. */
+/* Returns an English sentence for a result of ti_open or ti_extension_read; never NULL. */
 const char *ti_strerror(uint32_t answer);
 
 /* Returns the version of the library at run time: TI_VERSION of its header. */
@@ -348,16 +348,18 @@ void ti_entry_free(struct ti_entry *entry);
 
 /*
  * Passes the bytes that ti_pad writes to `put`, one at a time, until that returns a negative
- * number. Returns TI_OK with the number of bytes passed; or what ti_pad returns, and none was.
+ * number. Returns TI_OK with the number of bytes passed; or what ti_pad returns, after passing
+ * none.
  */
 struct ti_outcome ti_puts(const uint8_t *text, size_t size, uint32_t lines,
                           const struct ti_line *line, int (*put)(int));
 
 /*
- * Where bytes go. `put` is passed a block of bytes and returns how many it took; if these are
- * fewer, nothing more is passed. If the line has no pad byte or its rate is 0, so that no pad bytes
- * pass the time, `wait` is called at each delay that is due: it sends on what `put` has kept, and
- * waits this many tenths of a millisecond. If it is NULL, nothing waits. Both get `context`.
+ * The functions of the caller that send bytes. `put` is passed a block of bytes and returns how
+ * many it accepted; if these are fewer, nothing more is passed. If the line has no pad byte or its
+ * rate is 0, `wait` is called at each delay that is due, in place of pad bytes: it should flush
+ * what `put` has buffered, and sleep for this many tenths of a millisecond. If it is NULL, delays
+ * are left out. Both are passed `context`.
  */
 struct ti_output {
     size_t (*put)(const uint8_t *bytes, size_t size, void *context);
@@ -366,32 +368,32 @@ struct ti_output {
 };
 
 /*
- * Passes on a text that affects `lines` lines of the screen, with its delays as pad bytes or waited
- * for. Returns TI_OK or TI_NOT_TAKEN with the number of bytes taken; or what ti_pad returns, and
- * none was passed.
+ * Sends a text that affects `lines` lines of the screen, with its delays as pad bytes or by `wait`.
+ * Returns TI_OK or TI_NOT_TAKEN with the number of bytes accepted; or what ti_pad returns, after
+ * passing none.
  */
 struct ti_outcome ti_write(const uint8_t *text, size_t size, uint32_t lines,
                            const struct ti_line *line, const struct ti_output *output);
 
 /*
- * Sends a string of the terminal, also a user-defined one, by its name: expands it with `count`
- * numbers and passes it to ti_write. A string that takes no parameter is not expanded if `count` is
- * 0: a `%` in it is a plain byte. Returns what ti_write returns; what ti_expand returns, or
- * TI_ABSENT, and nothing was passed. After all but TI_OK and TI_NOT_TAKEN *variables is unchanged.
+ * Sends a string of the terminal, which may be user-defined, by its name: expands it with `count`
+ * numbers and passes it to ti_write. A string without parameters is not expanded if `count` is 0: a
+ * `%` in it is a plain byte. Returns what ti_write returns; or what ti_expand returns or TI_ABSENT,
+ * after passing nothing. After all but TI_OK and TI_NOT_TAKEN *variables is unchanged.
  */
 struct ti_outcome ti_send(const struct ti_entry *entry, struct ti_variables *variables,
                           const struct ti_line *line, const char *name, const int32_t *numbers,
                           size_t count, uint32_t lines, const struct ti_output *output);
 
 /*
- * Returns the rate in bits per second of a speed of termios(3), such as the B9600 that cfgetospeed
+ * Returns the rate in bits per second of a speed of termios(3), such as B9600, which cfgetospeed
  * returns; 0 if it has none.
  */
 uint32_t ti_rate(uint32_t speed);
 
-/* ---- calls with strings of C */
+/* ---- for C strings */
 
-/* The bytes of a string of C, without its NUL. */
+/* The bytes of a C string, without its NUL. */
 static inline struct ti_text ti_text_of(const char *text) {
     struct ti_text given = { (const uint8_t *)text, strlen(text) };
     return given;
@@ -409,7 +411,7 @@ static inline struct ti_parameter ti_text_given(const uint8_t *bytes, size_t siz
     return given;
 }
 
-/* What the following return for a place of another kind. */
+/* The functions below return this for a place of another kind. */
 enum { TI_WRONG_KIND = -3 };
 
 /* The boolean at a place, as ti_flag returns it; TI_WRONG_KIND. */

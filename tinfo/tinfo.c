@@ -26,7 +26,7 @@
 #include <unistd.h>
 
 enum { OK = 0, ERR = -1 };
-/* What setupterm says of a terminal in *result, and tgetent as its answer. */
+/* What setupterm stores in *result, and tgetent returns. */
 enum { IS_FOUND = 1, IS_UNKNOWN = 0, IS_REFUSED = -1 };
 /* How long a name, an entry and ttytype may be. */
 enum { NAME_MAX_BYTES = 512, ENTRY_MAX = 65536, TTYTYPE_SIZE = 256 };
@@ -236,7 +236,7 @@ static struct ti_entry *entry_of_home(const char *home, struct ti_text name) {
     return fits ? entry_below(ti_text_of(dir), name) : NULL;
 }
 
-/* Finds the entry of a name, as ncurses(3x) says of TERMINFO and TERMINFO_DIRS. */
+/* Finds the entry of a name by TERMINFO and TERMINFO_DIRS, as ncurses(3x) describes. */
 static struct ti_entry *entry_named(const char *given) {
     /* of a program with more rights than its user the variables are not trusted */
     const char *dir = secure_getenv("TERMINFO"), *home = secure_getenv("HOME");
@@ -257,7 +257,7 @@ static short speed_of(int fd) {
 
 /* ---- setting a terminal up: setupterm(3x) */
 
-/* What a variable of the environment says of the size of the screen, or 0. */
+/* The size of the screen in a variable of the environment, or 0. */
 static int size_of_variable(const char *name) {
     const char *value = getenv(name);
     char *end = NULL;
@@ -371,7 +371,7 @@ static bool is_usable(void) {
     return moves && string_at(STR_clear);
 }
 
-/* What is said of the current terminal, which was found. */
+/* The result for the current terminal, which was found. */
 static int judge(int *result, const char *name) {
     if (cur_term->type.Booleans[BOOL_gn]) {
         if (is_usable()) return refuse(result, IS_FOUND, name, "terminal is not really generic.");
@@ -551,15 +551,15 @@ static const char *by_number(const char *format, int count) {
     return buffer.bytes;
 }
 
-/* The answer for what is no format: a text without parameters is meant as it is; else nothing. */
+/* The result for a malformed format: the text itself if it has no parameters; else nothing. */
 static char *answer_refused(struct buffer *buffer, const char *given, struct taken taken) {
     const char *meant = taken.by_number ? "" : given;
     return grow(buffer, strlen(meant) + 1) ? strcpy(buffer->bytes, meant) : NULL;
 }
 
 /*
- * Expands a format into a buffer that the next call uses again. NULL if memory is refused, and not
- * for what is no format, since programs do not look for it.
+ * Expands a format into a buffer that the next call uses again. NULL if memory is refused, but not
+ * for a malformed format, since programs do not check for it.
  */
 static char *expand(const char *given, struct taken taken, const struct ti_parameter *params) {
     static struct buffer buffer;
@@ -823,7 +823,7 @@ static void move_string(int from, int to) {
     strings[from] = NULL;
 }
 
-/* Gives the current terminal what only termcap has, of what terminfo says in other words. */
+/* Sets the termcap-only capabilities of the current terminal from those of terminfo. */
 static void set_obsolete(void) {
     TERMTYPE *type = &cur_term->type;
     char *left = string_at(STR_cub1), *newline = string_at(STR_nel);
@@ -846,8 +846,8 @@ static void set_termcap(void) {
 }
 
 /*
- * The buffer is not written to. A program that gives the same one again uses the terminal of the
- * call before no longer, so that it is given back.
+ * The buffer is not written to. A program that passes the same one again no longer uses the
+ * terminal of the call before, which is freed.
  */
 EXPORTED int tgetent(char *buffer, const char *name) {
     int answer = IS_REFUSED;

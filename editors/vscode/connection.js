@@ -4,7 +4,7 @@
 
 const { spawn } = require("child_process");
 
-// Errors of the protocol that a client answers with or is answered with.
+// An error of the protocol, in a response of either side.
 const METHOD_NOT_FOUND = -32601;
 
 // Cuts the bytes that come into messages.
@@ -56,13 +56,13 @@ class Connection {
             }
         });
         this.process.stderr.on("data", bytes => handlers.said && handlers.said(bytes.toString("utf8")));
-        // it is gone then, which is told by its end
+        // the process has ended then, which is reported by its exit
         this.process.stdin.on("error", () => {});
         this.process.on("error", fault => this.close(fault.code || fault.message));
         this.process.on("exit", (status, signal) => this.close(signal || `status ${status}`));
     }
 
-    // Asks; gives the answer, or throws the error that is answered.
+    // Sends a request; returns the result, or throws the error of the response.
     request(method, params) {
         if (this.isOver) return Promise.reject(new Error("the server is gone"));
         const id = ++this.lastId;
@@ -70,7 +70,7 @@ class Connection {
         return new Promise((answered, refused) => this.waiting.set(id, { answered, refused }));
     }
 
-    // Tells, without an answer.
+    // Sends a notification.
     notify(method, params) {
         if (!this.isOver) this.process.stdin.write(framed({ method, params }));
     }

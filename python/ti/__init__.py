@@ -230,8 +230,8 @@ class String(bytes):
         )
 
     def timed(self, lines: int = 1, rate: int = 0) -> Iterator[tuple[bytes, float]]:
-        """The bytes up to each delay, with the seconds that are due there, and the last bytes with
-        0.0: for whoever waits where no pad bytes pass the time."""
+        """The bytes up to each delay, with its seconds, and the last bytes with 0.0: for programs
+        that sleep where the terminal has no pad byte."""
         line, delay = self._line(rate), _Delay()
         kept = ctypes.create_string_buffer(bytes(self), max(len(self), 1))
         rest = _Text(ctypes.addressof(kept), len(self))
@@ -263,7 +263,7 @@ class Entry(Mapping[str, Value]):
     """
 
     def __init__(self, data: bytes):
-        """Reads a compiled entry. BadEntry says why the bytes are none."""
+        """Reads a compiled entry. Raises BadEntry with the reason if the bytes are not one."""
         handle = ctypes.POINTER(_Entry)()
         self._take(_ti.ti_entry_new(data, len(data), ctypes.byref(handle)), handle, "the entry")
 

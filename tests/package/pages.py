@@ -26,11 +26,21 @@ IDIOMS = re.compile(
     r"(?<!there\s)\b(?:is|are|was|were) no (?!longer\b|more\b|less\b)\w+|\b(?:tells|told|telling)\b"
     r"|\b(?:is|are|was|were|be|been) answered\b|\banswers (?:an?|the|it|each|every|by)\b|\bby means of\b"
     r"|\b(?:gives?|gave|given|giving) back\b|\bthe one\b[^.,;:|]{1,60}\bthe other\b(?!\s+\w)"
-    r"|\bso (?:is|are|does|do|has|have) (?:an?|the|what|its|it|each|every|one|they)\b".replace(" ", r"\s+"),
+    r"|\bso (?:is|are|does|do|has|have) (?:an?|the|what|its|it|each|every|one|they)\b"
+    r"|\b(?:that|which|it|they) (?:is|are) none\b|\b(?:is|are|be) had\b|\b(?:says?|said) of\b|\bof what\b"
+    r"|\btak(?:es?|en|ing) the place of\b|\btaken (?:for|as)\b|\bpassed over\b|\bcut down\b|\bsaid again\b"
+    r"|\btook no more\b|\bgoes on on\b|\bstays as it is\b|\bwhoever\b".replace(" ", r"\s+"),
     re.I,
 )
+# what every tool calls an error or a warning, but for the messages of ours, and the words of the promise
+FAULT = re.compile(r"(?<!read )(?<!write )\bfault(?:s|y)?\b(?! report)", re.I)
+# of this page the faults are those of the code
+OF_CODE = os.path.join("docs", "CONTRACTS.md")
 # what is read for these, apart from pages
-PLAIN = ("debian/control", "debian/ti.README.Debian", "include/ti.h", "include/ti.c", "python/ti/__init__.py")
+PLAIN = (
+    "debian/control", "debian/ti.README.Debian", "editors/vscode/README.md", "editors/vscode/package.json",
+    "include/ti.h", "include/ti_names.h", "include/ti.c", "python/ti/__init__.py",
+)
 # its rows quote the comments of definitions, and are written by docs/definitions.py
 GENERATED = os.path.join("docs", "DEFINITIONS.md")
 # files with comments, and how a line of a comment alone begins
@@ -106,8 +116,9 @@ def idiom_faults(path):
     text = text_of(path)
     if path.endswith(".md"):
         text = re.sub(r"^```.*?^```|`[^`]*`", lambda code: "\n" * code[0].count("\n"), text, flags=re.M | re.S)
-    for found in IDIOMS.finditer(text):
-        yield f"{path}:{text.count(chr(10), 0, found.start()) + 1}: the words {' '.join(found[0].split())}"
+    for words in (IDIOMS, FAULT) if path != OF_CODE else (IDIOMS,):
+        for found in words.finditer(text):
+            yield f"{path}:{text.count(chr(10), 0, found.start()) + 1}: the words {' '.join(found[0].split())}"
 
 
 def check_markdown():

@@ -1,4 +1,4 @@
-" Terminfo source: head lines, items, what strings are spelled of, and faults of their spelling.
+" Terminfo source: head lines, items, the parts of strings, and errors of their spelling.
 " The names of capabilities are not listed: the language server ti-lsp knows them.
 if exists('b:current_syntax')
   finish
@@ -43,7 +43,7 @@ syn match terminfoEscape /\\[Eenlrtbfsa^\\,:]/ contained
 syn match terminfoEscape /\\\%([0-3]\o\{,2}\|[4-7]\o\?\o\@!\)/ contained
 syn match terminfoEscape /%\@1<!\^[ -+\--~]/ contained
 
-" a code that is none, unless the line ends in it
+" an unknown code, unless the line ends in it
 syn match terminfoBadCode /%\%(\%('\\\?.\?\|{\d*\|[pPg]\|:\?[-+# ]*\d*\%(\.\d*\)\?\)$\)\@![^\\,]\?/ contained
 syn match terminfoCode /%\%(:[-+# ]*\|[# ]*\)\d*\%(\.\d*\)\?[doxXs]/ contained
 syn match terminfoCode "%[%clmAOi+*/&|=><!~^-]" contained
