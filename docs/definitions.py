@@ -21,23 +21,22 @@ from repository import TOP  # noqa: E402
 PAGE = os.path.join(TOP, "docs", "DEFINITIONS.md")
 HEAD = """# Definitions
 
-What the contracts of public calls cite, and what is needed to read it, as
-`docs/definitions.py` lists it from `crates/*/specs`: each definition's name, what it
-says, and the calls and laws whose contracts name it (none: another definition does).
-The definitions are under the section of the manual that they come from, or under "own"
-if this project chose. Definitions that only proofs use are not listed.
+The definitions in the contracts of public calls, and those that they use, as
+`docs/definitions.py` lists them from `crates/*/specs`: the name of each, its meaning,
+and the calls and laws whose contracts name it (none: another definition does). They are
+under the section of the manual that they come from, or under "own" if this project
+chose. Definitions that only proofs use are not listed.
 
-Most are cases, relations, sets or laws; of a relation a law shows that it is
-determined. Some compute, and go over a text as the code does. A law says what these
-give: `reading_of_text`, `block_items` (`one_reading`); `statement_of` (`one_reading`);
+Most are cases, relations, sets or laws; a law shows that a relation is determined. Some
+compute over a text as the code does, and a law states their result: `reading_of_text`, `block_items` (`one_reading`); `statement_of` (`one_reading`);
 `source_refusal` (`sources_have_one_refusal`); `column_offset`
 (`columns_have_one_offset`); `width` (`widths_are_utf16`); `position_of`
 (`places_are_measured`, `positions_are_inverse`); `line_start` (`lines_have_one_start`);
 `diagnostics_of` (`diagnostics_are_the_faults`); `decider_in` (`deciders_are_found`);
 `sources_from` (`sources_own_their_names`); `field_of`, `names_of`, `items_after`,
-`folded_of` (`parts_are_computed`, `one_folding_at`). No law of its own have
-`number_after`, `spot_from`, `line_of`, `indent`, `step_over`, `without_end`,
-`begins_with` and `is_open`, which are a few lines each.
+`folded_of` (`parts_are_computed`, `one_folding_at`). `number_after`, `spot_from`,
+`line_of`, `indent`, `step_over`, `without_end`, `begins_with` and `is_open`, which are
+a few lines each, have no law of their own.
 """
 MANUALS = ["X/Open Curses Issue 7", "terminfo(5)", "term(5)", "tic(1)", "infocmp(1)", "tput(1)", "printf(3)"]
 OWN = "Own"
