@@ -1,0 +1,5 @@
+pub mod Places
+pub mod Imports
+pub mod KeptExpansions
+pub mod Untouched
+pub mod Keeping
