@@ -114,8 +114,9 @@ class Room:
         os.makedirs(os.path.dirname(path), exist_ok=True)
         with open(path, "w", encoding="utf-8") as file:
             file.write(text)
-        for directory in (path, os.path.dirname(path)):
-            os.chown(directory, USER, USER)
+        while path != self.directory:
+            os.chown(path, USER, USER)
+            path = os.path.dirname(path)
 
     def run(self, command, before=(), **more):
         """Runs a command of sh in the system. Gives its status, and all that it wrote."""
