@@ -3,10 +3,7 @@ use everyday_directories::{Environment, SYSTEM_OUTPUT, named_output, unnamed_out
 use std::alloc::AllocError;
 
 // The environment of a user, with what TERMINFO and HOME are set to.
-fn environment(
-    terminfo: Option<&'static str>,
-    home: Option<&'static str>,
-) -> Environment<'static> {
+fn environment(terminfo: Option<&'static str>, home: Option<&'static str>) -> Environment<'static> {
     Environment {
         terminfo,
         home,

@@ -70,7 +70,10 @@ static FIELDS: [(&'static [u8], &'static [u8]); 6] = [
 #[test]
 fn names_fields_are_read_alone(rt: HostRuntime) -> Result<(), Fail> {
     for (block, field) in FIELDS.iter() {
-        assert!(rt; names_field(rt.alloc(), block)?.as_slice() == *field, "{block:?}");
+        assert!(rt;
+            names_field(rt.alloc(), block)?.as_slice() == *field,
+            "{block:?}"
+        );
     }
     Ok(())
 }
