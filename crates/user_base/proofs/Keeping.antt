@@ -5,11 +5,15 @@ use Rattle.std.proofs.lemmas.Option.{same_Some, none-some}
 use Rattle.ti_source.specs.Parsing.{reading_of_text}
 use Rattle.base_meaning.specs.Owner.{readings}
 use Rattle.base_meaning.specs.Expansion.{expansion as expansion_there}
+use Rattle.base_meaning.specs.Compiled.{EntryState}
 use Rattle.user_values.specs.declared.table.UserTable.{UserTable}
 use Rattle.user_values.specs.Expansion.{first_said, expansion}
 use Rattle.user_values.specs.Tables.{HasUserTable}
+use Rattle.user_compiling.specs.Rows.{AreRowsOf}
+use Rattle.user_compiling.specs.Entries.{IsStateOf, does_not_resolve, does_resolve, state_with}
+use Rattle.user_compiling.proofs.RowLists.{rows_are_determined}
 use Rattle.user_base.specs.Places.{position_before}
-use Rattle.user_base.specs.Kept.{KeptTablesStayRight}
+use Rattle.user_base.specs.Kept.{KeptTablesStayRight, KeptStatesStayRight, StatesAreDetermined}
 use Rattle.user_base.proofs.Untouched.{untouched}
 use Rattle.base_meaning.specs.Edits.{list_after}
 
@@ -27,7 +31,53 @@ table_stays : (texts next : List (List ℕ)) (text : List ℕ) (table : Option U
 table_stays texts next text None e h = e ∙ h
 table_stays texts next text (Some table) e h = (h.0, e ∙ h.1, h.2)
 
+state_stays : (texts next : List (List ℕ)) (text : List ℕ) (state : EntryState) → expansion next text ≡ expansion texts text
+    → expansion_there (readings next) (reading_of_text text) ≡ expansion_there (readings texts) (reading_of_text text)
+    → IsStateOf texts text state → IsStateOf next text state
+state_stays texts next text _ e f (does_not_resolve none) = does_not_resolve (f ∙ none)
+state_stays texts next text _ e f (does_resolve {state = state} h) = does_resolve (record {
+  mentions = h.mentions;
+  user_mentions = h.user_mentions;
+  rows = h.rows;
+  expands = f ∙ h.expands;
+  user_expands = e ∙ h.user_expands;
+  are_rows = h.are_rows;
+  is = h.is;
+})
+
 pub kept_tables : KeptTablesStayRight
 kept_tables = λ texts change tables at text table h are stands other e.
     let kept = untouched texts change at text h stands other in
     table_stays texts (list_after texts change) text table kept.user_mentions (are.each (position_before change at) text table kept.stood e)
+
+pub kept_states : KeptStatesStayRight
+kept_states = λ texts change states at text state h all stands other e.
+    let kept = untouched texts change at text h stands other in
+    state_stays texts (list_after texts change) text state kept.user_mentions kept.mentions
+    (zip_at (IsStateOf texts) texts states (position_before change at) text state all kept.stood e)
+
+-- ---- only one thing becomes of a block
+
+one_state : (texts : List (List ℕ)) (text : List ℕ) (s t : EntryState) → IsStateOf texts text s → IsStateOf texts text t → s ≡ t
+one_state texts text _ _ (does_not_resolve e) (does_not_resolve f) = refl
+one_state texts text _ _ (does_not_resolve e) (does_resolve {state = t} h) = absurd (none-some h.mentions (sym e ∙ h.expands))
+one_state texts text _ _ (does_resolve {state = s} g) (does_not_resolve f) = absurd (none-some g.mentions (sym f ∙ g.expands))
+one_state texts text _ _ (does_resolve {state = s} g) (does_resolve {state = t} h) =
+    let block = reading_of_text text in
+    let said = same_Some g.mentions h.mentions (sym g.expands ∙ h.expands) in
+    let user_said = same_Some g.user_mentions h.user_mentions (sym g.user_expands ∙ h.user_expands) in
+    let rows = rows_are_determined (first_said g.user_mentions) g.rows h.rows g.are_rows
+    (subst (λ ms. AreRowsOf (first_said ms) h.rows) (sym user_said) h.are_rows) in
+    g.is ∙ ap (λ ms. state_with block ms g.rows) said ∙ ap (state_with block h.mentions) rows ∙ sym h.is
+
+same_states : (texts xs : List (List ℕ)) (ss ts : List EntryState) → AllZip (IsStateOf texts) xs ss → AllZip (IsStateOf texts) xs ts → ss ≡ ts
+same_states texts [] [] [] all both = refl
+same_states texts [] [] (t ∷ ts) all both = absurd both
+same_states texts [] (s ∷ ss) ts all both = absurd all
+same_states texts (x ∷ xs) [] ts all both = absurd all
+same_states texts (x ∷ xs) (s ∷ ss) [] all both = absurd both
+same_states texts (x ∷ xs) (s ∷ ss) (t ∷ ts) all both =
+    rw (one_state texts x s t all.0 both.0, same_states texts xs ss ts all.1 both.1) refl
+
+pub determined_states : StatesAreDetermined
+determined_states = λ texts states others all both. same_states texts texts states others all both

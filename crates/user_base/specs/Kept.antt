@@ -1,10 +1,12 @@
 -- What was found out about a block stays right with each edit on which the block does not depend (own).
 use Rattle.std.specs.Prelude.{ℕ, ◌≡◌, List, Option, Some, slice_get}
+use Rattle.base_meaning.specs.Compiled.{EntryState}
 use Rattle.base_meaning.specs.Edits.{Change, IsInPlace, list_after}
 use Rattle.base_meaning.specs.Exchange.{exchange_of}
 use Rattle.base_meaning.specs.Dependents.{IsDependent}
 use Rattle.user_values.specs.declared.table.UserTable.{UserTable}
 use Rattle.user_values.specs.Tables.{AreUserTables, HasUserTable}
+use Rattle.user_compiling.specs.Entries.{AreStates, IsStateOf}
 use Rattle.user_base.specs.Places.{position_before}
 
 -- the table that such a block had is its table after the edit
@@ -14,3 +16,15 @@ KeptTablesStayRight =
     → IsInPlace texts change → AreUserTables texts tables → slice_get (list_after texts change) at ≡ Some text
     → ¬ (IsDependent (exchange_of texts change) at) → slice_get tables (position_before change at) ≡ Some table
     → HasUserTable (list_after texts change) text table
+
+-- what became of such a block becomes of it after the edit
+abbrev pub KeptStatesStayRight : Type 0
+KeptStatesStayRight =
+    (texts : List (List ℕ)) (change : Change) (states : List EntryState) (at : ℕ) (text : List ℕ) (state : EntryState)
+    → IsInPlace texts change → AreStates texts states → slice_get (list_after texts change) at ≡ Some text
+    → ¬ (IsDependent (exchange_of texts change) at) → slice_get states (position_before change at) ≡ Some state
+    → IsStateOf (list_after texts change) text state
+
+-- of a source only one thing becomes
+abbrev pub StatesAreDetermined : Type 0
+StatesAreDetermined = (texts : List (List ℕ)) (states others : List EntryState) → AreStates texts states → AreStates texts others → states ≡ others

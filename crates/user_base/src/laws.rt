@@ -1,5 +1,5 @@
 //! Laws of what edits leave. They compute nothing.
-ghost use Rattle.user_base.specs.Kept.{KeptTablesStayRight};
+ghost use Rattle.user_base.specs.Kept.{KeptStatesStayRight, KeptTablesStayRight, StatesAreDetermined};
 ghost use Rattle.user_base.specs.Untouched.{UntouchedBlocksSayTheSame};
 
 /// A block that does not depend on an edit stood in the source before, and says of user-defined
@@ -11,4 +11,14 @@ pub fn untouched_blocks_say_the_same()
 /// The table that `user_values` gave of such a block is that which it gives after the edit.
 pub fn kept_tables_stay_right()
     ensures { KeptTablesStayRight }
+{}
+
+/// What `compile` said to become of such a block becomes of it after the edit.
+pub fn kept_states_stay_right()
+    ensures { KeptStatesStayRight }
+{}
+
+/// Only one thing becomes of a source: what is kept of it is what `compile` gives of it afresh.
+pub fn states_are_determined()
+    ensures { StatesAreDetermined }
 {}
