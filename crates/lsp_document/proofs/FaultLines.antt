@@ -1,9 +1,11 @@
 -- The lines of the faults of a source.
-use Rattle.std.proofs.Common.{◌≡◌, ℕ, ◌+◌, ◌-◌, ◌<◌, ◌≤◌, All, List, [], ◌∷◌, ◌++◌, Option, None, Some, drop, get_or, length, map, refl, sym, ap, ap₂, subst, ◌∙◌, add-one, arith}
+use Rattle.std.proofs.Common.{◌≡◌, ◌==◌, ℕ, suc, ◌+◌, ◌-◌, ◌<◌, ◌≤◌, true, false, cond, All, List, [], ◌∷◌, ◌++◌, Option, None, Some, drop, get_or, length, map, slice_get}
+use Rattle.std.proofs.Common.{refl, sym, ap, ap₂, subst, ◌∙◌, add-one, arith}
 use Rattle.std.specs.List.{range_with_len}
 use Rattle.std.proofs.Math.Seq.{drop-cons}
-use Rattle.std.proofs.lemmas.List.{append_assoc, get_or-map, length-map}
+use Rattle.std.proofs.lemmas.List.{append-nil, append_assoc, drop_all, get_or-map, length-map}
 use Rattle.std.proofs.lemmas.List.FromFn.{get_or-map-range_with_len, length-map-range_with_len}
+use Rattle.std.proofs.lemmas.Option.{get_or_from_slice_get}
 use Rattle.base_meaning.specs.Faults.{SourceFault, fault_seen, faults}
 use Rattle.base_meaning.specs.Report.{lines_before, line_number}
 use Rattle.base_meaning.specs.Usable.{IsPlaced}
@@ -13,11 +15,15 @@ use Rattle.tools_sources.specs.Sources.{first_line, source_refusal}
 use Rattle.tools_sources.specs.declared.source_error.SourceError.{SourceError}
 use Rattle.lsp_spans.specs.Faulty.{Search}
 use Rattle.lsp_spans.specs.declared.parts.Part.{Part}
-use Rattle.lsp_document.specs.Diagnostics.{Shown, diagnostics_of, diagnostics_unless, fault_diagnostic, fault_diagnostics, fault_message, refusal_diagnostic}
+use Rattle.lsp_document.specs.Diagnostics.{Shown, diagnostics_of, diagnostics_unless, fault_diagnostics, fault_message, refusal_diagnostic}
 use Rattle.lsp_document.specs.Documents.{held}
-use Rattle.lsp_document.specs.Marking.{found_for, marked_for, text_at}
+use Rattle.lsp_document.specs.LineTexts.{line_of}
+use Rattle.lsp_document.specs.Marking.{found_for, marked, marked_for, marked_part, text_at}
+use Rattle.lsp_document.specs.Position.{position_of}
+use Rattle.lsp_document.specs.inside.Marked.{AreMarked, marked_diagnostic, marked_diagnostics, on_line, source_marks}
 use Rattle.lsp_document.proofs.HeldTexts.{held_taken}
 use Rattle.lsp_document.specs.declared.diagnostics.Problem.TheVariants as problem
+use Rattle.lsp_types.specs.declared.places.Range.{Range}
 
 -- what is read of the lines before each block
 pub start_read : (texts : List (List ℕ)) (starts : List ℕ) (n at start : ℕ) → starts ≡ map (lines_before texts) (range_with_len 0 n) → at < n
@@ -41,39 +47,81 @@ pub placed_item : (n : ℕ) (faults items : List Fault) (i : ℕ) (fault : Fault
 placed_item n faults items i fault same within is all =
     seen_item (IsPlaced n) items i fault within is (subst (λ (list : List Fault). All (IsPlaced n) (map fault_seen list)) (sym same) all)
 
--- what is left is the next fault and the rest
-next_fault : (faults : List Fault) (i : ℕ) (fault : Fault) → i < length faults → fault ≡ get_or faults i fault → drop i faults ≡ fault ∷ drop (i + 1) faults
-next_fault faults i fault within is = drop-cons faults i fault within ∙ rw (← is, add-one) refl
+-- ---- the diagnostics of faults for which marks are given
 
 -- the diagnostic of a fault by the lines before its block
-pub shown_fault : (texts : List (List ℕ)) (first before start : ℕ) (part : Option Part) (fault : SourceFault) (shown : Shown) → 1 ≤ first → 1 ≤ fault.line
-    → start ≡ lines_before texts fault.block → before ≡ first - 1 + start
-    → shown ≡ record {
-      range = marked_for (before + (fault.line - 1)) (text_at texts fault.block) (fault.line - 1) part;
-      problem = problem.Fault fault.code;
-      message = fault_message fault.code fault.detail;
-    }
-    → shown ≡ fault_diagnostic texts first part fault
-shown_fault texts first before start part fault shown one line is e seen =
-    let number : before + (fault.line - 1) ≡ line_number texts first fault - 1 = omega (arith, one, line, is, e) in
-    seen ∙ ap (λ (n : ℕ). record {
-      range = marked_for n (text_at texts fault.block) (fault.line - 1) part;
-      problem = problem.Fault fault.code;
-      message = fault_message fault.code fault.detail;
-    }) number
+pub shown_marked : (texts : List (List ℕ)) (first start number : ℕ) (mark range : Range) (fault : SourceFault) (shown : Shown) → 1 ≤ first → 1 ≤ fault.line
+    → start ≡ lines_before texts fault.block → number ≡ first - 1 + start + (fault.line - 1) → range ≡ on_line number mark
+    → shown ≡ record { range = range; problem = problem.Fault fault.code; message = fault_message fault.code fault.detail }
+    → shown ≡ marked_diagnostic texts first mark fault
+shown_marked texts first start number mark range fault shown one line is e there seen =
+    let same : number ≡ line_number texts first fault - 1 = omega (arith, one, line, is, e) in
+    seen ∙ ap (λ (r : Range). record { range = r; problem = problem.Fault fault.code; message = fault_message fault.code fault.detail })
+    (there ∙ ap (λ (n : ℕ). on_line n mark) same)
+
+-- what is left is the next and the rest
+next_of : {X : Type 0} (all : List X) (at : ℕ) (x : X) → at < length all → x ≡ get_or all at x → drop at all ≡ x ∷ drop (at + 1) all
+next_of all at x within is = drop-cons all at x within ∙ rw (← is, add-one) refl
 
 -- one more diagnostic
-pub one_more_shown : (texts : List (List ℕ)) (first : ℕ) (last next : Option (ℕ × Search)) (before : List Shown) (all : List Shown) (faults : List Fault)
-    (i : ℕ) (fault : Fault) (shown : Shown) → i < length faults → fault ≡ get_or faults i fault
-    → before ++ fault_diagnostics texts first last (map fault_seen (drop i faults)) ≡ all
-    → shown ≡ fault_diagnostic texts first (found_for texts last (fault_seen fault)).0 (fault_seen fault)
-    → next ≡ Some (fault.block, (found_for texts last (fault_seen fault)).1)
-    → (before ++ shown ∷ []) ++ fault_diagnostics texts first next (map fault_seen (drop (i + 1) faults)) ≡ all
-one_more_shown texts first last next before all faults i fault shown within is e seen after =
-    append_assoc before (shown ∷ []) (fault_diagnostics texts first next (map fault_seen (drop (i + 1) faults)))
-    ∙ ap₂ (λ (s : Shown) (n : Option (ℕ × Search)). before ++ s ∷ fault_diagnostics texts first n (map fault_seen (drop (i + 1) faults))) seen after
-    ∙ ap (λ (fs : List Fault). before ++ fault_diagnostics texts first last (map fault_seen fs)) (sym (next_fault faults i fault within is))
+pub one_more_shown : (texts : List (List ℕ)) (first : ℕ) (marks : List Range) (faults : List Fault) (at : ℕ) (mark : Range) (fault : Fault) (shown : Shown)
+    (before all : List Shown)
+    → at < length faults → fault ≡ get_or faults at fault → at < length marks → slice_get marks at ≡ Some mark
+    → shown ≡ marked_diagnostic texts first mark (fault_seen fault)
+    → before ++ marked_diagnostics texts first (drop at marks) (map fault_seen (drop at faults)) ≡ all
+    → (before ++ shown ∷ []) ++ marked_diagnostics texts first (drop (at + 1) marks) (map fault_seen (drop (at + 1) faults)) ≡ all
+one_more_shown texts first marks faults at mark fault shown before all within is there held seen e =
+    append_assoc before (shown ∷ []) (marked_diagnostics texts first (drop (at + 1) marks) (map fault_seen (drop (at + 1) faults)))
+    ∙ ap (λ (s : Shown). before ++ s ∷ marked_diagnostics texts first (drop (at + 1) marks) (map fault_seen (drop (at + 1) faults))) seen
+    ∙ ap₂ (λ (ms : List Range) (fs : List Fault). before ++ marked_diagnostics texts first ms (map fault_seen fs))
+    (sym (next_of marks at mark there (sym (get_or_from_slice_get marks at mark mark held)))) (sym (next_of faults at fault within is))
     ∙ e
+
+nothing : (texts : List (List ℕ)) (first : ℕ) (marks : List Range) → marked_diagnostics texts first marks [] ≡ []
+nothing texts first [] = refl
+nothing texts first (mark ∷ marks) = refl
+
+-- no fault is left
+pub all_shown : (texts : List (List ℕ)) (first : ℕ) (marks : List Range) (faults : List Fault) (at : ℕ) (before all : List Shown) → length faults ≤ at
+    → before ++ marked_diagnostics texts first (drop at marks) (map fault_seen (drop at faults)) ≡ all → before ≡ all
+all_shown texts first marks faults at before all past e =
+    sym (ap (λ (fs : List Fault). before ++ marked_diagnostics texts first (drop at marks) (map fault_seen fs)) (drop_all at faults past)
+    ∙ ap (λ (ss : List Shown). before ++ ss) (nothing texts first (drop at marks)) ∙ append-nil before)
+    ∙ e
+
+-- what is shown on a line is what is shown on the line of the number 0, put on it
+on_its_line : (number : ℕ) (text : List ℕ) (row : ℕ) (part : Option Part) → on_line number (marked_for 0 text row part) ≡ marked_for number text row part
+on_its_line number text row None = refl
+on_its_line number text row (Some part) =
+    elim ((position_of text part.start).line == row) as (λ b. on_line number (cond b (marked_part 0 text part) (marked 0 (line_of text row)))
+    ≡ cond b (marked_part number text part) (marked number (line_of text row))) [
+      | true ↦ refl
+      | false ↦ refl
+    ]
+
+marked_are_shown : (texts : List (List ℕ)) (first : ℕ) (last : Option (ℕ × Search)) (all : List SourceFault)
+    → marked_diagnostics texts first (source_marks texts last all) all ≡ fault_diagnostics texts first last all
+marked_are_shown texts first last [] = refl
+marked_are_shown texts first last (fault ∷ all) =
+    let found = found_for texts last fault in
+    ap₂ (λ (r : Range) (ss : List Shown). record { range = r; problem = problem.Fault fault.code; message = fault_message fault.code fault.detail } ∷ ss)
+    (on_its_line (line_number texts first fault - 1) (text_at texts fault.block) (fault.line - 1) found.0)
+    (marked_are_shown texts first (Some (fault.block, found.1)) all)
+
+-- the diagnostics of the faults of a source
+pub marked_shown : (texts : List (List ℕ)) (first : ℕ) (all : List SourceFault) (marks : List Range) → AreMarked texts all marks
+    → marked_diagnostics texts first marks all ≡ fault_diagnostics texts first None (faults (readings texts))
+marked_shown texts first all marks are =
+    ap (λ (ms : List Range). marked_diagnostics texts first ms all) are.marked ∙ marked_are_shown texts first None all
+    ∙ ap (fault_diagnostics texts first None) are.whole
+
+-- each has what is shown for it
+as_many : (texts : List (List ℕ)) (last : Option (ℕ × Search)) (all : List SourceFault) → length (source_marks texts last all) ≡ length all
+as_many texts last [] = refl
+as_many texts last (fault ∷ all) = ap suc (as_many texts (Some (fault.block, (found_for texts last fault).1)) all)
+
+pub as_many_marks : (texts : List (List ℕ)) (faults : List Fault) (marks : List Range) → AreMarked texts (map fault_seen faults) marks → length marks ≡ length faults
+as_many_marks texts faults marks are = ap length are.marked ∙ as_many texts None (map fault_seen faults) ∙ length-map faults fault_seen
 
 -- ---- the diagnostics of a source
 

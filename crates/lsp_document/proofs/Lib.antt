@@ -1,3 +1,4 @@
+pub mod BlockFaults
 pub mod Columns
 pub mod FaultLines
 pub mod Fitting
@@ -10,6 +11,7 @@ pub mod Onward
 pub mod PartsExchanged
 pub mod Places
 pub mod PublishedFaults
+pub mod SameFaults
 pub mod ShownDetails
 pub mod SmallExchanges
 pub mod TextLists

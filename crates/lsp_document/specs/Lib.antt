@@ -9,3 +9,4 @@ pub mod Exchanges
 pub mod Documents
 pub mod Advice
 pub mod Diagnostics
+pub mod inside

@@ -1,20 +1,23 @@
 //! The faults of a document, with their places.
-ghost use Rattle.std.specs.Prelude.{◌≡◌, ◌≤◌, ◌++◌, ◌∷◌, ◌-◌, ◌^◌, [], None, map, option_map, IfOk, OnOk};
+ghost use Rattle.std.specs.Prelude.{◌≡◌, ◌<◌, ◌≤◌, ◌+◌, ◌++◌, ◌∷◌, ◌-◌, ◌^◌, [], None, Some, length, map, option_map, slice_get, IfOk, OnOk};
 ghost use Rattle.std.specs.Rc.{rc_slice_items};
 ghost use Rattle.std.specs.String.{string_bytes};
 ghost use Rattle.base_meaning.specs.Faults.{fault_seen, faults};
 ghost use Rattle.base_meaning.specs.Owner.{readings};
+ghost use Rattle.base_meaning.specs.Usable.{IsLine};
 ghost use Rattle.base_meaning.specs.Report as report;
 ghost use Rattle.tools_sources.specs.Sources.{source_refusal};
 ghost use Rattle.lsp_document.specs.Diagnostics as spec;
 ghost use Rattle.lsp_document.specs.Diagnostics.{diagnostic_seen, diagnostics_of, fault_message};
 ghost use Rattle.lsp_document.specs.Documents.{held};
 ghost use Rattle.lsp_document.specs.LineTexts.{line_of};
+ghost use Rattle.lsp_document.specs.inside.Marked.{AreMarked, on_line};
 
 use crate::advice::{BLOCK_TOO_LONG, TOO_MANY_BLOCKS, advice};
+use crate::faults::MarkedFaults;
 use crate::lines::line_of;
-use crate::marking::{mark, marked};
-use lsp_types::{Range, Severity};
+use crate::marking::marked;
+use lsp_types::{Position, Range, Severity};
 use std::alloc::{AllocError, Global};
 use std::rc::RcSlice;
 use ti_base::{Database, Fault, write_detail};
@@ -138,25 +141,63 @@ fn diagnostic_of(alloc: Global, range: Range, fault: &Fault) -> Result<Diagnosti
     })
 }
 
+// What is shown on a line of that number.
+fn on_line(number: usize, mark: Range) -> Range
+    ensures { result ≡ on_line number mark }
+{
+    Range {
+        start: Position {
+            line: number,
+            column: mark.start.column,
+        },
+        end: Position {
+            line: number,
+            column: mark.end.column,
+        },
+    }
+}
+
+// What is shown at a place of a list.
+fn mark_at(marks: &[Range], at: usize) -> Range
+    requires { at < length marks.now }
+    ensures { slice_get marks.now at ≡ Some result }
+{
+    marks[at]
+}
+
+// The number of the line of a fault, counted from 0, if so many lines are before its block, and the
+// first block begins on the line `first`, counted from 1.
+fn number_of(first: usize, before: u64, fault: &Fault) -> usize
+    requires first { 1 ≤ first }
+    requires room { first ≤ 2 ^ 63 }
+    requires before { before ≤ 68719476736 }
+    requires line { IsLine fault.now.line }
+    ensures { result ≡ first - 1 + before + (fault.now.line - 1) }
+{
+    first - 1 + before as usize + (fault.line - 1)
+}
+
 // The diagnostics of all faults, if the first block begins on the line of that number, counted from
 // 1.
 fn fault_diagnostics(
     alloc: Global,
     database: &Database,
+    marked: &MarkedFaults,
     first: usize,
 ) -> Result<Vec<Diagnostic>, AllocError>
     requires first { 1 ≤ first }
     requires room { first ≤ 2 ^ 63 }
+    requires marked { AreMarked database.now (map fault_seen marked.now.faults.items) marked.now.marks.items }
     ensures { IfOk result (λ all. map diagnostic_seen all.items ≡ spec.fault_diagnostics database.now first None (faults (readings database.now))) }
 {
-    let faults = database.faults()?;
+    let faults = marked.faults.as_slice();
+    let marks = marked.marks.as_slice();
     let starts = database.line_starts()?;
     let mut all = Vec::with_capacity(alloc, faults.len())?;
-    let mut last = None;
-    for fault in &faults {
-        let before = first - 1 + starts[fault.block] as usize;
-        let (range, search) = mark(alloc, database, last, before, fault)?;
-        last = Some(search);
+    for at in 0..faults.len() {
+        let fault = &faults[at];
+        let number = number_of(first, starts[fault.block], fault);
+        let range = on_line(number, mark_at(marks, at));
         all.push(diagnostic_of(alloc, range, fault)?)?;
     }
     Ok(all)
@@ -206,20 +247,22 @@ fn alone(alloc: Global, diagnostic: Diagnostic) -> Result<Vec<Diagnostic>, Alloc
     Ok(all)
 }
 
-/// What is wrong with a source, whose blocks the database holds and which is refused for that cause,
-/// if it is.
+/// What is wrong with a source, whose blocks the database holds, with these faults, and which is
+/// refused for that cause, if it is.
 pub(crate) fn source_diagnostics(
     alloc: Global,
     text: &[u8],
     database: &Database,
+    marked: &MarkedFaults,
     refusal: Option<SourceError>,
 ) -> Result<Vec<Diagnostic>, AllocError>
     requires held { database.now ≡ held text.now }
+    requires marked { AreMarked database.now (map fault_seen marked.now.faults.items) marked.now.marks.items }
     requires refusal { refusal ≡ source_refusal text.now }
     ensures { IfOk result (λ all. map diagnostic_seen all.items ≡ diagnostics_of text.now) }
 {
     match refusal {
-        None => fault_diagnostics(alloc, database, first_line(text)),
+        None => fault_diagnostics(alloc, database, marked, first_line(text)),
         Some(error) => {
             let diagnostic = refusal_diagnostic(alloc, text, error)?;
             alone(alloc, diagnostic)

@@ -2,15 +2,18 @@
 ghost use Rattle.std.specs.Prelude.{◌≡◌, [], None, map, IfErr, IfOk, OnOk, OnErr};
 ghost use Rattle.ti_text.specs.Ascii as ascii;
 ghost use Rattle.ti_source.specs.Cutting.{last_byte};
+ghost use Rattle.base_meaning.specs.Faults.{fault_seen};
 ghost use Rattle.base_meaning.specs.declared.edits.EditError.TheVariants.{Memory};
 ghost use Rattle.tools_sources.specs.Sources.{AreTaken, source_refusal, source_texts};
 ghost use Rattle.lsp_document.specs.Documents.{HeldBlocksFit, held};
 ghost use Rattle.lsp_document.specs.Exchanges.{AtBack, AtFront, Exchanged};
 ghost use Rattle.lsp_document.specs.Diagnostics.{diagnostic_seen, diagnostics_of};
+ghost use Rattle.lsp_document.specs.inside.Marked.{AreMarked};
 
 use crate::cut::{common_back, common_front};
 use crate::diagnostics::{Diagnostic, source_diagnostics};
 use crate::exchanging::exchange;
+use crate::faults::{MarkedFaults, mark_faults};
 use crate::taking::refusal_of;
 use std::alloc::{AllocError, Global};
 use std::marker::Model;
@@ -28,20 +31,25 @@ pub struct Document {
     alloc: Global,
     text: Vec<u8>,
     database: Database,
+    // Its faults, and what is shown for each.
+    marked: MarkedFaults,
     // Why the source is refused, if it is.
     refusal: Option<SourceError>,
 }
 
 impl Model for Document {
-    ghost use Rattle.std.specs.Prelude.{◌≡◌, List, ℕ};
+    ghost use Rattle.std.specs.Prelude.{◌≡◌, List, ℕ, map};
+    ghost use Rattle.base_meaning.specs.Faults.{fault_seen};
     ghost use Rattle.tools_sources.specs.Sources.{source_refusal};
     ghost use Rattle.lsp_document.specs.Documents.{held};
+    ghost use Rattle.lsp_document.specs.inside.Marked.{AreMarked};
 
     ghost Value = { List ℕ };
 
     ghost view = { λ d. d.text.items };
 
-    ghost invariant = { λ d. (d.database ≡ held d.text.items) × (d.refusal ≡ source_refusal d.text.items) };
+    ghost invariant = { λ d. (d.database ≡ held d.text.items) × (d.refusal ≡ source_refusal d.text.items)
+        × AreMarked d.database (map fault_seen d.marked.faults.items) d.marked.marks.items };
 }
 
 // The texts of the blocks.
@@ -170,6 +178,26 @@ fn change_to_text(
     Ok(changed)
 }
 
+// Makes the blocks of a database those of a text, or none if the source is refused, and its faults
+// those of these blocks. The text stays as it is.
+fn change_with_faults(
+    alloc: Global,
+    database: &mut Database,
+    marked: &mut MarkedFaults,
+    text: &mut Vec<u8>,
+) -> Result<Changed, EditError>
+    ensures held { OnOk result (database.new ≡ held text.old.items) }
+    ensures marked { OnOk result (AreMarked (held text.old.items) (map fault_seen marked.new.faults.items) marked.new.marks.items) }
+    ensures text { OnOk result (text.new.items ≡ text.old.items) }
+    ensures refusal { IfOk result (λ changed. changed.refusal ≡ source_refusal text.old.items) }
+    ensures edits { IfOk result (λ changed. source_refusal text.old.items ≡ None → Exchanged database.old (source_texts text.old.items) changed.edits) }
+    ensures refused { IfErr result (λ error. error ≡ Memory) }
+{
+    let changed = change_to_text(alloc, database, text)?;
+    *marked = mark_faults(alloc, database, &mut marked.kept)?;
+    Ok(changed)
+}
+
 // That memory ran out, when there is no other cause.
 fn out_of_memory(error: EditError) -> AllocError
     requires { error ≡ Memory }
@@ -189,6 +217,7 @@ impl Document {
             alloc,
             text: Vec::new(alloc),
             database: Database::new(alloc),
+            marked: MarkedFaults::none(alloc),
             refusal: None,
         }
     }
@@ -216,7 +245,7 @@ impl Document {
         ensures lost { OnErr result (self.new ≡ []) }
     {
         let mut text = text;
-        match change_to_text(self.alloc, &mut self.database, &mut text) {
+        match change_with_faults(self.alloc, &mut self.database, &mut self.marked, &mut text) {
             Ok(changed) => {
                 self.text = text;
                 self.refusal = changed.refusal;
@@ -225,6 +254,7 @@ impl Document {
             Err(error) => {
                 self.text = Vec::new(self.alloc);
                 self.database = Database::new(self.alloc);
+                self.marked = MarkedFaults::none(self.alloc);
                 self.refusal = None;
                 Err(out_of_memory(error))
             }
@@ -253,7 +283,13 @@ impl Document {
     pub fn diagnostics(&self, alloc: Global) -> Result<Vec<Diagnostic>, AllocError>
         ensures { IfOk result (λ all. map diagnostic_seen all.items ≡ diagnostics_of self.now) }
     {
-        source_diagnostics(alloc, &self.text, &self.database, self.refusal)
+        source_diagnostics(
+            alloc,
+            &self.text,
+            &self.database,
+            &self.marked,
+            self.refusal,
+        )
     }
 }
 

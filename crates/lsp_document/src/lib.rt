@@ -5,7 +5,9 @@
 //! - `splicing`: a text with a part of it exchanged
 //! - `lines`: a line of a text, and laws of lines and columns
 //! - `walking`: the places of offsets, one after another
-//! - `marking`: what of a block is shown as faulty
+//! - `marking`: what of a block is shown as faulty for a fault
+//! - `kept`: what is shown for the faults of a block, kept while it and they stay the same
+//! - `faults`: the faults of a database, and what is shown for each
 //! - `cut`: what two lists of blocks have in common at their ends
 //! - `taking`: whether the blocks of a source are taken, once they are cut
 //! - `exchanging`: the edits that make the blocks of one text those of another
@@ -19,6 +21,8 @@ mod cut;
 mod diagnostics;
 mod document;
 mod exchanging;
+mod faults;
+mod kept;
 pub mod laws;
 mod lines;
 mod marking;

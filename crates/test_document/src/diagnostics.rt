@@ -72,9 +72,9 @@ const ROWS: [Row; 12] = [
     Row { line: 11, start: 3, end: 8, label: "E8", severity: Severity::Error, message: "Unresolved a: " },
 ];
 
-// Whether the diagnostics of a source are these.
-fn are_shown(alloc: Global, source: &[u8], rows: &[Row]) -> Result<bool, AllocError> {
-    let all = document_of(alloc, source)?.diagnostics(alloc)?;
+// Whether the diagnostics of a document are these.
+fn has_shown(alloc: Global, document: &Document, rows: &[Row]) -> Result<bool, AllocError> {
+    let all = document.diagnostics(alloc)?;
     Ok(
         all.len() == rows.len()
             && all
@@ -82,6 +82,11 @@ fn are_shown(alloc: Global, source: &[u8], rows: &[Row]) -> Result<bool, AllocEr
                 .zip(rows)
                 .all(|(shown, row)| is_shown(shown, row)),
     )
+}
+
+// Whether the diagnostics of a source are these.
+fn are_shown(alloc: Global, source: &[u8], rows: &[Row]) -> Result<bool, AllocError> {
+    has_shown(alloc, &document_of(alloc, source)?, rows)
 }
 
 #[test]
@@ -182,6 +187,55 @@ fn diagnostics_follow_the_text(rt: HostRuntime) -> Result<(), AllocError> {
     text.extend_from_slice(b"a,\n\tuse=b,\nb,\n")?;
     document.set(text)?;
     assert!(rt; document.diagnostics(rt.alloc())?.len() == 0);
+    Ok(())
+}
+
+// Texts one after another, and what is wrong with each: blocks stay, and their faults change or not.
+#[rattlefmt::skip]
+const TEXTS: [(&[u8], &[Row]); 8] = [
+    (b"a,am#1,\nb,cols#x, am,\nc,use=a,\n", &[
+        Row { line: 0, start: 2, end: 6, label: "W2", severity: Severity::Warning, message: "WrongKind am: " },
+        Row { line: 1, start: 2, end: 8, label: "E3", severity: Severity::Error, message: "BadNumber cols: " },
+    ]),
+    // Another text of a block, as long and with the same faults.
+    (b"a,am#1,\nb,am, cols#x,\nc,use=a,\n", &[
+        Row { line: 0, start: 2, end: 6, label: "W2", severity: Severity::Warning, message: "WrongKind am: " },
+        Row { line: 1, start: 6, end: 12, label: "E3", severity: Severity::Error, message: "BadNumber cols: " },
+    ]),
+    // A fault of a block that stays.
+    (b"z,am#1,\nb,am, cols#x,\nc,use=a,\n", &[
+        Row { line: 0, start: 2, end: 6, label: "W2", severity: Severity::Warning, message: "WrongKind am: " },
+        Row { line: 1, start: 6, end: 12, label: "E3", severity: Severity::Error, message: "BadNumber cols: " },
+        Row { line: 2, start: 2, end: 7, label: "E6", severity: Severity::Error, message: "MissingUse a: " },
+    ]),
+    // Lines and a block before those that stay.
+    (b"# p\nq,foo,\nz,am#1,\nb,am, cols#x,\nc,use=a,\n", &[
+        Row { line: 1, start: 2, end: 5, label: "W1", severity: Severity::Warning, message: "UnknownCapability foo: " },
+        Row { line: 2, start: 2, end: 6, label: "W2", severity: Severity::Warning, message: "WrongKind am: " },
+        Row { line: 3, start: 6, end: 12, label: "E3", severity: Severity::Error, message: "BadNumber cols: " },
+        Row { line: 4, start: 2, end: 7, label: "E6", severity: Severity::Error, message: "MissingUse a: " },
+    ]),
+    // Fewer blocks.
+    (b"c,use=a,\n", &[
+        Row { line: 0, start: 2, end: 7, label: "E6", severity: Severity::Error, message: "MissingUse a: " },
+    ]),
+    // Another detail of a fault of a block that stays.
+    (b"a,am,\nc,use=a,use=b,\n", &[
+        Row { line: 1, start: 8, end: 13, label: "E6", severity: Severity::Error, message: "MissingUse b: " },
+    ]),
+    (b"b,am,\nc,use=a,use=b,\n", &[
+        Row { line: 1, start: 2, end: 7, label: "E6", severity: Severity::Error, message: "MissingUse a: " },
+    ]),
+    (b"", &[]),
+];
+
+#[test]
+fn faults_stay_at_their_places(rt: HostRuntime) -> Result<(), AllocError> {
+    let mut document = Document::new(rt.alloc());
+    for (source, rows) in TEXTS {
+        document.set(Vec::from_slice(rt.alloc(), source)?)?;
+        assert!(rt; has_shown(rt.alloc(), &document, rows)?);
+    }
     Ok(())
 }
 
