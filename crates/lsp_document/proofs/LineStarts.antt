@@ -1,5 +1,5 @@
 -- A line begins at the first offset with so many newlines before it.
-use Rattle.std.proofs.Common.{◌≡◌, ℕ, suc, zero, ◌+◌, ◌<◌, ◌≤◌, ◌==◌, true, false, List, [], ◌∷◌, None, Some, drop, length, take, refl, sym, ap, subst, ◌∙◌}
+use Rattle.std.proofs.Common.{◌≡◌, ℕ, suc, zero, ◌+◌, ◌-◌, ◌<◌, ◌≤◌, ◌==◌, true, false, List, [], ◌∷◌, None, Some, drop, length, take, refl, sym, ap, subst, ◌∙◌}
 use Rattle.std.proofs.Common.{inl, inr, arith}
 use Rattle.std.proofs.lemmas.Bool.{cases_Bool, cases_lt, false_from_ne_true}
 use Rattle.memchr.specs.Find.{IsFirstByte, is_byte}
@@ -106,3 +106,29 @@ start-none [] line none = refl
 start-none (byte ∷ bytes) line none =
     let plain : (byte == 10) ≡ false = false_from_ne_true (byte == 10) (λ t. none 0 (omega arith) (omega arith) t) in
     start-plain byte bytes line plain ∙ ap suc (start-none bytes line (λ k low less t. none (suc k) (omega arith) (omega (arith, less)) t))
+
+-- ---- the bytes at the front that are before a line
+
+pub start_after : (n : ℕ) (text : List ℕ) (line : ℕ) → n ≤ length text → line_count (take n text) < line
+    → line_start text line ≡ n + line_start (drop n text) (line - line_count (take n text))
+start_after zero text line within few =
+    let none : line_count [] ≡ 0 = refl in
+    let all : line ≡ line - line_count [] = omega (arith, none) in
+    let same = ap (line_start text) all in
+    omega (arith, same)
+start_after (suc n) [] line within few = absurd (omega (arith, within))
+start_after (suc n) (byte ∷ bytes) zero within few = absurd (omega (arith, few))
+start_after (suc n) (byte ∷ bytes) (suc line) within few =
+    elim (cases_Bool (byte == 10)) [
+      | inl newline ↦
+          let count = count_newline byte (take n bytes) newline in
+          let rest = start_after n bytes line (omega (arith, within)) (omega (arith, few, count)) in
+          let left : suc line - line_count (byte ∷ take n bytes) ≡ line - line_count (take n bytes) = omega (arith, count) in
+          let same = ap (line_start (drop n bytes)) left in
+          omega (arith, start-newline byte bytes line newline, rest, same)
+      | inr plain ↦
+          let count = count_plain byte (take n bytes) plain in
+          let rest = start_after n bytes (suc line) (omega (arith, within)) (omega (arith, few, count)) in
+          let same = ap (λ (k : ℕ). line_start (drop n bytes) (suc line - k)) count in
+          omega (arith, start-plain byte bytes line plain, rest, same)
+    ]

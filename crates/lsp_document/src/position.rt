@@ -1,10 +1,11 @@
 //! Places in a text as the Language Server Protocol 3.17 counts them: lines from 0, and columns in
 //! UTF-16 units. A line ends with LF, or with CR LF, whose CR is not a column. A lone CR ends none.
-ghost use Rattle.std.specs.Prelude.{◌≡◌, ◌+◌, ◌*◌, ◌^◌, ◌<◌, ◌≤◌, length};
+ghost use Rattle.std.specs.Prelude.{◌≡◌, ◌+◌, ◌-◌, ◌*◌, ◌^◌, ◌<◌, ◌≤◌, length};
 ghost use Rattle.lsp_document.specs.Position as spec;
 
 use lsp_types::Position;
 use memchr::memchr;
+use ti_text::count_lines;
 
 // The UTF-16 units of the character that begins with the byte; none for a byte within a character.
 pub(crate) fn units(byte: u8) -> usize
@@ -29,9 +30,31 @@ pub(crate) fn ends_line(text: &[u8]) -> bool
     matches!(text, [] | [b'\n', ..] | [b'\r', b'\n', ..])
 }
 
-/// The offset at which the line of that number begins; the length of the text if it has no such
-/// line.
-pub(crate) fn line_start(text: &[u8], line: usize) -> usize
+// How many bytes are passed together, if the line that is sought begins after them.
+const PASSED_TOGETHER: usize = 4_096;
+
+// A text without pieces at its front that the line of that number begins after, and how many lines
+// are left before the line.
+fn after_pieces(text: &[u8], line: usize) -> (&[u8], usize)
+    ensures within { length result.0.now ≤ length text.now }
+    ensures start { length text.now - length result.0.now + spec.line_start result.0.now result.1 ≡ spec.line_start text.now line }
+{
+    let mut rest = text;
+    let mut left = line;
+    while PASSED_TOGETHER <= rest.len() {
+        let (piece, others) = rest.split_at(PASSED_TOGETHER);
+        let lines = count_lines(piece);
+        if left <= lines {
+            return (rest, left);
+        }
+        left -= lines;
+        rest = others;
+    }
+    (rest, left)
+}
+
+// The offset at which the line of that number begins, line by line.
+fn start_by_lines(text: &[u8], line: usize) -> usize
     ensures start { result ≡ spec.line_start text.now line }
     ensures within { result ≤ length text.now }
 {
@@ -43,6 +66,16 @@ pub(crate) fn line_start(text: &[u8], line: usize) -> usize
         }
     }
     start
+}
+
+/// The offset at which the line of that number begins; the length of the text if it has no such
+/// line.
+pub(crate) fn line_start(text: &[u8], line: usize) -> usize
+    ensures start { result ≡ spec.line_start text.now line }
+    ensures within { result ≤ length text.now }
+{
+    let (rest, left) = after_pieces(text, line);
+    text.len() - rest.len() + start_by_lines(rest, left)
 }
 
 // The offset in a line, from its start, of a column; that of its end if it is past it.

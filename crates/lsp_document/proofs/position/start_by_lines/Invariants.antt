@@ -1,6 +1,6 @@
 use Rattle.std.proofs.Common.{◌≡◌, ◌+◌, ◌-◌, ◌≤◌, drop, length}
 use Rattle.lsp_document.specs.Position.{line_start}
-use Rattle.lsp_document.proofs.position.line_start.Given as goal
+use Rattle.lsp_document.proofs.position.start_by_lines.Given as goal
 
 -- what is left of the lines begins so much later
 abbrev pub invariant-loop-passed : goal.invariant-loop-passed

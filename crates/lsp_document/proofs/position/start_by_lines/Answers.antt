@@ -4,7 +4,7 @@ use Rattle.memchr.specs.Find.{IsFirstByte, is_byte}
 use Rattle.lsp_document.specs.Position as spec
 use Rattle.lsp_document.proofs.LineStarts.{start-found, start-none}
 use Rattle.lsp_document.proofs.Places.{line_start-zero}
-use Rattle.lsp_document.proofs.position.line_start.Goals as goal
+use Rattle.lsp_document.proofs.position.start_by_lines.Goals as goal
 
 pub returns-in-None-clause-start : goal.returns-in-None-clause-start
 returns-in-None-clause-start c =
