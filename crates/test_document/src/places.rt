@@ -58,6 +58,31 @@ fn other_places(rt: HostRuntime) {
     assert!(rt; offset_of(b"", Position { line: 0, column: 0 }) == 0);
 }
 
+// Lines of four bytes each, around those of which so many bytes are passed together, and the
+// offsets of their second bytes; the last is not there.
+const LINES: [(usize, usize); 8] = [
+    (0, 1),
+    (1, 5),
+    (1023, 4093),
+    (1024, 4097),
+    (1025, 4101),
+    (2048, 8193),
+    (2999, 11997),
+    (3001, 12000),
+];
+
+#[test]
+fn lines_of_a_long_text(rt: HostRuntime) -> Result<(), AllocError> {
+    let mut text = Vec::new(rt.alloc());
+    for _line in 0..3000 {
+        text.extend_from_slice(b"abc\n")?;
+    }
+    for (line, offset) in LINES {
+        assert!(rt; offset_of(&text, Position { line, column: 1 }) == offset);
+    }
+    Ok(())
+}
+
 // A start and an end in `abcd`, what is put in, and the text after it.
 #[rattlefmt::skip]
 const SPLICES: [(usize, usize, &[u8], &[u8]); 6] = [
