@@ -1,6 +1,7 @@
 //! What an editor shows about a position.
-ghost use Rattle.std.specs.Prelude.{◌≡◌, ◌<◌, ◌+◌, ◌^◌, IfOk, length, option_map};
+ghost use Rattle.std.specs.Prelude.{◌≡◌, ◌<◌, ◌+◌, ◌^◌, All, IfOk, length, option_map};
 ghost use Rattle.ti_source.specs.Cutting.{OneBlock};
+ghost use Rattle.lsp_spans.specs.Folding.{folded_of};
 ghost use Rattle.lsp_spans.specs.Subjects.{touched_seen};
 ghost use Rattle.lsp_spans.specs.Touching.{item_seen};
 ghost use Rattle.lsp_features.specs.Hovers as spec;
@@ -10,7 +11,7 @@ use crate::meanings::{Meaning, meaning_at};
 use crate::names::name_of;
 use lsp_blocks::{DecidingBlock, Entry, entry_named, range_in, sources_named, spot_at};
 use lsp_document::{Document, shown_detail};
-use lsp_spans::{Item, Touched, item_at, subject_at};
+use lsp_spans::{Item, Touched, folded, item_in, subject_in};
 use lsp_types::{Position, Range};
 use std::alloc::{AllocError, Global};
 use ti_caps::{Cap, find};
@@ -70,15 +71,19 @@ fn name_told(
     })
 }
 
-// What is shown about an item, which that offset is on, in a block that begins on that line.
+// What is shown about an item, which that offset is on, in a block with this folded text that begins
+// on that line.
 fn item_told(
     alloc: Global,
     line: usize,
     block: &[u8],
+    text: &[(u8, usize)],
     offset: usize,
     item: &Item,
 ) -> Result<Option<Hover>, AllocError>
     requires one { OneBlock block.now }
+    requires offsets { All (λ x. x.1 < 2 ^ 63) text.now }
+    requires folded { text.now ≡ folded_of block.now }
     requires room { line + length block.now < 2 ^ 64 }
     ensures { IfOk result (λ told. option_map hover_seen told ≡ item_told line block.now offset (item_seen item.now)) }
 {
@@ -88,7 +93,7 @@ fn item_told(
     let about = About::Item {
         capability,
         text: shown_detail(alloc, &item.text)?,
-        meaning: meaning_at(alloc, block, offset)?,
+        meaning: meaning_at(alloc, block, text, offset)?,
     };
     Ok(Some(Hover {
         range: range_in(line, block, item.span),
@@ -108,11 +113,12 @@ fn told_at(
     requires room { line + length block.now < 2 ^ 64 }
     ensures { IfOk result (λ told. option_map hover_seen told ≡ told_at document.now line block.now offset) }
 {
-    if let Some(touched) = subject_at(alloc, block, offset)? {
+    let text = folded(alloc, block)?;
+    if let Some(touched) = subject_in(alloc, &text, offset)? {
         return Ok(Some(name_told(alloc, document, line, block, &touched)?));
     }
-    match item_at(alloc, block, offset)? {
-        Some(item) => item_told(alloc, line, block, offset, &item),
+    match item_in(alloc, &text, offset)? {
+        Some(item) => item_told(alloc, line, block, &text, offset, &item),
         None => Ok(None),
     }
 }

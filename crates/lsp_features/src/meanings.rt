@@ -1,12 +1,13 @@
 //! What an item says, as it is read.
-ghost use Rattle.std.specs.Prelude.{◌≡◌, IfOk, Some, map, option_map};
+ghost use Rattle.std.specs.Prelude.{◌≡◌, ◌<◌, ◌^◌, All, IfOk, Some, map, option_map};
 ghost use Rattle.std.specs.String.{string_bytes};
 ghost use Rattle.ti_source.specs.Cutting.{OneBlock};
 ghost use Rattle.ti_source.specs.Reading.{item_of, said_of};
+ghost use Rattle.lsp_spans.specs.Folding.{folded_of};
 ghost use Rattle.lsp_features.specs.Meanings as spec;
 ghost use Rattle.lsp_features.specs.Meanings.{meaning_seen, said_at};
 
-use lsp_spans::ordinal_at;
+use lsp_spans::ordinal_in;
 use std::alloc::{AllocError, Global};
 use ti_source::{Item, What, escape, parse};
 
@@ -95,12 +96,19 @@ fn meaning_in(alloc: Global, block: &[u8], ordinal: usize) -> Result<Meaning, Al
     }
 }
 
-/// What the item that an offset of a block is on means.
-pub(crate) fn meaning_at(alloc: Global, block: &[u8], offset: usize) -> Result<Meaning, AllocError>
-    requires { OneBlock block.now }
+/// What the item that an offset of a block with this folded text is on means.
+pub(crate) fn meaning_at(
+    alloc: Global,
+    block: &[u8],
+    text: &[(u8, usize)],
+    offset: usize,
+) -> Result<Meaning, AllocError>
+    requires one { OneBlock block.now }
+    requires offsets { All (λ x. x.1 < 2 ^ 63) text.now }
+    requires folded { text.now ≡ folded_of block.now }
     ensures { IfOk result (λ found. meaning_seen found ≡ spec.meaning_at block.now offset) }
 {
-    match ordinal_at(alloc, block, offset)? {
+    match ordinal_in(alloc, text, offset)? {
         Some(ordinal) => meaning_in(alloc, block, ordinal),
         None => Ok(Meaning::Nothing),
     }

@@ -2,6 +2,7 @@ pub mod Computing
 pub mod Escaping
 pub mod Exchanging
 pub mod Fielding
+pub mod Finding
 pub mod Itemizing
 pub mod Joining
 pub mod OneFolding

@@ -1,6 +1,7 @@
 -- The definitions that the contracts of this crate cite.
 pub mod Faulty
 pub mod Folding
+pub mod Found
 pub mod Ordinals
 pub mod Parts
 pub mod Replacing

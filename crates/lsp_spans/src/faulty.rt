@@ -6,6 +6,7 @@ ghost use Rattle.ti_source.specs.Folding.{PlacedByte};
 ghost use Rattle.ti_source.specs.Reading.{ReadFault, ReadItem, fault_of, item_of};
 ghost use Rattle.lsp_spans.specs.Faulty as spec;
 ghost use Rattle.lsp_spans.specs.Faulty.{find, find_named, first_and_rest, found_fault, found_name, found_use, ordinal_and_faults, ordinal_and_items, search_of};
+ghost use Rattle.lsp_spans.specs.Found.{FaultsAreOfTheirItems};
 ghost use Rattle.lsp_spans.specs.Parts.{IsWithin, part_of, spanned};
 
 use crate::folding::folded;
@@ -249,3 +250,9 @@ impl FaultFinder {
         span_at(&self.text, &self.items, ordinal)
     }
 }
+
+/// A law, with no code: the faults of items that reading a block gave, sought one after another, are
+/// found at the items of their ordinals.
+pub fn faults_are_found()
+    ensures { FaultsAreOfTheirItems }
+{}

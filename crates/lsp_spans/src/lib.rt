@@ -29,6 +29,6 @@ pub use heads::{Head, head_of};
 pub use items::{Use, used_part, uses_of, visible_items, without_end};
 pub use names::own_spans;
 pub use parts::{Part, field_len, item_parts, name_parts, span_of};
-pub use subjects::{Subject, Touched, subject_at};
-pub use touching::{Item, item_at, name_of, ordinal_at};
+pub use subjects::{Subject, Touched, subject_at, subject_in};
+pub use touching::{Item, item_in, name_of, ordinal_in};
 pub use words::{Word, word_before};

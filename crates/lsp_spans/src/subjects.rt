@@ -121,8 +121,11 @@ fn touched_item(
     }))
 }
 
-// What an offset of a folded text is on.
-fn subject_in(
+/// What an offset of a block with this folded text is on, as `subject_at` finds it.
+///
+/// # Errors
+/// Out of memory.
+pub fn subject_in(
     alloc: Global,
     text: &[(u8, usize)],
     offset: usize,

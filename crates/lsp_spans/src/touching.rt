@@ -7,10 +7,9 @@ ghost use Rattle.ti_source.specs.Items.{is_mark};
 ghost use Rattle.lsp_spans.specs.Ordinals.{OrdinalsAreOfItems, OrdinalsAreOfTouched, SayingsAreRead, SeenItemsAreRead};
 ghost use Rattle.lsp_spans.specs.Parts.{IsWithin, part_of};
 ghost use Rattle.lsp_spans.specs.Touching as spec;
-ghost use Rattle.lsp_spans.specs.Subjects.{is_on};
+ghost use Rattle.lsp_spans.specs.Subjects.{is_on, items_of};
 ghost use Rattle.lsp_spans.specs.Touching.{item_in, marked_name, name_of, seen_of, without_at};
 
-use crate::folding::folded;
 use crate::heads::span_or_start;
 use crate::items::{visible_items, without_end};
 use crate::parts::{Part, push_bytes, span_of};
@@ -95,8 +94,16 @@ fn seen_of(alloc: Global, text: &[(u8, usize)], item: Part) -> Result<Item, Allo
     })
 }
 
-// The item that an offset of a folded text is on.
-fn item_in(alloc: Global, text: &[(u8, usize)], offset: usize) -> Result<Option<Item>, AllocError>
+/// The item that an offset of a block with this folded text is on. An offset just after the last
+/// byte of an item is on it.
+///
+/// # Errors
+/// Out of memory.
+pub fn item_in(
+    alloc: Global,
+    text: &[(u8, usize)],
+    offset: usize,
+) -> Result<Option<Item>, AllocError>
     requires { All (λ x. x.1 < 2 ^ 63) text.now }
     ensures { IfOk result (λ found. option_map spec.item_seen found ≡ item_in text.now offset) }
 {
@@ -104,18 +111,6 @@ fn item_in(alloc: Global, text: &[(u8, usize)], offset: usize) -> Result<Option<
         Some(item) => Ok(Some(seen_of(alloc, text, item)?)),
         None => Ok(None),
     }
-}
-
-/// The item that an offset of a block is on. An offset just after the last byte of an item is on
-/// it.
-///
-/// # Errors
-/// Out of memory.
-pub fn item_at(alloc: Global, block: &[u8], offset: usize) -> Result<Option<Item>, AllocError>
-    ensures { IfOk result (λ found. option_map spec.item_seen found ≡ spec.item_at block.now offset) }
-{
-    let text = folded(alloc, block)?;
-    item_in(alloc, &text, offset)
 }
 
 // Which of some parts is the first that an offset is on, from 0.
@@ -132,17 +127,21 @@ fn ordinal_on(text: &[(u8, usize)], parts: &[Part], offset: usize) -> Option<usi
     None
 }
 
-/// The ordinal of the item that an offset of a block is on: which of its items that is, counted
-/// from 0. Empty and disabled items count.
+/// The ordinal of the item that an offset of a block with this folded text is on: which of its items
+/// that is, counted from 0. Empty and disabled items count.
 ///
 /// # Errors
 /// Out of memory.
-pub fn ordinal_at(alloc: Global, block: &[u8], offset: usize) -> Result<Option<usize>, AllocError>
-    ensures { IfOk result (λ found. found ≡ spec.ordinal_at block.now offset) }
+pub fn ordinal_in(
+    alloc: Global,
+    text: &[(u8, usize)],
+    offset: usize,
+) -> Result<Option<usize>, AllocError>
+    requires { All (λ x. x.1 < 2 ^ 63) text.now }
+    ensures { IfOk result (λ found. found ≡ position (is_on offset) (items_of text.now)) }
 {
-    let text = folded(alloc, block)?;
-    let items = visible_items(alloc, &text)?;
-    Ok(ordinal_on(&text, &items, offset))
+    let items = visible_items(alloc, text)?;
+    Ok(ordinal_on(text, &items, offset))
 }
 
 /// A law, with no code: the items that are seen are those that are read, by their ordinals, and an

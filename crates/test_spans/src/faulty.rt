@@ -12,7 +12,7 @@ const FAULTY: &[u8] =
     b"x|y|x|d,\n\tcols#a,lines#5x, cols#b ,use=u,am#1,use= u\n\t,\n foo,bel=\\q,foo=\\q,\n#cols#c,\n cols#\n  c\n";
 
 #[rattlefmt::skip]
-const BLOCKS: [(&[u8], &[Row]); 7] = [
+const BLOCKS: [(&[u8], &[Row]); 8] = [
     (FAULTY, &[
         (1, Code::DuplicateName, Some(b"x"), Some((0, 1))),
         (1, Code::DuplicateName, Some(b"y"), Some((2, 3))),
@@ -60,6 +60,9 @@ const BLOCKS: [(&[u8], &[Row]); 7] = [
         (1, Code::UnknownCapability, Some(b"nul"), Some((6, 11))),
         (1, Code::TooLarge, Some(b"alone"), Some((0, 5))),
     ]),
+    // Items of one name on one line, of which the first has no fault as a user-defined one: a fault
+    // of the second is found at the first, since its name and its line are all that is known of it.
+    (b"a,Tc#5,Tc#x,\n", &[(1, Code::UnknownCapability, Some(b"Tc"), Some((2, 6)))]),
     // A name is a whole part.
     (b"xa|x|d,\n", &[(1, Code::DuplicateName, Some(b"x"), Some((3, 4)))]),
     // A names field without bytes is nowhere.

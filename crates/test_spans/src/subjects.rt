@@ -1,5 +1,5 @@
 //! What offsets of blocks are on, and the names that blocks use.
-use lsp_spans::{Subject, Touched, head_of, own_spans, subject_at, uses_of};
+use lsp_spans::{Subject, Touched, folded, head_of, own_spans, subject_at, subject_in, uses_of};
 use std::alloc::{AllocError, Global};
 use std::process::Abort;
 
@@ -127,8 +127,10 @@ const NOWHERE: [usize; 7] = [8, 17, 38, 15, 20, 55, 1000];
 
 #[test]
 fn nowhere(rt: HostRuntime) -> Result<(), AllocError> {
+    let block = folded(rt.alloc(), BLOCK)?;
     for offset in NOWHERE {
         assert!(rt; subject_at(rt.alloc(), BLOCK, offset)?.is_none());
+        assert!(rt; subject_in(rt.alloc(), &block, offset)?.is_none());
     }
     Ok(())
 }

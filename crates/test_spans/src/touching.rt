@@ -1,5 +1,5 @@
 //! The items that offsets of blocks are on, as they are written.
-use lsp_spans::{item_at, ordinal_at};
+use lsp_spans::{folded, item_in, ordinal_in};
 use std::alloc::{AllocError, Global};
 use std::process::Abort;
 
@@ -26,8 +26,9 @@ const ITEMS: [(usize, (usize, usize), &[u8], &[u8]); 10] = [
 
 #[test]
 fn items(rt: HostRuntime) -> Result<(), AllocError> {
+    let block = folded(rt.alloc(), BLOCK)?;
     for (offset, (start, end), name, text) in ITEMS {
-        let Some(found) = item_at(rt.alloc(), BLOCK, offset)? else {
+        let Some(found) = item_in(rt.alloc(), &block, offset)? else {
             return Err(AllocError);
         };
         assert!(rt; found.span.start == start && found.span.end == end);
@@ -42,8 +43,9 @@ const ORDINALS: [(usize, usize); 4] = [(9, 0), (18, 1), (46, 3), (63, 6)];
 
 #[test]
 fn ordinals(rt: HostRuntime) -> Result<(), AllocError> {
+    let block = folded(rt.alloc(), BLOCK)?;
     for (offset, ordinal) in ORDINALS {
-        assert!(rt; ordinal_at(rt.alloc(), BLOCK, offset)? == Some(ordinal));
+        assert!(rt; ordinal_in(rt.alloc(), &block, offset)? == Some(ordinal));
     }
     Ok(())
 }
@@ -53,9 +55,10 @@ const NOWHERE: [usize; 5] = [0, 3, 5, 10, 1000];
 
 #[test]
 fn no_items(rt: HostRuntime) -> Result<(), AllocError> {
+    let block = folded(rt.alloc(), BLOCK)?;
     for offset in NOWHERE {
-        assert!(rt; item_at(rt.alloc(), BLOCK, offset)?.is_none());
-        assert!(rt; ordinal_at(rt.alloc(), BLOCK, offset)?.is_none());
+        assert!(rt; item_in(rt.alloc(), &block, offset)?.is_none());
+        assert!(rt; ordinal_in(rt.alloc(), &block, offset)?.is_none());
     }
     Ok(())
 }
