@@ -1,4 +1,4 @@
-use Rattle.std.proofs.Common.{◌≡◌, ◌+◌, ◌-◌, ℕ, List, drop, take, sym, ap, ap₂, ◌∙◌, arith}
+use Rattle.std.proofs.Common.{◌≡◌, ◌-◌, ℕ, List, take, ap, ap₂, ◌∙◌, arith}
 use Rattle.ti_text.specs.Lines.{line_count}
 use Rattle.lsp_document.specs.Position.{line_start}
 use Rattle.lsp_document.proofs.LineStarts.{start_after}
