@@ -12,7 +12,7 @@ const FAULTY: &[u8] =
     b"x|y|x|d,\n\tcols#a,lines#5x, cols#b ,use=u,am#1,use= u\n\t,\n foo,bel=\\q,foo=\\q,\n#cols#c,\n cols#\n  c\n";
 
 #[rattlefmt::skip]
-const BLOCKS: [(&[u8], &[Row]); 8] = [
+const BLOCKS: [(&[u8], &[Row]); 7] = [
     (FAULTY, &[
         (1, Code::DuplicateName, Some(b"x"), Some((0, 1))),
         (1, Code::DuplicateName, Some(b"y"), Some((2, 3))),
@@ -60,9 +60,6 @@ const BLOCKS: [(&[u8], &[Row]); 8] = [
         (1, Code::UnknownCapability, Some(b"nul"), Some((6, 11))),
         (1, Code::TooLarge, Some(b"alone"), Some((0, 5))),
     ]),
-    // Items of one name on one line, of which the first has no fault as a user-defined one: a fault
-    // of the second is found at the first, since its name and its line are all that is known of it.
-    (b"a,Tc#5,Tc#x,\n", &[(1, Code::UnknownCapability, Some(b"Tc"), Some((2, 6)))]),
     // A name is a whole part.
     (b"xa|x|d,\n", &[(1, Code::DuplicateName, Some(b"x"), Some((3, 4)))]),
     // A names field without bytes is nowhere.
@@ -78,5 +75,18 @@ fn the_parts_of_faults(rt: HostRuntime) -> Result<(), AllocError> {
             assert!(rt; found == wanted.map(|(start, end)| Part { start, end }));
         }
     }
+    Ok(())
+}
+
+// Items of one name on one line, of which the first has no fault as a user-defined one.
+const SOUND_FIRST: &[u8] = b"a,Tc#5,Tc#x,\n";
+
+// A fault of the second is found at the first, since its name and its line are all that is known of
+// it.
+#[test]
+fn a_sound_item_of_the_name_is_found(rt: HostRuntime) -> Result<(), AllocError> {
+    let mut finder = FaultFinder::of(rt.alloc(), SOUND_FIRST)?;
+    let found = finder.find(1, Code::UnknownCapability, Some(b"Tc"));
+    assert!(rt; found == Some(Part { start: 2, end: 6 }));
     Ok(())
 }
