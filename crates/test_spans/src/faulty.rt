@@ -2,7 +2,7 @@
 use lsp_spans::{FaultFinder, Part};
 use std::alloc::AllocError;
 use std::process::Abort;
-use ti_source::Code;
+use ti_source::{Code, is_block};
 
 // A fault, by its line, code and detail, and where the part is that it is of.
 type Row = (usize, Code, Option<&'static [u8]>, Option<(usize, usize)>);
@@ -69,6 +69,7 @@ const BLOCKS: [(&[u8], &[Row]); 7] = [
 #[test]
 fn the_parts_of_faults(rt: HostRuntime) -> Result<(), AllocError> {
     for (block, rows) in BLOCKS {
+        assert!(rt; is_block(block));
         let mut finder = FaultFinder::of(rt.alloc(), block)?;
         for (line, code, detail, wanted) in rows {
             let found = finder.find(*line, *code, *detail);
@@ -85,6 +86,7 @@ const SOUND_FIRST: &[u8] = b"a,Tc#5,Tc#x,\n";
 // it.
 #[test]
 fn a_sound_item_of_the_name_is_found(rt: HostRuntime) -> Result<(), AllocError> {
+    assert!(rt; is_block(SOUND_FIRST));
     let mut finder = FaultFinder::of(rt.alloc(), SOUND_FIRST)?;
     let found = finder.find(1, Code::UnknownCapability, Some(b"Tc"));
     assert!(rt; found == Some(Part { start: 2, end: 6 }));
