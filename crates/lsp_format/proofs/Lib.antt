@@ -1,0 +1,10 @@
+pub mod Folded
+pub mod Cut
+pub mod Laying
+pub mod Fine
+pub mod Placed
+pub mod Numbered
+pub mod Entering
+pub mod Headed
+pub mod Alike
+pub mod Stepping

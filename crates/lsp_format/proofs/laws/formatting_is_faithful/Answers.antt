@@ -1,0 +1,8 @@
+use Rattle.lsp_format.proofs.Alike.{is_settled, keeps_reading}
+use Rattle.lsp_format.proofs.laws.formatting_is_faithful.Goals as goal
+
+pub returns-clause-alike : goal.returns-clause-alike
+returns-clause-alike c = keeps_reading
+
+pub returns-clause-settled : goal.returns-clause-settled
+returns-clause-settled c = is_settled

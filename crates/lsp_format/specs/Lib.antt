@@ -1,0 +1,6 @@
+-- The definitions that the contracts of this crate cite.
+pub mod Pieces
+pub mod Kinds
+pub mod Layout
+pub mod Laws
+pub mod inside

@@ -1,0 +1,78 @@
+//! Where on a line an item comes.
+ghost use Rattle.std.specs.Prelude.{◌≡◌, ◌+◌, ◌<◌, ◌≤◌, ◌^◌, ◌==◌, true};
+ghost use Rattle.lsp_format.specs.Layout as spec;
+ghost use Rattle.lsp_format.specs.inside.Steps.{place_seen};
+
+use crate::kinds::Kind;
+
+// The columns that a tab takes.
+const TAB: usize = 8;
+
+/// How far a line is written.
+#[derive(Clone, Copy)]
+pub(crate) struct Place {
+    /// How many of its columns are taken; 0 if no line is begun.
+    pub(crate) column: usize,
+    /// The kind of its items.
+    pub(crate) kind: Kind,
+}
+
+impl Place {
+    /// The start of a line.
+    pub(crate) fn start() -> Place
+        ensures { place_seen result ≡ spec.line_start }
+    {
+        Place {
+            column: 0,
+            kind: Kind::Any,
+        }
+    }
+
+    /// Whether no line is begun.
+    pub(crate) fn is_start(self) -> bool
+        ensures { result ≡ (self.column == 0) }
+    {
+        self.column == 0
+    }
+
+    /// Whether an item of this kind and so many bytes goes on the line, after a space.
+    pub(crate) fn goes_on(self, width: usize, kind: Kind, size: usize) -> bool
+        ensures on { result ≡ spec.goes_on width (place_seen self) kind size }
+        ensures room { result ≡ true → self.column + 1 + size ≤ width }
+    {
+        self.kind.together(kind) && self.column < width && size < width - self.column
+    }
+
+    /// The place after an item of this kind and so many bytes.
+    pub(crate) fn after(self, width: usize, kind: Kind, size: usize) -> Place
+        requires { size ≤ 2 ^ 63 }
+        ensures { place_seen result ≡ spec.place_after width (place_seen self) kind size }
+    {
+        let start = self.is_start();
+        let on = self.goes_on(width, kind, size);
+        Place {
+            column: column_after(start, on, self.column, size),
+            kind: line_kind(start, on, self.kind, kind),
+        }
+    }
+}
+
+// The columns that are taken after an item of so many bytes.
+fn column_after(start: bool, on: bool, column: usize, size: usize) -> usize
+    requires room { on ≡ true → column + 1 + size < 2 ^ 64 }
+    requires small { size ≤ 2 ^ 63 }
+    ensures { result ≡ spec.column_after start on column size }
+{
+    if on && !start {
+        column + 1 + size
+    } else {
+        TAB + size
+    }
+}
+
+// The kind of the line after an item of the new kind.
+fn line_kind(start: bool, on: bool, old: Kind, new: Kind) -> Kind
+    ensures { result ≡ spec.line_kind start on old new }
+{
+    if on && !start { old.after(new) } else { new }
+}
