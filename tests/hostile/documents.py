@@ -55,6 +55,9 @@ def notification(method, params):
 
 
 INITIALIZE = {"jsonrpc": "2.0", "id": 0, "method": "initialize", "params": {"capabilities": {}}}
+# of a client that takes symbols as a hierarchy
+NESTED = {"documentSymbol": {"hierarchicalDocumentSymbolSupport": True}}
+NESTING = {**INITIALIZE, "params": {"capabilities": {"textDocument": NESTED}}}
 
 
 class Editor:
@@ -219,7 +222,7 @@ def report_fault(shown, text):
 def edited(seed):
     """A run of an editor with some documents."""
     editor = Editor(seed)
-    bodies = [body_of(INITIALIZE)]
+    bodies = [body_of(editor.one([INITIALIZE, NESTING]))]
     for _ in range(EDITS_A_RUN):
         bodies += [body_of(editor.edit())] + [body_of(editor.question()) for _ in range(editor.one([0, 1, 2]))]
     return run_fault(bodies)
@@ -228,7 +231,7 @@ def edited(seed):
 def disordered(seed):
     """A run of messages in any order, many of them of no sense."""
     editor = Editor(seed)
-    bodies = [body_of(INITIALIZE)] if editor.random.random() < 0.8 else []
+    bodies = [body_of(editor.one([INITIALIZE, NESTING]))] if editor.random.random() < 0.8 else []
     for _ in range(editor.one([3, 10, 20])):
         odd = editor.random.random()
         if odd < 0.5:

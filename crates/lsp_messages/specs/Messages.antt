@@ -38,13 +38,14 @@ pub data Asked : Type 0 where
   unknown : Asked
 
 -- a notification: of a document its URI, its version if it is known, and its text or the edits;
--- `nothing` are those that ask for nothing: `initialized`, unknown ones, and those with parameters
--- that are not those of the method
+-- `lost` are those of a document whose parameters are not those of the method, with its URI if that
+-- can be read; `nothing` are those that ask for nothing: `initialized` and unknown ones
 pub data Told : Type 0 where
   exited : Told
   opened : List ℕ → Option ℕ → List ℕ → Told
   changed : List ℕ → Option ℕ → List Edit → Told
   closed : List ℕ → Told
+  lost : Option (List ℕ) → Told
   nothing : Told
 
 -- what a value is as a message; a faulty one may have an id
@@ -222,6 +223,13 @@ prepares_renames abilities =
 abbrev pub takes_actions : Data → Bool
 takes_actions abilities = is_some (option_and_then (get (codes "codeActionLiteralSupport")) (get (codes "codeAction") abilities))
 
+-- "DocumentSymbolClientCapabilities": whether it takes symbols as a hierarchy, and not as a flat list
+-- alone
+abbrev pub nests_symbols : Data → Bool
+nests_symbols abilities =
+    unwrap_or (option_and_then as_bool
+    (option_and_then (get (codes "hierarchicalDocumentSymbolSupport")) (get (codes "documentSymbol") abilities))) false
+
 -- "TextDocumentClientCapabilities", if they are given
 abbrev pub abilities_of : Data → Option Data
 abilities_of d = do
@@ -231,8 +239,12 @@ abilities_of d = do
 
 -- a client that reports nothing can do none of it
 abbrev pub client_with : Option Data → Client
-client_with None = record { prepares_renames = false; takes_actions = false }
-client_with (Some abilities) = record { prepares_renames = prepares_renames abilities; takes_actions = takes_actions abilities }
+client_with None = record { prepares_renames = false; takes_actions = false; nests_symbols = false }
+client_with (Some abilities) = record {
+  prepares_renames = prepares_renames abilities;
+  takes_actions = takes_actions abilities;
+  nests_symbols = nests_symbols abilities;
+}
 
 -- "InitializeParams": what the client can do
 abbrev pub client_of : Data → Client
@@ -256,9 +268,27 @@ told_by method params =
     else (if bytes_eq method (codes "textDocument/didChange") then changed_of params
     else (if bytes_eq method (codes "textDocument/didClose") then closed_of params else None))
 
+-- the methods by which a document is opened, changed and closed
+abbrev pub tells_of_document : List ℕ → Bool
+tells_of_document method =
+    bytes_eq method (codes "textDocument/didOpen") || bytes_eq method (codes "textDocument/didChange")
+    || bytes_eq method (codes "textDocument/didClose")
+
+-- the URI of the document that a notification is about
+abbrev pub uri_in : Data → Option (List ℕ)
+uri_in d = do
+  params ← get (codes "params") d
+  document ← get (codes "textDocument") params
+  text_at (codes "uri") document
+
+-- what is said by parameters that are not those of the method
+abbrev pub untold_of : List ℕ → Data → Told
+untold_of method d = if tells_of_document method then lost (uri_in d) else nothing
+
 abbrev pub told_of : List ℕ → Data → Told
 told_of method d =
-    if bytes_eq method (codes "exit") then exited else unwrap_or (option_and_then (told_by method) (get (codes "params") d)) nothing
+    if bytes_eq method (codes "exit") then exited
+    else unwrap_or (option_and_then (told_by method) (get (codes "params") d)) (untold_of method d)
 
 -- ---- messages ("Base Protocol")
 

@@ -1,6 +1,6 @@
 -- The values that a language server sends (LSP 3.17; the section is named at each). Members are in
 -- the order of their keys.
-use Rattle.std.specs.Prelude.{ℕ, List, Bool, codes, true, false, Option, None, Some, unwrap_or}
+use Rattle.std.specs.Prelude.{ℕ, ◌++◌, List, Bool, codes, true, false, Option, None, Some, unwrap_or}
 use Rattle.serde_json.specs.Data.{Data, null, boolean, number, negative, unsigned, string, array, object, Items, item, no_items, no_members, member}
 use Rattle.lsp_types.specs.Failures.{code_of, sentence_of}
 use Rattle.lsp_types.specs.Numbers.{item_number, severity_number}
@@ -52,6 +52,18 @@ published_data uri (Some version) diagnostics =
 abbrev pub publish_data : List ℕ → Option ℕ → Items → Data
 publish_data uri version diagnostics = notification_data (codes "textDocument/publishDiagnostics") (published_data uri version diagnostics)
 
+-- what is said where a message about a document could not be read, of which the URI may be known
+-- (own)
+abbrev pub lost_sentence : Option (List ℕ) → List ℕ
+lost_sentence None = codes "A message about a document could not be read. Close the documents, and open them again."
+lost_sentence (Some uri) = codes "A message about " ++ uri ++ codes " could not be read. Close the document, and open it again."
+
+-- "ShowMessage Notification"; the type 1 is an error ("MessageType")
+abbrev pub lost_data : Option (List ℕ) → Data
+lost_data uri =
+    notification_data (codes "window/showMessage")
+    (object (member (codes "message") (string (lost_sentence uri)) (member (codes "type") (natural 1) no_members)))
+
 -- "Response Message"
 abbrev pub response_data : Data → Data → Data
 response_data id result =
@@ -96,6 +108,13 @@ symbol_data name range selection =
     (member (codes "range") (range_data range)
     (member (codes "selectionRange") (range_data selection) no_members))))
 
+-- "SymbolInformation", for a client that takes no hierarchy
+abbrev pub symbol_information_data : List ℕ → List ℕ → Range → Data
+symbol_information_data uri name range =
+    object (member (codes "kind") (natural 23)
+    (member (codes "location") (location_data uri range)
+    (member (codes "name") (string name) no_members)))
+
 -- "MarkupContent"
 abbrev pub plain_data : List ℕ → Data
 plain_data text = object (member (codes "kind") (string (codes "plaintext")) (member (codes "value") (string text) no_members))
@@ -134,6 +153,19 @@ item_data kind label detail (Some documentation) range =
     (member (codes "kind") (natural (item_number kind))
     (member (codes "label") (string label)
     (member (codes "textEdit") (text_edit_data label range) no_members))))))
+
+-- "CompletionItem" that offers an obsolete name: it comes after all others, and the tag 1 says
+-- "Deprecated" ("CompletionItemTag")
+abbrev pub obsolete_item_data : ItemKind → List ℕ → List ℕ → List ℕ → Range → Data
+obsolete_item_data kind label detail documentation range =
+    object (member (codes "detail") (string detail)
+    (member (codes "documentation") (string documentation)
+    (member (codes "filterText") (string label)
+    (member (codes "kind") (natural (item_number kind))
+    (member (codes "label") (string label)
+    (member (codes "sortText") (string (codes "~" ++ label))
+    (member (codes "tags") (array (item (natural 1) no_items))
+    (member (codes "textEdit") (text_edit_data label range) no_members))))))))
 
 -- "CompletionList"
 abbrev pub list_data : Items → Data

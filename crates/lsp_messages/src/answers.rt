@@ -2,7 +2,7 @@
 ghost use Rattle.std.specs.Prelude.{◌≡◌, IfOk, option_map};
 ghost use Rattle.serde_json.specs.Data.{item, no_items};
 ghost use Rattle.serde_json.specs.View.{items_view, view};
-ghost use Rattle.lsp_messages.specs.Shapes.{action_data, hover_data, item_data, list_data, location_data, plain_data, symbol_data, text_edit_data, workspace_edit_data};
+ghost use Rattle.lsp_messages.specs.Shapes.{action_data, hover_data, item_data, list_data, location_data, obsolete_item_data, plain_data, symbol_data, symbol_information_data, text_edit_data, workspace_edit_data};
 
 use crate::objects::{with_number, with_text, with_value};
 use crate::writing::range_value;
@@ -41,6 +41,23 @@ pub fn symbol_value(
     let selection = range_value(alloc, selection)?;
     let members = with_value(alloc, members, "selectionRange", selection)?;
     Ok(Value::Object(members))
+}
+
+/// An entry that a document defines ("SymbolInformation"), as a struct, for a client that takes no
+/// hierarchy: its name and its range.
+///
+/// # Errors
+/// `AllocError` if memory ran out.
+pub fn symbol_information_value(
+    alloc: Global,
+    uri: &str,
+    name: &str,
+    range: Range,
+) -> Result<Value, AllocError>
+    ensures { IfOk result (λ v. view v ≡ symbol_information_data uri.now name.now range) }
+{
+    let location = location_value(alloc, uri, range)?;
+    json!(in alloc; {"kind": 23_u32, "location": location, "name": name})
 }
 
 // A text without markup ("MarkupContent").
@@ -146,6 +163,35 @@ pub fn item_value(
             Ok(Value::Object(members))
         }
     }
+}
+
+/// An item of a completion ("CompletionItem") that offers an obsolete name: it comes after all
+/// others, and is tagged as deprecated. Else it is as that of `item_value`.
+///
+/// # Errors
+/// `AllocError` if memory ran out.
+pub fn obsolete_item_value(
+    alloc: Global,
+    kind: ItemKind,
+    label: &str,
+    detail: &str,
+    documentation: &str,
+    range: Range,
+) -> Result<Value, AllocError>
+    ensures { IfOk result (λ v. view v ≡ obsolete_item_data kind label.now detail.now documentation.now range) }
+{
+    let last = format!(in alloc; "~{label}")?;
+    let tags = json!(in alloc; [1_u32])?;
+    let edit = text_edit_value(alloc, label, range)?;
+    let members = with_text(alloc, Map::new(alloc), "detail", detail)?;
+    let members = with_text(alloc, members, "documentation", documentation)?;
+    let members = with_text(alloc, members, "filterText", label)?;
+    let members = with_number(alloc, members, "kind", kind.number())?;
+    let members = with_text(alloc, members, "label", label)?;
+    let members = with_text(alloc, members, "sortText", last.as_str())?;
+    let members = with_value(alloc, members, "tags", tags)?;
+    let members = with_value(alloc, members, "textEdit", edit)?;
+    Ok(Value::Object(members))
 }
 
 /// The items of a completion ("CompletionList"), which are all that there are.

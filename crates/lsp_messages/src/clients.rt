@@ -1,7 +1,7 @@
 //! What a client can do, as it reports when it asks for the server.
 ghost use Rattle.std.specs.Prelude.{◌≡◌, false, is_some, option_map, unwrap_or};
 ghost use Rattle.serde_json.specs.View.{view};
-ghost use Rattle.lsp_messages.specs.Messages.{abilities_of, client_of, prepares_renames, takes_actions};
+ghost use Rattle.lsp_messages.specs.Messages.{abilities_of, client_of, nests_symbols, prepares_renames, takes_actions};
 
 use serde_json::Value;
 
@@ -12,6 +12,8 @@ pub struct Client {
     pub prepares_renames: bool,
     /// Whether it takes code actions, and not commands alone.
     pub takes_actions: bool,
+    /// Whether it takes symbols as a hierarchy, and not as a flat list alone.
+    pub nests_symbols: bool,
 }
 
 // Whether a client that can do this with texts asks which name a rename is of before it renames.
@@ -26,6 +28,16 @@ fn action_support(abilities: &Value) -> Option<&Value>
     ensures { is_some result ≡ takes_actions (view abilities.now) }
 {
     abilities.get("codeAction")?.get("codeActionLiteralSupport")
+}
+
+// Whether a client that can do this with texts takes symbols as a hierarchy.
+fn nests_symbols(abilities: &Value) -> Option<bool>
+    ensures { unwrap_or result false ≡ nests_symbols (view abilities.now) }
+{
+    abilities
+        .get("documentSymbol")?
+        .get("hierarchicalDocumentSymbolSupport")?
+        .as_bool()
 }
 
 // What a client reports that it can do with texts.
@@ -46,10 +58,12 @@ pub(crate) fn read_client(value: &Value) -> Client
         None => Client {
             prepares_renames: false,
             takes_actions: false,
+            nests_symbols: false,
         },
         Some(abilities) => Client {
             prepares_renames: prepares_renames(abilities).unwrap_or(false),
             takes_actions: action_support(abilities).is_some(),
+            nests_symbols: nests_symbols(abilities).unwrap_or(false),
         },
     }
 }

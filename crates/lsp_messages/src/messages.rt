@@ -105,7 +105,12 @@ pub enum Notice<'a> {
         /// The document's URI.
         uri: &'a str,
     },
-    /// Nothing: the method is not known, or its parameters are not those of the method.
+    /// Something about a document, but the parameters are not those of the method.
+    Lost {
+        /// The document's URI, if it can be read.
+        uri: Option<&'a str>,
+    },
+    /// Nothing: the method is not known, or asks for nothing.
     Nothing,
 }
 

@@ -2,7 +2,7 @@
 ghost use Rattle.std.specs.Prelude.{◌≡◌, IfOk, MatchOption, None, Option, Some, codes, map, option_and_then, option_map};
 ghost use Rattle.serde_json.specs.Find.{get};
 ghost use Rattle.serde_json.specs.View.{items_view, view};
-ghost use Rattle.lsp_messages.specs.Messages.{asked_of, called_of, changed, changed_of, closed_of, edit_of, edits_of, id_in, is_id, message_of, opened_of, optional_range, response_or_fault, told_by, told_of};
+ghost use Rattle.lsp_messages.specs.Messages.{asked_of, called_of, changed, changed_of, closed_of, edit_of, edits_of, id_in, is_id, message_of, opened_of, optional_range, response_or_fault, tells_of_document, told_by, told_of, untold_of, uri_in};
 ghost use Rattle.lsp_messages.specs.Views.{asked_view, edit_view, message_view, told_view};
 
 use crate::asking::{read_asked, topic_of};
@@ -118,6 +118,35 @@ fn read_params<'a>(
     }
 }
 
+// Whether a method is about a document that is opened, changed or closed.
+fn tells_of_document(method: &str) -> bool
+    ensures { result ≡ tells_of_document method.now }
+{
+    matches!(
+        method,
+        "textDocument/didOpen" | "textDocument/didChange" | "textDocument/didClose"
+    )
+}
+
+// The URI of the document that a notification is about.
+fn uri_in(value: &Value) -> Option<&str>
+    ensures { option_map (λ text. text.now) result ≡ uri_in (view value.now) }
+{
+    let document = value.get("params")?.get("textDocument")?;
+    text_at(document, "uri")
+}
+
+// What a notification says whose parameters are not those of the method.
+fn read_untold<'a>(method: &str, value: &'a Value) -> Notice<'a>
+    ensures { told_view result ≡ untold_of method.now (view value.now) }
+{
+    if tells_of_document(method) {
+        Notice::Lost { uri: uri_in(value) }
+    } else {
+        Notice::Nothing
+    }
+}
+
 // What a notification says.
 fn read_notice<'a>(alloc: Global, method: &str, value: &'a Value) -> Result<Notice<'a>, AllocError>
     ensures { IfOk result (λ notice. told_view notice ≡ told_of method.now (view value.now)) }
@@ -126,10 +155,10 @@ fn read_notice<'a>(alloc: Global, method: &str, value: &'a Value) -> Result<Noti
         return Ok(Notice::Exited);
     }
     let Some(params) = value.get("params") else {
-        return Ok(Notice::Nothing);
+        return Ok(read_untold(method, value));
     };
     match read_params(alloc, method, params)? {
-        None => Ok(Notice::Nothing),
+        None => Ok(read_untold(method, value)),
         Some(notice) => Ok(notice),
     }
 }

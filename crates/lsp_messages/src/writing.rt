@@ -1,10 +1,11 @@
 //! The values that a language server sends. Each call writes one object of the protocol.
 ghost use Rattle.std.specs.Prelude.{◌≡◌, IfOk, option_map, unwrap_or};
+ghost use Rattle.std.specs.String.{string_bytes};
 ghost use Rattle.serde_json.specs.Data.{null};
 ghost use Rattle.serde_json.specs.View.{items_view, view};
 ghost use Rattle.lsp_messages.specs.Views.{reply_view};
 ghost use Rattle.lsp_messages.specs.Shapes.{action_options_data, capabilities_data, completion_options_data, initialized_data, rename_options_data, server_data, sync_data};
-ghost use Rattle.lsp_messages.specs.Shapes.{diagnostic_data, failure_data, notification_data, position_data, publish_data, published_data, range_data, refusal_data, reply_data, response_data};
+ghost use Rattle.lsp_messages.specs.Shapes.{diagnostic_data, failure_data, lost_data, lost_sentence, notification_data, position_data, publish_data, published_data, range_data, refusal_data, reply_data, response_data};
 
 use crate::clients::Client;
 use crate::messages::Reply;
@@ -97,6 +98,36 @@ pub fn publish_value(
 {
     let params = published_value(alloc, uri, version, diagnostics)?;
     notification_value(alloc, "textDocument/publishDiagnostics", params)
+}
+
+// What is said where a message about a document could not be read.
+fn lost_sentence(alloc: Global, uri: Option<&str>) -> Result<String, AllocError>
+    ensures { IfOk result (λ text. string_bytes text ≡ lost_sentence (option_map (λ uri. uri.now) uri.entry)) }
+{
+    match uri {
+        None => String::from_str(
+            alloc,
+            "A message about a document could not be read. Close the documents, and open them again.",
+        ),
+        Some(uri) => {
+            format!(in alloc;
+                "A message about {uri} could not be read. Close the document, and open it again."
+            )
+        }
+    }
+}
+
+/// The notification, as an error, that a message about a document could not be read, of which the
+/// URI may be known ("ShowMessage Notification").
+///
+/// # Errors
+/// `AllocError` if memory ran out.
+pub fn lost_value(alloc: Global, uri: Option<&str>) -> Result<Value, AllocError>
+    ensures { IfOk result (λ v. view v ≡ lost_data (option_map (λ uri. uri.now) uri.entry)) }
+{
+    let sentence = lost_sentence(alloc, uri)?;
+    let params = json!(in alloc; {"message": sentence, "type": 1_u32})?;
+    notification_value(alloc, "window/showMessage", params)
 }
 
 /// The answer to a request ("Response Message") with its id.

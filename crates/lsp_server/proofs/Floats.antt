@@ -4,16 +4,17 @@ use Rattle.serde_json.specs.Data.{Num, unsigned, negative, float, Data, null, bo
 use Rattle.serde_json.specs.Find.{as_str, get}
 use Rattle.serde_json.specs.Written.{has_float, items_have_float}
 use Rattle.std.specs.Prelude.{codes, option_and_then}
-use Rattle.lsp_messages.specs.Messages.{Asked, initialize, shutdown, about, unreadable, unknown, Meaning, Query, request, notification, response, faulty}
-use Rattle.lsp_messages.specs.Messages.{Told, exited, opened, changed, closed, nothing, id_in, id_of, message_of, meaning_by, method_meaning, request_of}
+use Rattle.lsp_messages.specs.Messages.{Asked, initialize, shutdown, about, unreadable, unknown, Edit, Meaning, Query, request, notification, response, faulty}
+use Rattle.lsp_messages.specs.Messages.{Told, exited, opened, changed, closed, lost, nothing, id_in, id_of, message_of, meaning_by, method_meaning, request_of}
 use Rattle.lsp_messages.specs.Messages.{told_of}
 use Rattle.lsp_messages.specs.Shapes.{Said, said_answer, said_refusal, action_options_data, publish_data, refusal_data, rename_options_data, reply_data}
 use Rattle.lsp_types.specs.declared.failures.Failure.{Failure}
 use Rattle.lsp_types.specs.declared.failures.Failure.TheVariants.{BadParameters, NoJson, NoMethod, NoRequest, NotInitialized}
 use Rattle.lsp_server.specs.Answers.{answer_data}
 use Rattle.lsp_server.specs.Sayings.{HasNoFloats, SaidHasNoFloat, Sayings}
-use Rattle.lsp_server.specs.Steps.{Answer, ready, done, refused, answered, shown, cleared, Open, Places, State, answered_of, open_at, replied, requested}
-use Rattle.lsp_server.specs.Steps.{requested_fresh, requested_running, step, told, told_in, with_edits}
+use Rattle.lsp_server.specs.Steps.{Answer, ready, done, refused, answered, shown, cleared, warned, Open, Places, State, answered_of, current_of, open_at}
+use Rattle.lsp_messages.specs.declared.clients.Client.{Client}
+use Rattle.lsp_server.specs.Steps.{replied, requested, requested_fresh, requested_running, shown_by_change, step, takes_edits, told, told_in, with_edits}
 use Rattle.lsp_server.specs.declared.phase.Phase.{Phase}
 use Rattle.lsp_server.specs.declared.phase.Phase.TheVariants.{Fresh, Running, Finished, Ended}
 use Rattle.lsp_server.specs.inside.Turns.{HasNoFloat}
@@ -80,9 +81,10 @@ abbrev id_answered : Answer → Option Data
 id_answered (ready id client) = Some id
 id_answered (done id) = Some id
 id_answered (refused id failure) = id
-id_answered (answered id document query) = Some id
+id_answered (answered id client document query) = Some id
 id_answered (shown document) = None
 id_answered (cleared uri) = None
+id_answered (warned uri) = None
 
 plain_refusal : (id : Option Data) (failure : Failure) → HasNoFloat id → has_float (refusal_data id failure) ≡ false
 plain_refusal None failure h = refl
@@ -111,10 +113,11 @@ plain_answer : (says : Sayings) (answer : Answer) → HasNoFloats says → HasNo
 plain_answer says (ready id client) plain h = rw h (rw (plain_actions client.takes_actions) (rw (plain_renames client.prepares_renames) refl))
 plain_answer says (done id) plain h = rw h refl
 plain_answer says (refused id failure) plain h = plain_refusal id failure h
-plain_answer says (answered id document query) plain h =
-    plain_reply id (says.answers document.text document.uri query) h (plain.answers document.text document.uri query)
+plain_answer says (answered id client document query) plain h =
+    plain_reply id (says.answers client document.text document.uri query) h (plain.answers client document.text document.uri query)
 plain_answer says (shown document) plain h = plain_published document.uri document.version (says.diagnostics document.text) (plain.diagnostics document.text)
 plain_answer says (cleared uri) plain h = refl
+plain_answer says (warned uri) plain h = refl
 
 -- ---- steps
 
@@ -129,30 +132,35 @@ plain_fresh says id (about uri query) plain h = plain_answer says (refused (Some
 plain_fresh says id unreadable plain h = plain_answer says (refused (Some id) NotInitialized) plain h
 plain_fresh says id unknown plain h = plain_answer says (refused (Some id) NotInitialized) plain h
 
-plain_about : (says : Sayings) (id : Data) (query : Query) (found : Option Open) → HasNoFloats says → has_float id ≡ false
-    → has_float (answer_data says (answered_of id query found)) ≡ false
-plain_about says id query None plain h = plain_answer says (refused (Some id) BadParameters) plain h
-plain_about says id query (Some document) plain h = plain_answer says (answered id document query) plain h
+plain_about : (says : Sayings) (id : Data) (client : Client) (query : Query) (found : Option Open) → HasNoFloats says → has_float id ≡ false
+    → has_float (answer_data says (answered_of id client query found)) ≡ false
+plain_about says id client query None plain h = plain_answer says (refused (Some id) BadParameters) plain h
+plain_about says id client query (Some document) plain h = plain_answer says (answered id client document query) plain h
 
-plain_running : (says : Sayings) (documents : List Open) (id : Data) (asked : Asked) → HasNoFloats says → has_float id ≡ false
-    → has_float (answer_data says (requested_running documents id asked).1) ≡ false
-plain_running says documents id (initialize client) plain h = plain_answer says (refused (Some id) NoRequest) plain h
-plain_running says documents id shutdown plain h = plain_answer says (done id) plain h
-plain_running says documents id (about uri query) plain h = plain_about says id query (open_at uri documents) plain h
-plain_running says documents id unreadable plain h = plain_answer says (refused (Some id) BadParameters) plain h
-plain_running says documents id unknown plain h = plain_answer says (refused (Some id) NoMethod) plain h
+plain_running : (says : Sayings) (client : Client) (documents : List Open) (id : Data) (asked : Asked) → HasNoFloats says → has_float id ≡ false
+    → has_float (answer_data says (requested_running client documents id asked).1) ≡ false
+plain_running says client documents id (initialize other) plain h = plain_answer says (refused (Some id) NoRequest) plain h
+plain_running says client documents id shutdown plain h = plain_answer says (done id) plain h
+plain_running says client documents id (about uri query) plain h = plain_about says id client query (current_of (open_at uri documents)) plain h
+plain_running says client documents id unreadable plain h = plain_answer says (refused (Some id) BadParameters) plain h
+plain_running says client documents id unknown plain h = plain_answer says (refused (Some id) NoMethod) plain h
 
 plain_requested : (says : Sayings) (documents : List Open) (phase : Phase) (id : Data) (asked : Asked) → HasNoFloats says → has_float id ≡ false
     → has_float (answer_data says (requested documents phase id asked).1) ≡ false
 plain_requested says documents Fresh id asked plain h = plain_fresh says id asked plain h
-plain_requested says documents Running id asked plain h = plain_running says documents id asked plain h
+plain_requested says documents (Running client) id asked plain h = plain_running says client documents id asked plain h
 plain_requested says documents Finished id asked plain h = plain_answer says (refused (Some id) NoRequest) plain h
 plain_requested says documents (Ended status) id asked plain h = plain_answer says (refused (Some id) NoRequest) plain h
 
-plain_changed : (says : Sayings) (change : Open → Open) (found : Option Open) → HasNoFloats says
-    → IsPlain says (option_map (λ document. shown (change document)) found)
-plain_changed says change None plain = tt
-plain_changed says change (Some document) plain = plain_answer says (shown (change document)) plain tt
+plain_if : (says : Sayings) (takes : Bool) (document : Open) → HasNoFloats says → IsPlain says (cond takes (Some (shown document)) None)
+plain_if says false document plain = tt
+plain_if says true document plain = plain_answer says (shown document) plain tt
+
+plain_changed : (says : Sayings) (places : Places) (version : Option ℕ) (edits : List Edit) (found : Option Open) → HasNoFloats says
+    → IsPlain says (option_and_then (shown_by_change places version edits) found)
+plain_changed says places version edits None plain = tt
+plain_changed says places version edits (Some document) plain =
+    plain_if says (takes_edits edits document) (with_edits places version edits document) plain
 
 plain_closed : (says : Sayings) (uri : List ℕ) (found : Option Open) → IsPlain says (option_map (λ document. cleared uri) found)
 plain_closed says uri None = tt
@@ -160,15 +168,16 @@ plain_closed says uri (Some document) = refl
 
 plain_told : (says : Sayings) (places : Places) (notice : Told) (documents : List Open) → HasNoFloats says → IsPlain says (told places notice documents).1
 plain_told says places exited documents plain = tt
-plain_told says places (opened uri version text) documents plain = plain_answer says (shown (record { uri = uri; version = version; text = text })) plain tt
-plain_told says places (changed uri version edits) documents plain = plain_changed says (with_edits places version edits) (open_at uri documents) plain
+plain_told says places (opened uri version text) documents plain = plain_answer says (shown (record { uri = uri; version = version; text = text; current = true })) plain tt
+plain_told says places (changed uri version edits) documents plain = plain_changed says places version edits (open_at uri documents) plain
 plain_told says places (closed uri) documents plain = plain_closed says uri (open_at uri documents)
+plain_told says places (lost uri) documents plain = plain_answer says (warned uri) plain tt
 plain_told says places nothing documents plain = tt
 
 plain_told_in : (says : Sayings) (places : Places) (phase : Phase) (notice : Told) (documents : List Open) → HasNoFloats says
     → IsPlain says (told_in places phase notice documents).1
 plain_told_in says places Fresh notice documents plain = tt
-plain_told_in says places Running notice documents plain = plain_told says places notice documents plain
+plain_told_in says places (Running client) notice documents plain = plain_told says places notice documents plain
 plain_told_in says places Finished notice documents plain = tt
 plain_told_in says places (Ended status) notice documents plain = tt
 

@@ -1,16 +1,18 @@
 -- What is shown for a URI after a message is the document that is open under it, if it was so
 -- before.
-use Rattle.std.proofs.Common.{ℕ, ◌≡◌, List, [], ◌∷◌, ◌++◌, Bool, true, false, cond, not, Option, None, Some, option_map, refl, sym, ap, subst, ◌∙◌}
+use Rattle.std.proofs.Common.{ℕ, ◌≡◌, List, [], ◌∷◌, ◌++◌, Bool, true, false, cond, not, Option, None, Some, option_and_then, option_map, refl, sym, ap, subst, ◌∙◌}
 use Rattle.std.specs.Option.{option_to_list}
 use Rattle.std.specs.Str.{bytes_eq}
 use Rattle.std.proofs.lemmas.Slice.Eq.{bytes_eq-Decides}
 use Rattle.serde_json.specs.Data.{Data}
-use Rattle.lsp_messages.specs.Messages.{Asked, initialize, shutdown, about, unreadable, unknown, Meaning, message_of, Query, request, notification}
-use Rattle.lsp_messages.specs.Messages.{response, faulty, Told, exited, opened, changed, closed, nothing}
+use Rattle.lsp_messages.specs.Messages.{Asked, initialize, shutdown, about, unreadable, unknown, Edit, Meaning, message_of, Query, request, notification}
+use Rattle.lsp_messages.specs.Messages.{response, faulty, Told, exited, opened, changed, closed, lost, nothing}
+use Rattle.lsp_messages.specs.declared.clients.Client.{Client}
 use Rattle.lsp_server.specs.Runs.{AnswersAreOfShownTexts, answers_to, last_shown, shown_by, state_after, OpenDocumentsAreShown}
 use Rattle.lsp_server.specs.Serving.{ServedDocumentsAreShown, replies_to, served_state}
-use Rattle.lsp_server.specs.Steps.{Answer, shown, cleared, Open, Places, State, answered_of, at_start, open_at, requested, requested_fresh}
-use Rattle.lsp_server.specs.Steps.{requested_running, replied, step, told, told_in, with_change, with_document, with_edits, without}
+use Rattle.lsp_server.specs.Steps.{Answer, shown, cleared, warned, Open, Places, State, answered_of, at_start, changed_by, current_of, lost_at, open_at, outdated}
+use Rattle.lsp_server.specs.Steps.{requested, requested_fresh, requested_running, replied, shown_by_change, step, takes_edits, told, told_in, with_change}
+use Rattle.lsp_server.specs.Steps.{with_document, with_edits, without}
 use Rattle.lsp_server.specs.declared.phase.Phase.{Phase}
 use Rattle.lsp_server.specs.declared.phase.Phase.TheVariants.{Fresh, Running, Finished, Ended}
 
@@ -75,58 +77,90 @@ found_has : (uri : List ℕ) (ds : List Open) (d : Open) → open_at uri ds ≡ 
 found_has uri [] d e = cc
 found_has uri (x ∷ ds) d e = found_in uri x ds d (bytes_eq x.uri uri) refl (found_has uri ds d) e
 
--- an answer that shows a document of another URI changes nothing
-other_shown : (uri other : List ℕ) (before : Option Open) (change : Open → Open) (keeps : (d : Open) → (change d).uri ≡ d.uri) (found : Option Open)
-    → ((d : Open) → found ≡ Some d → bytes_eq d.uri other ≡ true) → bytes_eq other uri ≡ false
-    → shown_after uri before (option_map (λ d. shown (change d)) found) ≡ before
-other_shown uri other before change keeps None has differ = refl
-other_shown uri other before change keeps (Some d) has differ =
-    let same : bytes_eq (change d).uri uri ≡ false = ap (λ (u : List ℕ). bytes_eq u uri) (keeps d ∙ same_uri d.uri other (has d refl)) ∙ differ in
-    rw same refl
+change_none : (change : Open → Open) (r : Bool) → None ≡ cond r (option_map change None) None
+change_none change true = refl
+change_none change false = refl
 
-changed_by : (q r : Bool) (a b x : Option Open) → q ≡ r → cond r a (cond q b x) ≡ cond r a x
-changed_by true true a b x e = refl
-changed_by false false a b x e = refl
-changed_by true false a b x e = absurd (clash true refl e)
-changed_by false true a b x e = refl
+change_first : (change : Open → Open) (s q r : Bool) (d : Open) (rest : Option Open) → s ≡ q → q ≡ r
+    → cond s (Some (change d)) rest ≡ cond r (option_map change (cond q (Some d) rest)) (cond q (Some d) rest)
+change_first change true true true d rest e f = refl
+change_first change false false false d rest e f = refl
+change_first change true false r d rest e f = absurd (clash true refl e)
+change_first change false true r d rest e f = absurd (clash false e refl)
+change_first change true true false d rest e f = absurd (clash true refl f)
+change_first change false false true d rest e f = absurd (clash false f refl)
 
--- one that is changed first, or later
-changed_first : (uri : List ℕ) (change : Open → Open) (keeps : (d : Open) → (change d).uri ≡ d.uri) (d : Open) (rest : Option Open)
-    → shown_by uri (cond (bytes_eq d.uri uri) (Some d) rest) (shown (change d)) ≡ cond (bytes_eq (change d).uri uri) (Some (change d)) rest
-changed_first uri change keeps d rest =
-    changed_by (bytes_eq d.uri uri) (bytes_eq (change d).uri uri) (Some (change d)) (Some d) rest (ap (λ (u : List ℕ). bytes_eq u uri) (sym (keeps d)))
+change_later : (change : Open → Open) (q r : Bool) (d : Open) (x y : Option Open) → (q ≡ true → r ≡ true → ⊥)
+    → y ≡ cond r (option_map change x) x → cond q (Some d) y ≡ cond r (option_map change (cond q (Some d) x)) (cond q (Some d) x)
+change_later change true true d x y differ e = absurd (differ refl refl)
+change_later change true false d x y differ e = refl
+change_later change false r d x y differ e = e
 
-is_false : (b : Bool) → (b ≡ true → ⊥) → b ≡ false
-is_false true h = absurd (h refl)
-is_false false h = refl
+module _ (uri other : List ℕ) (change : Open → Open) (keeps : (d : Open) → (change d).uri ≡ d.uri) where
+  change_in : (d : Open) (ds : List Open) (p : Bool) → bytes_eq d.uri other ≡ p
+      → open_at uri (with_change other change ds) ≡ cond (bytes_eq other uri) (option_map change (open_at uri ds)) (open_at uri ds)
+      → open_at uri (cond p (change d ∷ ds) (d ∷ with_change other change ds))
+      ≡ cond (bytes_eq other uri) (option_map change (cond (bytes_eq d.uri uri) (Some d) (open_at uri ds))) (cond (bytes_eq d.uri uri) (Some d) (open_at uri ds))
+  change_in d ds true e h =
+      change_first change (bytes_eq (change d).uri uri) (bytes_eq d.uri uri) (bytes_eq other uri) d (open_at uri ds)
+      (ap (λ (u : List ℕ). bytes_eq u uri) (keeps d)) (tests_agree d.uri other uri e)
+  change_in d ds false e h =
+      change_later change (bytes_eq d.uri uri) (bytes_eq other uri) d (open_at uri ds) (open_at uri (with_change other change ds))
+      (one_at_most d.uri other uri e) h
 
-not_same : (a b : List ℕ) → (bytes_eq a b ≡ true → ⊥) → bytes_eq a b ≡ false
-not_same a b h = is_false (bytes_eq a b) h
+  -- the document of that URI is changed, and no other
+  open_at-with_change : (ds : List Open)
+      → open_at uri (with_change other change ds) ≡ cond (bytes_eq other uri) (option_map change (open_at uri ds)) (open_at uri ds)
+  open_at-with_change [] = change_none change (bytes_eq other uri)
+  open_at-with_change (d ∷ ds) = change_in d ds (bytes_eq d.uri other) refl (open_at-with_change ds)
 
-changed_later : (uri other : List ℕ) (change : Open → Open) (keeps : (d : Open) → (change d).uri ≡ d.uri) (d : Open) (ds : List Open) (q : Bool)
-    → bytes_eq d.uri uri ≡ q
-    → bytes_eq d.uri other ≡ false → shown_after uri (open_at uri ds) (option_map (λ x. shown (change x)) (open_at other ds))
-    ≡ open_at uri (with_change other change ds)
-    → shown_after uri (cond q (Some d) (open_at uri ds)) (option_map (λ x. shown (change x)) (open_at other ds))
-    ≡ cond q (Some d) (open_at uri (with_change other change ds))
-changed_later uri other change keeps d ds true e differ h =
-    let apart : bytes_eq other uri ≡ false =
-    not_same other uri (λ same. clash (bytes_eq d.uri other) (is_same d.uri other (same_uri d.uri uri e ∙ sym (same_uri other uri same))) differ) in
-    other_shown uri other (Some d) change keeps (open_at other ds) (found_has other ds) apart
-changed_later uri other change keeps d ds false e differ h = h
+keeps_if : (b : Bool) (x d : Open) → x.uri ≡ d.uri → (cond b x d).uri ≡ d.uri
+keeps_if true x d e = e
+keeps_if false x d e = refl
 
-change_in : (uri other : List ℕ) (change : Open → Open) (keeps : (d : Open) → (change d).uri ≡ d.uri) (d : Open) (ds : List Open) (p : Bool)
-    → bytes_eq d.uri other ≡ p
-    → shown_after uri (open_at uri ds) (option_map (λ x. shown (change x)) (open_at other ds)) ≡ open_at uri (with_change other change ds)
-    → shown_after uri (cond (bytes_eq d.uri uri) (Some d) (open_at uri ds)) (option_map (λ x. shown (change x)) (cond p (Some d) (open_at other ds)))
-    ≡ open_at uri (cond p (change d ∷ ds) (d ∷ with_change other change ds))
-change_in uri other change keeps d ds true e h = changed_first uri change keeps d (open_at uri ds)
-change_in uri other change keeps d ds false e h = changed_later uri other change keeps d ds (bytes_eq d.uri uri) refl e h
+other_if : (uri : List ℕ) (before : Option Open) (b : Bool) (x : Open) → bytes_eq x.uri uri ≡ false
+    → shown_after uri before (cond b (Some (shown x)) None) ≡ before
+other_if uri before false x e = refl
+other_if uri before true x e = rw e refl
 
-shown_changed : (uri other : List ℕ) (change : Open → Open) (keeps : (d : Open) → (change d).uri ≡ d.uri) (ds : List Open)
-    → shown_after uri (open_at uri ds) (option_map (λ x. shown (change x)) (open_at other ds)) ≡ open_at uri (with_change other change ds)
-shown_changed uri other change keeps [] = refl
-shown_changed uri other change keeps (d ∷ ds) = change_in uri other change keeps d ds (bytes_eq d.uri other) refl (shown_changed uri other change keeps ds)
+same_if : (uri : List ℕ) (b : Bool) (x d : Open) → bytes_eq x.uri uri ≡ true → shown_after uri (Some d) (cond b (Some (shown x)) None) ≡ Some (cond b x d)
+same_if uri false x d e = refl
+same_if uri true x d e = rw e refl
+
+module _ (places : Places) (version : Option ℕ) (edits : List Edit) (uri : List ℕ) where
+  -- an answer that shows a document of another URI changes nothing
+  other_shown : (other : List ℕ) (before found : Option Open) → ((d : Open) → found ≡ Some d → bytes_eq d.uri other ≡ true) → bytes_eq other uri ≡ false
+      → shown_after uri before (option_and_then (shown_by_change places version edits) found) ≡ before
+  other_shown other before None has differ = refl
+  other_shown other before (Some d) has differ =
+      other_if uri before (takes_edits edits d) (with_edits places version edits d)
+      (ap (λ (u : List ℕ). bytes_eq u uri) (same_uri d.uri other (has d refl)) ∙ differ)
+
+  same_shown : (found : Option Open) → ((d : Open) → found ≡ Some d → bytes_eq d.uri uri ≡ true)
+      → shown_after uri found (option_and_then (shown_by_change places version edits) found) ≡ option_map (changed_by places version edits) found
+  same_shown None has = refl
+  same_shown (Some d) has = same_if uri (takes_edits edits d) (with_edits places version edits d) d (has d refl)
+
+  shown_either : (other : List ℕ) (ds : List Open) (r : Bool) → bytes_eq other uri ≡ r
+      → shown_after uri (open_at uri ds) (option_and_then (shown_by_change places version edits) (open_at other ds))
+      ≡ cond r (option_map (changed_by places version edits) (open_at uri ds)) (open_at uri ds)
+  shown_either other ds true e =
+      ap (λ (u : List ℕ). shown_after uri (open_at uri ds) (option_and_then (shown_by_change places version edits) (open_at u ds))) (same_uri other uri e)
+      ∙ same_shown (open_at uri ds) (found_has uri ds)
+  shown_either other ds false e = other_shown other (open_at uri ds) (open_at other ds) (found_has other ds) e
+
+  shown_changed : (other : List ℕ) (ds : List Open)
+      → shown_after uri (open_at uri ds) (option_and_then (shown_by_change places version edits) (open_at other ds))
+      ≡ open_at uri (with_change other (changed_by places version edits) ds)
+  shown_changed other ds =
+      shown_either other ds (bytes_eq other uri) refl
+      ∙ sym (open_at-with_change uri other (changed_by places version edits)
+      (λ d. keeps_if (takes_edits edits d) (with_edits places version edits d) d refl) ds)
+
+-- what is not read of a document has it out of date
+shown_lost : (uri : List ℕ) (lost : Option (List ℕ)) (ds : List Open) → shown_by uri (open_at uri ds) (warned lost) ≡ open_at uri (lost_at lost ds)
+shown_lost uri None ds = refl
+shown_lost uri (Some other) ds = sym (open_at-with_change uri other outdated (λ d. refl) ds)
 
 -- ---- a document that is closed
 
@@ -176,15 +210,16 @@ closed_by uri other ds false e = cleared_other uri other (open_at uri ds) (open_
 shown_told : (places : Places) (uri : List ℕ) (notice : Told) (ds : List Open) → shown_after uri (open_at uri ds) (told places notice ds).1
     ≡ open_at uri (told places notice ds).0
 shown_told places uri exited ds = refl
-shown_told places uri (opened other version text) ds = sym (open_at-with_document uri (record { uri = other; version = version; text = text }) ds)
-shown_told places uri (changed other version edits) ds = shown_changed uri other (with_edits places version edits) (λ d. refl) ds
+shown_told places uri (opened other version text) ds = sym (open_at-with_document uri (record { uri = other; version = version; text = text; current = true }) ds)
+shown_told places uri (changed other version edits) ds = shown_changed places version edits uri other ds
 shown_told places uri (closed other) ds = closed_by uri other ds (bytes_eq other uri) refl
+shown_told places uri (lost other) ds = shown_lost uri other ds
 shown_told places uri nothing ds = refl
 
 shown_in : (places : Places) (uri : List ℕ) (phase : Phase) (notice : Told) (ds : List Open)
     → shown_after uri (open_at uri ds) (told_in places phase notice ds).1 ≡ open_at uri (told_in places phase notice ds).0
 shown_in places uri Fresh notice ds = refl
-shown_in places uri Running notice ds = shown_told places uri notice ds
+shown_in places uri (Running client) notice ds = shown_told places uri notice ds
 shown_in places uri Finished notice ds = refl
 shown_in places uri (Ended status) notice ds = refl
 
@@ -195,23 +230,23 @@ shown_fresh uri before id (about other query) = refl
 shown_fresh uri before id unreadable = refl
 shown_fresh uri before id unknown = refl
 
-shown_about : (uri : List ℕ) (before : Option Open) (id : Data) (query : Query) (found : Option Open)
-    → shown_by uri before (answered_of id query found) ≡ before
-shown_about uri before id query None = refl
-shown_about uri before id query (Some document) = refl
+shown_about : (uri : List ℕ) (before : Option Open) (id : Data) (client : Client) (query : Query) (found : Option Open)
+    → shown_by uri before (answered_of id client query found) ≡ before
+shown_about uri before id client query None = refl
+shown_about uri before id client query (Some document) = refl
 
-shown_running : (uri : List ℕ) (before : Option Open) (documents : List Open) (id : Data) (asked : Asked)
-    → shown_by uri before (requested_running documents id asked).1 ≡ before
-shown_running uri before documents id (initialize client) = refl
-shown_running uri before documents id shutdown = refl
-shown_running uri before documents id (about other query) = shown_about uri before id query (open_at other documents)
-shown_running uri before documents id unreadable = refl
-shown_running uri before documents id unknown = refl
+shown_running : (uri : List ℕ) (before : Option Open) (client : Client) (documents : List Open) (id : Data) (asked : Asked)
+    → shown_by uri before (requested_running client documents id asked).1 ≡ before
+shown_running uri before client documents id (initialize other) = refl
+shown_running uri before client documents id shutdown = refl
+shown_running uri before client documents id (about other query) = shown_about uri before id client query (current_of (open_at other documents))
+shown_running uri before client documents id unreadable = refl
+shown_running uri before client documents id unknown = refl
 
 shown_requested : (uri : List ℕ) (before : Option Open) (documents : List Open) (phase : Phase) (id : Data) (asked : Asked)
     → shown_by uri before (requested documents phase id asked).1 ≡ before
 shown_requested uri before documents Fresh id asked = shown_fresh uri before id asked
-shown_requested uri before documents Running id asked = shown_running uri before documents id asked
+shown_requested uri before documents (Running client) id asked = shown_running uri before client documents id asked
 shown_requested uri before documents Finished id asked = refl
 shown_requested uri before documents (Ended status) id asked = refl
 
@@ -243,15 +278,16 @@ all_shown places messages uri = shown_through places uri at_start messages
 -- ---- questions
 
 -- a question to a server in that phase
-asked_in : (places : Places) (phase : Phase) (state : State) (id : Data) (uri : List ℕ) (query : Query) → state.phase ≡ phase → phase ≡ Running
-    → (step places state (request id (about uri query))).1 ≡ Some (answered_of id query (open_at uri state.documents))
-asked_in places phase state id uri query is runs = rw (is ∙ runs) refl
+asked_in : (places : Places) (phase : Phase) (state : State) (client : Client) (id : Data) (uri : List ℕ) (query : Query)
+    → state.phase ≡ phase → phase ≡ Running client
+    → (step places state (request id (about uri query))).1 ≡ Some (answered_of id client query (current_of (open_at uri state.documents)))
+asked_in places phase state client id uri query is runs = rw (is ∙ runs) refl
 
 pub all_answered : AnswersAreOfShownTexts
-all_answered places messages id uri query runs =
+all_answered places messages client id uri query runs =
     let state = state_after places at_start messages in
-    asked_in places state.phase state id uri query refl runs
-    ∙ ap (λ (found : Option Open). Some (answered_of id query found)) (sym (all_shown places messages uri))
+    asked_in places state.phase state client id uri query refl runs
+    ∙ ap (λ (found : Option Open). Some (answered_of id client query (current_of found))) (sym (all_shown places messages uri))
 
 -- ---- runs of frames
 

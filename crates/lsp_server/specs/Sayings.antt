@@ -3,12 +3,14 @@ use Rattle.std.specs.Prelude.{ℕ, ◌≡◌, List, false}
 use Rattle.serde_json.specs.Data.{Items}
 use Rattle.serde_json.specs.Written.{has_float, items_have_float}
 use Rattle.lsp_messages.specs.Messages.{Query}
+use Rattle.lsp_messages.specs.declared.clients.Client.{Client}
 use Rattle.lsp_messages.specs.Shapes.{Said, said_answer, said_refusal}
 
--- the diagnostics of a text, and what comes of questions about it, under the URI of its document
+-- the diagnostics of a text, and what comes of questions of a client about it, under the URI of its
+-- document
 pub record Sayings : Type 0 where
   pub diagnostics : List ℕ → Items
-  pub answers : List ℕ → List ℕ → Query → Said
+  pub answers : Client → List ℕ → List ℕ → Query → Said
 
 -- an answer has no float; a refusal never has one
 abbrev pub SaidHasNoFloat : Said → Type 0
@@ -18,4 +20,4 @@ SaidHasNoFloat (said_refusal failure) = Unit {0}
 -- nothing that is said has a float, whose text would not be known
 pub record HasNoFloats (says : Sayings) : Type 0 where
   pub diagnostics : (text : List ℕ) → items_have_float (says.diagnostics text) ≡ false
-  pub answers : (text uri : List ℕ) (query : Query) → SaidHasNoFloat (says.answers text uri query)
+  pub answers : (client : Client) (text uri : List ℕ) (query : Query) → SaidHasNoFloat (says.answers client text uri query)

@@ -13,7 +13,7 @@ use Rattle.lsp_server.specs.declared.server.Server.{Server}
 
 -- a document that is held in memory, as plain data
 abbrev pub open_view : {D : Type 0} → (D → List ℕ) → Opened D → Open
-open_view text_of document = record { uri = string_bytes document.uri; version = document.version; text = text_of document.source }
+open_view text_of document = record { uri = string_bytes document.uri; version = document.version; text = text_of document.source; current = document.is_current }
 
 -- the documents that are held in memory, as plain data
 abbrev pub documents_view : {D : Type 0} → (D → List ℕ) → List (Opened D) → List Open
@@ -26,7 +26,7 @@ state_of text_of server = record { phase = server.phase; documents = documents_v
 -- the status of the process, once the server has ended
 abbrev pub phase_status : Phase → Option ℕ
 phase_status Fresh = None
-phase_status Running = None
+phase_status (Running client) = None
 phase_status Finished = None
 phase_status (Ended status) = Some status
 

@@ -1,11 +1,12 @@
 -- What the server does with a message (LSP 3.17, "Server lifecycle" and "Text Document
 -- Synchronization").
-use Rattle.std.specs.Prelude.{ℕ, ◌++◌, List, [], ◌∷◌, not, Option, None, Some, drop, max, option_map, take, if◌then◌else◌}
+use Rattle.std.specs.Prelude.{ℕ, ◌++◌, ◌||◌, List, [], ◌∷◌, Bool, false, true, not, Option, None, Some, drop, is_some, max, option_and_then, option_map, take}
+use Rattle.std.specs.Prelude.{if◌then◌else◌}
 use Rattle.std.specs.List.{filter}
 use Rattle.std.specs.Str.{bytes_eq}
 use Rattle.serde_json.specs.Data.{Data}
 use Rattle.lsp_messages.specs.Messages.{Asked, initialize, shutdown, about, unreadable, unknown, Edit, Meaning, message_of, Query, request, notification}
-use Rattle.lsp_messages.specs.Messages.{response, faulty, Told, exited, opened, changed, closed, nothing}
+use Rattle.lsp_messages.specs.Messages.{response, faulty, Told, exited, opened, changed, closed, lost, nothing}
 use Rattle.lsp_types.specs.declared.failures.Failure.{Failure}
 use Rattle.lsp_types.specs.declared.failures.Failure.TheVariants.{BadParameters, NoJson, NoMethod, NoRequest, NotInitialized}
 use Rattle.lsp_messages.specs.declared.clients.Client.{Client}
@@ -14,11 +15,13 @@ use Rattle.lsp_types.specs.declared.places.Range.{Range}
 use Rattle.lsp_server.specs.declared.phase.Phase.{Phase}
 use Rattle.lsp_server.specs.declared.phase.Phase.TheVariants.{Fresh, Running, Finished, Ended}
 
--- an open document; its version may not be known
+-- an open document; its version may not be known; it is current if its text is that of the client,
+-- or out of date since a message about it was not read
 pub record Open : Type 0 where
   pub uri : List ℕ
   pub version : Option ℕ
   pub text : List ℕ
+  pub current : Bool
 
 -- where the server is in its life, and the documents that are open
 pub record State : Type 0 where
@@ -26,15 +29,16 @@ pub record State : Type 0 where
   pub documents : List Open
 
 -- what is sent: that the server is ready for a client, or will end, or why a request is refused;
--- what comes of a question about a document; the diagnostics of a document, or none of one that was
--- closed
+-- what comes of a question of a client about a document; the diagnostics of a document, or none of
+-- one that was closed; that a message about a document, whose URI may be known, was not read
 pub data Answer : Type 0 where
   ready : Data → Client → Answer
   done : Data → Answer
   refused : Option Data → Failure → Answer
-  answered : Data → Open → Query → Answer
+  answered : Data → Client → Open → Query → Answer
   shown : Open → Answer
   cleared : List ℕ → Answer
+  warned : Option (List ℕ) → Answer
 
 -- the state before the first message: no document is open
 abbrev pub at_start : State
@@ -48,28 +52,33 @@ open_at uri (document ∷ documents) = if bytes_eq document.uri uri then Some do
 -- ---- requests
 
 abbrev pub requested_fresh : Data → Asked → Phase × Answer
-requested_fresh id (initialize client) = (Running, ready id client)
+requested_fresh id (initialize client) = (Running client, ready id client)
 requested_fresh id shutdown = (Fresh, refused (Some id) NotInitialized)
 requested_fresh id (about uri query) = (Fresh, refused (Some id) NotInitialized)
 requested_fresh id unreadable = (Fresh, refused (Some id) NotInitialized)
 requested_fresh id unknown = (Fresh, refused (Some id) NotInitialized)
 
--- a question about a document is answered if it is open
-abbrev pub answered_of : Data → Query → Option Open → Answer
-answered_of id query None = refused (Some id) BadParameters
-answered_of id query (Some document) = answered id document query
+-- the document, if it is current
+abbrev pub current_of : Option Open → Option Open
+current_of None = None
+current_of (Some document) = if document.current then Some document else None
 
-abbrev pub requested_running : List Open → Data → Asked → Phase × Answer
-requested_running documents id (initialize client) = (Running, refused (Some id) NoRequest)
-requested_running documents id shutdown = (Finished, done id)
-requested_running documents id (about uri query) = (Running, answered_of id query (open_at uri documents))
-requested_running documents id unreadable = (Running, refused (Some id) BadParameters)
-requested_running documents id unknown = (Running, refused (Some id) NoMethod)
+-- a question of a client about a document is answered if there is one
+abbrev pub answered_of : Data → Client → Query → Option Open → Answer
+answered_of id client query None = refused (Some id) BadParameters
+answered_of id client query (Some document) = answered id client document query
+
+abbrev pub requested_running : Client → List Open → Data → Asked → Phase × Answer
+requested_running client documents id (initialize other) = (Running client, refused (Some id) NoRequest)
+requested_running client documents id shutdown = (Finished, done id)
+requested_running client documents id (about uri query) = (Running client, answered_of id client query (current_of (open_at uri documents)))
+requested_running client documents id unreadable = (Running client, refused (Some id) BadParameters)
+requested_running client documents id unknown = (Running client, refused (Some id) NoMethod)
 
 -- what becomes of the phase, and the answer
 abbrev pub requested : List Open → Phase → Data → Asked → Phase × Answer
 requested documents Fresh id asked = requested_fresh id asked
-requested documents Running id asked = requested_running documents id asked
+requested documents (Running client) id asked = requested_running client documents id asked
 requested documents Finished id asked = (Finished, refused (Some id) NoRequest)
 requested documents (Ended status) id asked = (Ended status, refused (Some id) NoRequest)
 
@@ -114,14 +123,39 @@ without uri documents = filter (λ document. not (bytes_eq document.uri uri)) do
 -- a document whose text is edited
 abbrev pub with_edits : Places → Option ℕ → List Edit → Open → Open
 with_edits places version edits document =
-    record { uri = document.uri; version = version; text = edited places document.text edits }
+    record { uri = document.uri; version = version; text = edited places document.text edits; current = true }
+
+-- one of the edits sends the whole text
+abbrev pub send_whole : List Edit → Bool
+send_whole [] = false
+send_whole (edit ∷ edits) = not (is_some edit.range) || send_whole edits
+
+-- a document takes edits if it is current, or is so after them
+abbrev pub takes_edits : List Edit → Open → Bool
+takes_edits edits document = document.current || send_whole edits
+
+-- the document after them, and what is sent of it
+abbrev pub changed_by : Places → Option ℕ → List Edit → Open → Open
+changed_by places version edits document = if takes_edits edits document then with_edits places version edits document else document
+
+abbrev pub shown_by_change : Places → Option ℕ → List Edit → Open → Option Answer
+shown_by_change places version edits document =
+    if takes_edits edits document then Some (shown (with_edits places version edits document)) else None
 
 -- what becomes of the documents, and what is sent
 abbrev pub changed_at : Places → List ℕ → Option ℕ → List Edit → List Open → List Open × Option Answer
 changed_at places uri version edits documents = (
-  with_change uri (with_edits places version edits) documents,
-  option_map (λ document. shown (with_edits places version edits document)) (open_at uri documents),
+  with_change uri (changed_by places version edits) documents,
+  option_and_then (shown_by_change places version edits) (open_at uri documents),
 )
+
+-- a document that is not current any more
+abbrev pub outdated : Open → Open
+outdated document = record { uri = document.uri; version = document.version; text = document.text; current = false }
+
+abbrev pub lost_at : Option (List ℕ) → List Open → List Open
+lost_at None documents = documents
+lost_at (Some uri) documents = with_change uri outdated documents
 
 abbrev pub closed_at : List ℕ → List Open → List Open × Option Answer
 closed_at uri documents = (without uri documents, option_map (λ document. cleared uri) (open_at uri documents))
@@ -129,11 +163,12 @@ closed_at uri documents = (without uri documents, option_map (λ document. clear
 abbrev pub told : Places → Told → List Open → List Open × Option Answer
 told places exited documents = (documents, None)
 told places (opened uri version text) documents = (
-  with_document (record { uri = uri; version = version; text = text }) documents,
-  Some (shown (record { uri = uri; version = version; text = text })),
+  with_document (record { uri = uri; version = version; text = text; current = true }) documents,
+  Some (shown (record { uri = uri; version = version; text = text; current = true })),
 )
 told places (changed uri version edits) documents = changed_at places uri version edits documents
 told places (closed uri) documents = closed_at uri documents
+told places (lost uri) documents = (lost_at uri documents, Some (warned uri))
 told places nothing documents = (documents, None)
 
 -- ---- messages
@@ -141,7 +176,7 @@ told places nothing documents = (documents, None)
 -- `exit` ends the server, well after `shutdown` alone
 abbrev pub ended_by : Phase → Phase
 ended_by Fresh = Ended 1
-ended_by Running = Ended 1
+ended_by (Running client) = Ended 1
 ended_by Finished = Ended 0
 ended_by (Ended status) = Ended status
 
@@ -151,12 +186,13 @@ phase_told phase exited = ended_by phase
 phase_told phase (opened uri version text) = phase
 phase_told phase (changed uri version edits) = phase
 phase_told phase (closed uri) = phase
+phase_told phase (lost uri) = phase
 phase_told phase nothing = phase
 
 -- documents are told about notifications while the server runs
 abbrev pub told_in : Places → Phase → Told → List Open → List Open × Option Answer
 told_in places Fresh notice documents = (documents, None)
-told_in places Running notice documents = told places notice documents
+told_in places (Running client) notice documents = told places notice documents
 told_in places Finished notice documents = (documents, None)
 told_in places (Ended status) notice documents = (documents, None)
 

@@ -1,17 +1,17 @@
 //! The documents that are open.
-ghost use Rattle.std.specs.Prelude.{◌≡◌, ◌<◌, IfOk, IfSome, OnOk, length, map, option_map};
+ghost use Rattle.std.specs.Prelude.{◌≡◌, ◌<◌, IfOk, IfSome, OnOk, Some, length, map, option_map, true};
 ghost use Rattle.serde_json.specs.View.{view};
 ghost use Rattle.lsp_messages.specs.Shapes.{publish_data};
 ghost use Rattle.lsp_messages.specs.Views.{edit_view, question_view, reply_view};
 ghost use Rattle.lsp_server.specs.Answers.{answer_data};
 ghost use Rattle.lsp_server.specs.States.{documents_view, open_view};
-ghost use Rattle.lsp_server.specs.Steps.{changed_at, closed_at, open_at, shown, with_document, with_edits, without};
+ghost use Rattle.lsp_server.specs.Steps.{changed_at, changed_by, closed_at, current_of, lost_at, open_at, outdated, shown, shown_by_change, takes_edits, warned, with_change, with_document, with_edits, without};
 ghost use Rattle.lsp_server.specs.inside.Views.{Tells, place_of};
 
-use crate::editing::edited;
+use crate::editing::{edited, send_whole};
 use crate::source::HeldText;
-use lsp_messages::writing::publish_value;
-use lsp_messages::{Change, Question, Reply};
+use lsp_messages::writing::{lost_value, publish_value};
+use lsp_messages::{Change, Client, Question, Reply};
 use serde_json::Value;
 use std::alloc::{AllocError, Global};
 
@@ -24,6 +24,8 @@ pub struct Opened<D> {
     pub version: Option<u32>,
     /// Its text.
     pub source: D,
+    /// Whether that is the client's text; it is not once a message about it was not read.
+    pub is_current: bool,
 }
 
 // Where the document of that URI is.
@@ -78,8 +80,8 @@ pub fn open<D: HeldText + Drop>(
     text: &str,
 ) -> Result<Value, AllocError>
     ensures documents { OnOk result (documents_view D.text_of documents.new.items
-        ≡ with_document (record { uri = uri.now; version = version; text = text.now }) (documents_view D.text_of documents.old.items)) }
-    ensures shown { IfOk result (λ v. view v ≡ answer_data D.says (shown (record { uri = uri.now; version = version; text = text.now }))) }
+        ≡ with_document (record { uri = uri.now; version = version; text = text.now; current = true }) (documents_view D.text_of documents.old.items)) }
+    ensures shown { IfOk result (λ v. view v ≡ answer_data D.says (shown (record { uri = uri.now; version = version; text = text.now; current = true }))) }
 {
     let source = D::open(alloc, Vec::from_slice(alloc, text.as_bytes())?)?;
     let shown = show(alloc, uri, version, &source)?;
@@ -90,6 +92,7 @@ pub fn open<D: HeldText + Drop>(
             uri,
             version,
             source,
+            is_current: true,
         },
     )?;
     Ok(shown)
@@ -110,11 +113,40 @@ fn change_one<D: HeldText>(
     let text = edited::<D>(alloc, document.source.text(), changes)?;
     document.source.set(text)?;
     document.version = version;
+    document.is_current = true;
     show(alloc, document.uri.as_str(), version, &document.source)
 }
 
+// Whether changes are made in a document: in one that is out of date only if one of them sends the
+// whole text.
+fn takes_edits<D: HeldText>(document: &Opened<D>, changes: &[Change<'_>]) -> bool
+    ensures { result ≡ takes_edits (map edit_view changes.now) (open_view D.text_of document.now) }
+{
+    document.is_current || send_whole(changes)
+}
+
+// Changes the text of a document, unless it is out of date and no change sends the whole text. The
+// answer is what is published of it.
+fn change_known<D: HeldText>(
+    alloc: Global,
+    document: &mut Opened<D>,
+    version: Option<u32>,
+    changes: &[Change<'_>],
+) -> Result<Option<Value>, AllocError>
+    ensures document { OnOk result (open_view D.text_of document.new
+        ≡ changed_by D.place_in version (map edit_view changes.now) (open_view D.text_of document.old)) }
+    ensures shown { IfOk result (λ answer. option_map view answer ≡ option_map (answer_data D.says)
+        (shown_by_change D.place_in version (map edit_view changes.now) (open_view D.text_of document.old))) }
+{
+    if takes_edits(document, changes) {
+        Ok(Some(change_one(alloc, document, version, changes)?))
+    } else {
+        Ok(None)
+    }
+}
+
 /// Changes the text of a document. The answer is what is published of it, or `None` if it is not
-/// open.
+/// open, or is out of date and no change sends the whole text.
 ///
 /// # Errors
 /// Out of memory.
@@ -131,10 +163,56 @@ pub fn change<D: HeldText>(
     match find(documents, uri) {
         None => Ok(None),
         Some(at) => {
-            let shown = change_one(alloc, &mut documents[at], version, changes)?;
-            Ok(Some(shown))
+            let answer = change_known(alloc, &mut documents[at], version, changes)?;
+            Ok(answer)
         }
     }
+}
+
+// Has a document out of date.
+fn outdate<D: HeldText>(document: &mut Opened<D>)
+    ensures { open_view D.text_of document.new ≡ outdated (open_view D.text_of document.old) }
+{
+    document.is_current = false;
+}
+
+// Has the document of that URI out of date.
+fn lose_one<D: HeldText>(documents: &mut Vec<Opened<D>>, uri: &str)
+    ensures { documents_view D.text_of documents.new.items ≡ with_change uri.now outdated (documents_view D.text_of documents.old.items) }
+{
+    match find(documents, uri) {
+        None => {}
+        Some(at) => outdate(&mut documents[at]),
+    }
+}
+
+// Has the document of that URI out of date, if it is known.
+fn lose_known<D: HeldText>(documents: &mut Vec<Opened<D>>, uri: Option<&str>)
+    ensures { documents_view D.text_of documents.new.items
+        ≡ lost_at (option_map (λ uri. uri.now) uri.entry) (documents_view D.text_of documents.old.items) }
+{
+    match uri {
+        None => {}
+        Some(uri) => lose_one(documents, uri),
+    }
+}
+
+/// Has a document out of date about which a message was not read; its URI may not be known. The
+/// answer is what is sent.
+///
+/// # Errors
+/// Out of memory.
+pub fn lose<D: HeldText>(
+    alloc: Global,
+    documents: &mut Vec<Opened<D>>,
+    uri: Option<&str>,
+) -> Result<Value, AllocError>
+    ensures documents { OnOk result (documents_view D.text_of documents.new.items
+        ≡ lost_at (option_map (λ uri. uri.now) uri.entry) (documents_view D.text_of documents.old.items)) }
+    ensures warned { IfOk result (λ v. view v ≡ answer_data D.says (warned (option_map (λ uri. uri.now) uri.entry))) }
+{
+    lose_known(documents, uri);
+    lost_value(alloc, uri)
 }
 
 // Takes the documents of that URI out.
@@ -166,27 +244,47 @@ pub fn close<D: HeldText + Drop>(
     }
 }
 
-/// What comes of a question about a document, or `None` if it is not open.
+// What comes of a question of a client about a document, or `None` if it is out of date.
+fn ask_current<D: HeldText>(
+    alloc: Global,
+    client: Client,
+    document: &Opened<D>,
+    question: Question<'_>,
+) -> Result<Option<Reply>, AllocError>
+    ensures { IfOk result (λ reply. option_map reply_view reply ≡ option_map
+        (λ document. D.says.answers client document.text document.uri (question_view question.entry))
+        (current_of (Some (open_view D.text_of document.now)))) }
+{
+    if !document.is_current {
+        return Ok(None);
+    }
+    let uri = document.uri.as_str();
+    let reply = document.source.answer(alloc, client, uri, question)?;
+    Ok(Some(reply))
+}
+
+/// What comes of a question of a client about a document, or `None` if it is not open, or out of
+/// date.
 ///
 /// # Errors
 /// Out of memory.
 pub fn ask<D: HeldText>(
     alloc: Global,
+    client: Client,
     documents: &[Opened<D>],
     uri: &str,
     question: Question<'_>,
 ) -> Result<Option<Reply>, AllocError>
     ensures { IfOk result (λ reply. option_map reply_view reply ≡ option_map
-        (λ document. D.says.answers document.text document.uri (question_view question.entry)) (open_at uri.now (documents_view D.text_of documents.now))) }
+        (λ document. D.says.answers client document.text document.uri (question_view question.entry))
+        (current_of (open_at uri.now (documents_view D.text_of documents.now)))) }
 {
     match find(documents, uri) {
         None => Ok(None),
         Some(at) => {
             let document = &documents[at];
-            let reply = document
-                .source
-                .answer(alloc, document.uri.as_str(), question)?;
-            Ok(Some(reply))
+            let reply = ask_current(alloc, client, document, question)?;
+            Ok(reply)
         }
     }
 }

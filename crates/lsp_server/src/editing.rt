@@ -1,7 +1,7 @@
 //! A text with changes made to it.
 ghost use Rattle.std.specs.Prelude.{◌≡◌, ◌≤◌, IfOk, length, map};
 ghost use Rattle.lsp_messages.specs.Views.{edit_view};
-ghost use Rattle.lsp_server.specs.Steps.{edited, with_part, with_range};
+ghost use Rattle.lsp_server.specs.Steps.{edited, send_whole, with_part, with_range};
 
 use crate::source::HeldText;
 use lsp_messages::Change;
@@ -60,6 +60,18 @@ fn edited_by<D: HeldText>(
         all = with_range::<D>(alloc, &all, change.range, change.text.as_bytes())?;
     }
     Ok(all)
+}
+
+/// Whether one of some changes sends the whole text.
+pub fn send_whole(changes: &[Change<'_>]) -> bool
+    ensures { result ≡ send_whole (map edit_view changes.now) }
+{
+    for change in changes {
+        if change.range.is_none() {
+            return true;
+        }
+    }
+    false
 }
 
 /// A text after changes, in order: each is one of the text that the ones before made.

@@ -5,7 +5,7 @@ ghost use Rattle.lsp_messages.specs.Views.{asked_view, question_view};
 ghost use Rattle.lsp_server.specs.Answers.{answer_data};
 ghost use Rattle.lsp_server.specs.Sayings.{Sayings};
 ghost use Rattle.lsp_server.specs.States.{documents_view};
-ghost use Rattle.lsp_server.specs.Steps.{answered_of, open_at, ready, requested, requested_fresh, requested_running};
+ghost use Rattle.lsp_server.specs.Steps.{answered_of, current_of, open_at, ready, requested, requested_fresh, requested_running};
 ghost use Rattle.lsp_server.specs.inside.Views.{IsAnswer};
 
 use crate::documents::{self, Opened};
@@ -33,7 +33,7 @@ fn answer_fresh(alloc: Global, id: &Value, call: &Call<'_>) -> Result<(Phase, Va
     ensures { IfOk result (λ r. (says : Sayings) → IsAnswer says r (requested_fresh (view id.now) (asked_view call.now))) }
 {
     match call {
-        Call::Initialize(client) => Ok((Phase::Running, ready_value(alloc, id, *client)?)),
+        Call::Initialize(client) => Ok((Phase::Running(*client), ready_value(alloc, id, *client)?)),
         _ => Ok((
             Phase::Fresh,
             refusal_value(alloc, Some(id), Failure::NotInitialized)?,
@@ -41,49 +41,51 @@ fn answer_fresh(alloc: Global, id: &Value, call: &Call<'_>) -> Result<(Phase, Va
     }
 }
 
-// The answer to a question about a document.
+// The answer to a question of a client about a document.
 fn answer_about<D: HeldText>(
     alloc: Global,
+    client: Client,
     documents: &[Opened<D>],
     id: &Value,
     uri: &str,
     question: Question<'_>,
 ) -> Result<Value, AllocError>
     ensures { IfOk result (λ v. view v ≡ answer_data D.says
-        (answered_of (view id.now) (question_view question.entry) (open_at uri.now (documents_view D.text_of documents.now)))) }
+        (answered_of (view id.now) client (question_view question.entry) (current_of (open_at uri.now (documents_view D.text_of documents.now))))) }
 {
-    match documents::ask(alloc, documents, uri, question)? {
+    match documents::ask(alloc, client, documents, uri, question)? {
         None => refusal_value(alloc, Some(id), Failure::BadParameters),
         Some(reply) => reply_value(alloc, id, reply),
     }
 }
 
-// What becomes of the phase, and the answer, between `initialize` and `shutdown`.
+// What becomes of the phase, and the answer, between `initialize` of a client and `shutdown`.
 fn answer_running<D: HeldText>(
     alloc: Global,
+    client: Client,
     documents: &[Opened<D>],
     id: &Value,
     call: &Call<'_>,
 ) -> Result<(Phase, Value), AllocError>
     ensures { IfOk result (λ r. IsAnswer D.says r
-        (requested_running (documents_view D.text_of documents.now) (view id.now) (asked_view call.now))) }
+        (requested_running client (documents_view D.text_of documents.now) (view id.now) (asked_view call.now))) }
 {
     match call {
         Call::Initialize(_) => Ok((
-            Phase::Running,
+            Phase::Running(client),
             refusal_value(alloc, Some(id), Failure::NoRequest)?,
         )),
         Call::Shutdown => Ok((Phase::Finished, response_value(alloc, id, Value::Null)?)),
         Call::Asked { uri, question } => Ok((
-            Phase::Running,
-            answer_about(alloc, documents, id, uri, *question)?,
+            Phase::Running(client),
+            answer_about(alloc, client, documents, id, uri, *question)?,
         )),
         Call::Faulty => Ok((
-            Phase::Running,
+            Phase::Running(client),
             refusal_value(alloc, Some(id), Failure::BadParameters)?,
         )),
         Call::Unknown => Ok((
-            Phase::Running,
+            Phase::Running(client),
             refusal_value(alloc, Some(id), Failure::NoMethod)?,
         )),
     }
@@ -105,7 +107,7 @@ pub fn answer<D: HeldText>(
 {
     match phase {
         Phase::Fresh => answer_fresh(alloc, id, call),
-        Phase::Running => answer_running(alloc, documents, id, call),
+        Phase::Running(client) => answer_running(alloc, client, documents, id, call),
         Phase::Finished | Phase::Ended(_) => {
             Ok((phase, refusal_value(alloc, Some(id), Failure::NoRequest)?))
         }

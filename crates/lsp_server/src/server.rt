@@ -30,7 +30,7 @@ fn ended_by(phase: Phase) -> Phase
     ensures { result ≡ ended_by phase }
 {
     match phase {
-        Phase::Fresh | Phase::Running => Phase::Ended(1),
+        Phase::Fresh | Phase::Running(_) => Phase::Ended(1),
         Phase::Finished => Phase::Ended(0),
         Phase::Ended(_) => phase,
     }
@@ -46,7 +46,7 @@ fn phase_told(phase: Phase, notice: &Notice<'_>) -> Phase
     }
 }
 
-// Tells the documents about a notification. The answer is what is published.
+// Tells the documents about a notification. The answer is what is sent.
 fn tell<D: HeldText + Drop>(
     alloc: Global,
     documents: &mut Vec<Opened<D>>,
@@ -65,6 +65,7 @@ fn tell<D: HeldText + Drop>(
             changes,
         } => documents::change(alloc, documents, uri, *version, changes),
         Notice::Closed { uri } => documents::close(alloc, documents, uri),
+        Notice::Lost { uri } => Ok(Some(documents::lose(alloc, documents, *uri)?)),
         Notice::Exited | Notice::Nothing => Ok(None),
     }
 }
@@ -81,7 +82,7 @@ fn tell_in<D: HeldText + Drop>(
         (told_in D.place_in phase (told_view notice.now) (documents_view D.text_of documents.old.items))) }
 {
     match phase {
-        Phase::Running => tell(alloc, documents, notice),
+        Phase::Running(_) => tell(alloc, documents, notice),
         _ => Ok(None),
     }
 }

@@ -1,5 +1,5 @@
 //! What a text has to offer that is open in an editor.
-use lsp_messages::{Question, Reply};
+use lsp_messages::{Client, Question, Reply};
 use lsp_types::Position;
 use serde_json::Value;
 use std::alloc::{AllocError, Global};
@@ -53,13 +53,19 @@ pub trait HeldText {
     fn diagnostics(&self, alloc: Global) -> Result<Vec<Value>, AllocError>
         ensures { IfOk result (λ values. items_view values.items ≡ says.diagnostics (text_of self.now)) };
 
-    /// What comes of a question about it: the answer, which may have its URI in it, as a value of
-    /// the protocol, or why the question is refused.
+    /// What comes of a question of a client about it: the answer, which may have its URI in it, as a
+    /// value of the protocol, or why the question is refused.
     ///
     /// # Errors
     /// Out of memory.
-    fn answer(&self, alloc: Global, uri: &str, question: Question<'_>) -> Result<Reply, AllocError>
-        ensures { IfOk result (λ reply. reply_view reply ≡ says.answers (text_of self.now) uri.now (question_view question.entry)) };
+    fn answer(
+        &self,
+        alloc: Global,
+        client: Client,
+        uri: &str,
+        question: Question<'_>,
+    ) -> Result<Reply, AllocError>
+        ensures { IfOk result (λ reply. reply_view reply ≡ says.answers client (text_of self.now) uri.now (question_view question.entry)) };
 
     // A law: nothing that is said has a float, whose text would not be known.
     ghost no_floats: { HasNoFloats says };

@@ -4,6 +4,7 @@ use Rattle.serde_json.specs.Data.{Data, Items, array, boolean, item, no_items, n
 use Rattle.lsp_messages.specs.Messages.{Query, completion, hover, definition, references, symbols, rename, prepare_rename, fixes}
 use Rattle.lsp_messages.specs.Shapes.{Said, said_answer, said_refusal}
 use Rattle.lsp_types.specs.declared.failures.Failure.TheVariants.{NoName}
+use Rattle.lsp_messages.specs.declared.clients.Client.{Client}
 use Rattle.lsp_types.specs.declared.places.Position.{Position}
 use Rattle.lsp_server.specs.Sayings.{HasNoFloats, SaidHasNoFloat, Sayings}
 
@@ -27,42 +28,43 @@ place_of (rename place name) = place
 place_of (prepare_rename place) = place
 place_of (fixes range wanted) = range.start
 
-abbrev pub flag_of : Query → Bool
-flag_of (completion place) = false
-flag_of (hover place) = false
-flag_of (definition place) = false
-flag_of (references place with_declaration) = with_declaration
-flag_of symbols = false
-flag_of (rename place name) = false
-flag_of (prepare_rename place) = false
-flag_of (fixes range wanted) = wanted
+abbrev pub flag_of : Client → Query → Bool
+flag_of client (completion place) = false
+flag_of client (hover place) = false
+flag_of client (definition place) = false
+flag_of client (references place with_declaration) = with_declaration
+flag_of client symbols = client.nests_symbols
+flag_of client (rename place name) = false
+flag_of client (prepare_rename place) = false
+flag_of client (fixes range wanted) = wanted
 
 abbrev pub diagnostics_of : List ℕ → Items
 diagnostics_of text = item (number (unsigned (length text))) no_items
 
-abbrev pub answer_of : List ℕ → List ℕ → Query → Data
-answer_of text uri query =
+abbrev pub answer_of : Client → List ℕ → List ℕ → Query → Data
+answer_of client text uri query =
     array (item (string uri)
     (item (number (unsigned (length text)))
     (item (string (word_of query))
     (item (number (unsigned ((place_of query).line)))
     (item (number (unsigned ((place_of query).column)))
-    (item (boolean (flag_of query)) no_items))))))
+    (item (boolean (flag_of client query)) no_items))))))
 
 -- what is asked by an empty word is refused
-abbrev pub said_of : List ℕ → List ℕ → Query → Said
-said_of text uri query = if nat_eq (length (word_of query)) 0 then said_refusal NoName else said_answer (answer_of text uri query)
+abbrev pub said_of : Client → List ℕ → List ℕ → Query → Said
+said_of client text uri query =
+    if nat_eq (length (word_of query)) 0 then said_refusal NoName else said_answer (answer_of client text uri query)
 
 abbrev pub sayings : Sayings
 sayings = record { diagnostics = diagnostics_of; answers = said_of }
 
-no_float_if : (refused : Bool) (text uri : List ℕ) (query : Query)
-    → SaidHasNoFloat (if refused then said_refusal NoName else said_answer (answer_of text uri query))
-no_float_if true text uri query = tt
-no_float_if false text uri query = refl
+no_float_if : (refused : Bool) (client : Client) (text uri : List ℕ) (query : Query)
+    → SaidHasNoFloat (if refused then said_refusal NoName else said_answer (answer_of client text uri query))
+no_float_if true client text uri query = tt
+no_float_if false client text uri query = refl
 
 pub sayings_have_no_floats : HasNoFloats sayings
 sayings_have_no_floats = record {
   diagnostics = λ text. refl;
-  answers = λ text uri query. no_float_if (nat_eq (length (word_of query)) 0) text uri query;
+  answers = λ client text uri query. no_float_if (nat_eq (length (word_of query)) 0) client text uri query;
 }

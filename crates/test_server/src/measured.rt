@@ -1,12 +1,12 @@
 //! A source for tests: its one diagnostic is the length of its text, and lines do not count. The
 //! answer to a question about it has the URI, the text, and what was asked: of a rename the new
-//! name, of fixes the start of the range and whether they are wanted. A rename to an empty name is
-//! refused.
+//! name, of fixes the start of the range and whether they are wanted, of symbols whether the client
+//! takes them as a hierarchy. A rename to an empty name is refused.
 ghost use Rattle.std.specs.Prelude.{◌≡◌};
 ghost use Rattle.test_server.specs.Measured.{flag_of, place_of, word_of};
 ghost use Rattle.lsp_messages.specs.Views.{question_view};
 
-use lsp_messages::{Question, Reply};
+use lsp_messages::{Client, Question, Reply};
 use lsp_server::HeldText;
 use lsp_types::{Failure, Position};
 use serde_json::{Value, json};
@@ -18,11 +18,11 @@ pub struct Measured {
     pub text: Vec<u8>,
 }
 
-// What is asked, as a word, its place, and whether the definition is asked for too.
-fn parts_of(question: Question<'_>) -> (&str, Position, bool)
+// What a client asks, as a word, its place, and a flag.
+fn parts_of(client: Client, question: Question<'_>) -> (&str, Position, bool)
     ensures word { result.0.now ≡ word_of (question_view question.entry) }
     ensures place { result.1 ≡ place_of (question_view question.entry) }
-    ensures flag { result.2 ≡ flag_of (question_view question.entry) }
+    ensures flag { result.2 ≡ flag_of client (question_view question.entry) }
 {
     let start = Position { line: 0, column: 0 };
     match question {
@@ -33,7 +33,7 @@ fn parts_of(question: Question<'_>) -> (&str, Position, bool)
             place,
             with_declaration,
         } => ("references", place, with_declaration),
-        Question::Symbols => ("symbols", start, false),
+        Question::Symbols => ("symbols", start, client.nests_symbols),
         Question::Rename { place, name } => (name, place, false),
         Question::PrepareRename(place) => ("prepareRename", place, false),
         Question::Fixes { range, wanted } => ("fixes", range.start, wanted),
@@ -79,10 +79,11 @@ impl HeldText for Measured {
     fn answer(
         &self,
         alloc: Global,
+        client: Client,
         uri: &str,
         question: Question<'_>,
     ) -> Result<Reply, AllocError> {
-        let (word, place, flag) = parts_of(question);
+        let (word, place, flag) = parts_of(client, question);
         if word.is_empty() {
             return Ok(Reply::Refusal(Failure::NoName));
         }

@@ -37,6 +37,10 @@ const READY_FOR_PLAIN: &str =
 const READY_FOR_ABLE: &str =
     r#"{"id":1,"jsonrpc":"2.0","result":{"capabilities":{"codeActionProvider":{"codeActionKinds":["quickfix"]},"completionProvider":{"triggerCharacters":["="]},"definitionProvider":true,"documentSymbolProvider":true,"hoverProvider":true,"positionEncoding":"utf-16","referencesProvider":true,"renameProvider":{"prepareProvider":true},"textDocumentSync":{"change":2,"openClose":true}},"serverInfo":{"name":"ti-lsp","version":"1.0.0"}}}"#;
 
+// A client that takes symbols as a hierarchy.
+const INITIALIZE_NESTING: &str =
+    r#"{"jsonrpc":"2.0","id":1,"method":"initialize","params":{"capabilities":{"textDocument":{"documentSymbol":{"hierarchicalDocumentSymbolSupport":true}}}}}"#;
+
 const SHUTDOWN: &str = r#"{"jsonrpc":"2.0","id":2,"method":"shutdown"}"#;
 
 const DONE: &str = r#"{"id":2,"jsonrpc":"2.0","result":null}"#;
@@ -62,6 +66,12 @@ const HOVERED: &str = r#"{"id":3,"jsonrpc":"2.0","result":["u",3,"hover",4,5,fal
 
 const NOT_ANSWERED: &str =
     r#"{"error":{"code":-32602,"message":"the parameters are not those of the method"},"id":3,"jsonrpc":"2.0"}"#;
+
+const LOST: &str =
+    r#"{"jsonrpc":"2.0","method":"window/showMessage","params":{"message":"A message about u could not be read. Close the document, and open it again.","type":1}}"#;
+
+const LOST_UNKNOWN: &str =
+    r#"{"jsonrpc":"2.0","method":"window/showMessage","params":{"message":"A message about a document could not be read. Close the documents, and open them again.","type":1}}"#;
 
 const NO_JSON: &str =
     r#"{"error":{"code":-32700,"message":"the body is not JSON or is too long"},"id":null,"jsonrpc":"2.0"}"#;
@@ -281,7 +291,7 @@ fn requests_that_are_refused(rt: HostRuntime) -> Result<(), Fail> {
     expect_all(&rt, rt.alloc(), &REQUESTS)
 }
 
-const QUESTIONS: [Session; 5] = [
+const QUESTIONS: [Session; 6] = [
     Session {
         name: "questions about two documents",
         sent: &[
@@ -305,6 +315,20 @@ const QUESTIONS: [Session; 5] = [
             r#"{"id":0,"jsonrpc":"2.0","result":["v",2,"references",9,8,true]}"#,
             r#"{"id":1,"jsonrpc":"2.0","result":["u",3,"references",9,8,false]}"#,
             r#"{"id":2,"jsonrpc":"2.0","result":["v",2,"symbols",0,0,false]}"#,
+        ],
+        end: Err(FrameError::Broken),
+    },
+    Session {
+        name: "symbols, for a client that takes a hierarchy",
+        sent: &[
+            INITIALIZE_NESTING,
+            OPEN,
+            r#"{"id":2,"method":"textDocument/documentSymbol","params":{"textDocument":{"uri":"u"}}}"#,
+        ],
+        answers: &[
+            READY,
+            OPENED,
+            r#"{"id":2,"jsonrpc":"2.0","result":["u",3,"symbols",0,0,true]}"#,
         ],
         end: Err(FrameError::Broken),
     },
@@ -423,17 +447,16 @@ fn questions_about_documents(rt: HostRuntime) -> Result<(), Fail> {
     expect_all(&rt, rt.alloc(), &QUESTIONS)
 }
 
-const DROPPED: [Session; 4] = [
+const DROPPED: [Session; 6] = [
     Session {
-        name: "notifications that are dropped whole",
+        name: "notifications that change nothing",
         sent: &[
             INITIALIZE,
-            r#"{"method":"textDocument/didOpen","params":[]}"#,
-            r#"{"method":"textDocument/didOpen"}"#,
             r#"{"method":"textDocument/didChange","params":{"textDocument":{"uri":"u","version":2},"contentChanges":[{"text":"z"}]}}"#,
             CLOSE,
             OPEN,
-            r#"{"method":"textDocument/didChange","params":{"textDocument":{"uri":"u","version":2},"contentChanges":[{"text":"abcdef"},{"range":{"start":{"line":0,"character":0}},"text":""}]}}"#,
+            r#"{"method":"textDocument/didSave","params":{"textDocument":{"uri":"u"}}}"#,
+            r#"{"method":"textDocument/didSave","params":[]}"#,
             r#"{"method":"textDocument/didChange","params":{"textDocument":{"uri":"v","version":2},"contentChanges":[{"text":"abcdef"}]}}"#,
             r#"{"method":"textDocument/didClose","params":{"textDocument":{"uri":"v"}}}"#,
             r#"{"method":"textDocument/didChange","params":{"textDocument":{"uri":"u","version":7},"contentChanges":[]}}"#,
@@ -442,6 +465,70 @@ const DROPPED: [Session; 4] = [
             READY,
             OPENED,
             r#"{"jsonrpc":"2.0","method":"textDocument/publishDiagnostics","params":{"diagnostics":[3],"uri":"u","version":7}}"#,
+        ],
+        end: Err(FrameError::Broken),
+    },
+    Session {
+        name: "notifications that cannot be read",
+        sent: &[
+            r#"{"method":"textDocument/didOpen","params":[]}"#,
+            INITIALIZE,
+            r#"{"method":"textDocument/didOpen","params":[]}"#,
+            r#"{"method":"textDocument/didOpen"}"#,
+            r#"{"method":"textDocument/didOpen","params":{"textDocument":{"uri":"u","version":1}}}"#,
+            r#"{"method":"textDocument/didChange","params":{"textDocument":{"uri":7,"version":1},"contentChanges":[]}}"#,
+            r#"{"method":"textDocument/didChange","params":{"textDocument":{"uri":"u","version":1},"contentChanges":{}}}"#,
+            r#"{"method":"textDocument/didClose","params":{"textDocument":{}}}"#,
+            HOVER,
+            SHUTDOWN,
+            r#"{"method":"textDocument/didOpen","params":[]}"#,
+        ],
+        answers: &[
+            READY,
+            LOST_UNKNOWN,
+            LOST_UNKNOWN,
+            LOST,
+            LOST_UNKNOWN,
+            LOST,
+            LOST_UNKNOWN,
+            NOT_ANSWERED,
+            DONE,
+        ],
+        end: Err(FrameError::Broken),
+    },
+    Session {
+        name: "a document out of date, until it is sent whole or opened",
+        sent: &[
+            INITIALIZE,
+            OPEN,
+            r#"{"method":"textDocument/didChange","params":{"textDocument":{"uri":"u","version":2},"contentChanges":[{"text":"abcdef"},{"range":{"start":{"line":0,"character":0}},"text":""}]}}"#,
+            HOVER,
+            r#"{"method":"textDocument/didChange","params":{"textDocument":{"uri":"u","version":3},"contentChanges":[{"range":{"start":{"line":0,"character":0},"end":{"line":0,"character":1}},"text":"xy"}]}}"#,
+            r#"{"method":"textDocument/didChange","params":{"textDocument":{"uri":"u","version":4},"contentChanges":[]}}"#,
+            HOVER,
+            r#"{"method":"textDocument/didChange","params":{"textDocument":{"uri":"u","version":5},"contentChanges":[{"range":{"start":{"line":0,"character":0},"end":{"line":0,"character":1}},"text":"xy"},{"text":"12345"},{"range":{"start":{"line":0,"character":0},"end":{"line":0,"character":1}},"text":""}]}}"#,
+            HOVER,
+            r#"{"method":"textDocument/didChange","params":{"textDocument":{"uri":"u"}}}"#,
+            OPEN,
+            HOVER,
+            r#"{"method":"textDocument/didOpen","params":{"textDocument":{"uri":"u","text":null}}}"#,
+            CLOSE,
+            HOVER,
+        ],
+        answers: &[
+            READY,
+            OPENED,
+            LOST,
+            NOT_ANSWERED,
+            NOT_ANSWERED,
+            r#"{"jsonrpc":"2.0","method":"textDocument/publishDiagnostics","params":{"diagnostics":[4],"uri":"u","version":5}}"#,
+            r#"{"id":3,"jsonrpc":"2.0","result":["u",4,"hover",4,5,false]}"#,
+            LOST,
+            OPENED,
+            HOVERED,
+            LOST,
+            CLOSED,
+            NOT_ANSWERED,
         ],
         end: Err(FrameError::Broken),
     },

@@ -1,11 +1,11 @@
 //! The values that are sent, as the protocol has them.
 use lsp_messages::answers::{
-    action_value, hover_value, item_value, list_value, location_value, symbol_value,
-    text_edit_value, workspace_edit_value,
+    action_value, hover_value, item_value, list_value, location_value, obsolete_item_value,
+    symbol_information_value, symbol_value, text_edit_value, workspace_edit_value,
 };
 use lsp_messages::writing::{
-    diagnostic_value, initialized_value, position_value, publish_value, range_value, refusal_value,
-    reply_value, response_value,
+    diagnostic_value, initialized_value, lost_value, position_value, publish_value, range_value,
+    refusal_value, reply_value, response_value,
 };
 use lsp_messages::{Client, Message, Notice, Reply, parse, read_message};
 use lsp_types::{Failure, ItemKind, Position, Range, Severity};
@@ -48,6 +48,9 @@ const ITEM_TEXT: &str =
 const DESCRIBED_ITEM_TEXT: &str =
     r#"{"detail":"","documentation":"D","filterText":"vt","kind":22,"label":"vt","textEdit":{"newText":"vt","range":{"end":{"character":0,"line":3},"start":{"character":1,"line":2}}}}"#;
 
+const OBSOLETE_ITEM_TEXT: &str =
+    r#"{"detail":"d","documentation":"D","filterText":"OTbs","kind":5,"label":"OTbs","sortText":"~OTbs","tags":[1],"textEdit":{"newText":"OTbs","range":{"end":{"character":0,"line":3},"start":{"character":1,"line":2}}}}"#;
+
 const LIST_TEXT: &str = r#"{"isIncomplete":false,"items":[null]}"#;
 
 #[test]
@@ -57,6 +60,8 @@ fn completions(rt: HostRuntime) -> Result<(), Fail> {
     assert!(rt; item.to_string(alloc)?.as_str() == ITEM_TEXT);
     let item = item_value(alloc, ItemKind::Entry, "vt", "", Some("D"), RANGE)?;
     assert!(rt; item.to_string(alloc)?.as_str() == DESCRIBED_ITEM_TEXT);
+    let item = obsolete_item_value(alloc, ItemKind::Capability, "OTbs", "d", "D", RANGE)?;
+    assert!(rt; item.to_string(alloc)?.as_str() == OBSOLETE_ITEM_TEXT);
     let items = Vec::from_array(alloc, [Value::Null])?;
     let list = list_value(alloc, items)?;
     assert!(rt; list.to_string(alloc)?.as_str() == LIST_TEXT);
@@ -65,6 +70,9 @@ fn completions(rt: HostRuntime) -> Result<(), Fail> {
 
 const SYMBOL_TEXT: &str =
     r#"{"kind":23,"name":"vt","range":{"end":{"character":0,"line":3},"start":{"character":1,"line":2}},"selectionRange":{"end":{"character":1,"line":2},"start":{"character":1,"line":2}}}"#;
+
+const SYMBOL_INFORMATION_TEXT: &str =
+    r#"{"kind":23,"location":{"range":{"end":{"character":0,"line":3},"start":{"character":1,"line":2}},"uri":"file:///a"},"name":"vt"}"#;
 
 const LOCATION_TEXT: &str =
     r#"{"range":{"end":{"character":0,"line":3},"start":{"character":1,"line":2}},"uri":"file:///a"}"#;
@@ -81,6 +89,8 @@ fn symbols_and_hovers(rt: HostRuntime) -> Result<(), Fail> {
     };
     let symbol = symbol_value(alloc, "vt", RANGE, selection)?;
     assert!(rt; symbol.to_string(alloc)?.as_str() == SYMBOL_TEXT);
+    let symbol = symbol_information_value(alloc, "file:///a", "vt", RANGE)?;
+    assert!(rt; symbol.to_string(alloc)?.as_str() == SYMBOL_INFORMATION_TEXT);
     let location = location_value(alloc, "file:///a", RANGE)?;
     assert!(rt; location.to_string(alloc)?.as_str() == LOCATION_TEXT);
     let hover = hover_value(alloc, "am\nflag", RANGE)?;
@@ -108,6 +118,12 @@ fn edits(rt: HostRuntime) -> Result<(), Fail> {
 const PUBLISHED: &str =
     r#"{"jsonrpc":"2.0","method":"textDocument/publishDiagnostics","params":{"diagnostics":[],"uri":"file:///a%20b.ti","version":0}}"#;
 
+const LOST: &str =
+    r#"{"jsonrpc":"2.0","method":"window/showMessage","params":{"message":"A message about file:///a%20b.ti could not be read. Close the document, and open it again.","type":1}}"#;
+
+const LOST_UNKNOWN: &str =
+    r#"{"jsonrpc":"2.0","method":"window/showMessage","params":{"message":"A message about a document could not be read. Close the documents, and open them again.","type":1}}"#;
+
 const RESPONSE: &str = r#"{"id":null,"jsonrpc":"2.0","result":true}"#;
 
 const REFUSAL: &str =
@@ -126,12 +142,14 @@ const READY_FOR_LESS: &str =
 const ABLE: Client = Client {
     prepares_renames: true,
     takes_actions: true,
+    nests_symbols: true,
 };
 
 // A client that does neither.
 const LESS: Client = Client {
     prepares_renames: false,
     takes_actions: false,
+    nests_symbols: false,
 };
 
 #[test]
@@ -139,6 +157,10 @@ fn messages(rt: HostRuntime) -> Result<(), Fail> {
     let alloc = rt.alloc();
     let published = publish_value(alloc, "file:///a%20b.ti", Some(0), Vec::new(alloc))?;
     assert!(rt; published.to_string(alloc)?.as_str() == PUBLISHED);
+    let lost = lost_value(alloc, Some("file:///a%20b.ti"))?;
+    assert!(rt; lost.to_string(alloc)?.as_str() == LOST);
+    let lost = lost_value(alloc, None)?;
+    assert!(rt; lost.to_string(alloc)?.as_str() == LOST_UNKNOWN);
     let response = response_value(alloc, &Value::Null, Value::Bool(true))?;
     assert!(rt; response.to_string(alloc)?.as_str() == RESPONSE);
     let reply = reply_value(alloc, &Value::Null, Reply::Answer(Value::Bool(true)))?;

@@ -1,10 +1,11 @@
 -- The answers to questions about a terminfo source, as values of the protocol (LSP 3.17).
-use Rattle.std.specs.Prelude.{ℕ, List, [], Option, None, Some, codes, map}
+use Rattle.std.specs.Prelude.{ℕ, List, [], Bool, false, true, Option, None, Some, codes, map}
 use Rattle.serde_json.specs.Data.{Data, array, null}
 use Rattle.serde_json.specs.View.{items_of}
 use Rattle.lsp_messages.specs.Messages.{Query, completion, hover, definition, references, symbols, rename, prepare_rename, fixes}
-use Rattle.lsp_messages.specs.Shapes.{Said, said_answer, said_refusal, item_data, list_data, location_data, range_data, symbol_data, text_edit_data}
-use Rattle.lsp_messages.specs.Shapes.{workspace_edit_data}
+use Rattle.lsp_messages.specs.Shapes.{Said, said_answer, said_refusal, item_data, list_data, location_data, range_data, symbol_data, symbol_information_data}
+use Rattle.lsp_messages.specs.Shapes.{text_edit_data, workspace_edit_data}
+use Rattle.lsp_messages.specs.declared.clients.Client.{Client}
 use Rattle.lsp_types.specs.declared.items.ItemKind.TheVariants as items
 use Rattle.lsp_types.specs.declared.places.Range.{Range}
 use Rattle.lsp_blocks.specs.Symbols.{SymbolSeen, symbols_of}
@@ -19,13 +20,15 @@ use Rattle.ti_lsp.specs.Hovers.{hover_shown}
 use Rattle.ti_lsp.specs.Offers.{all_capabilities, capability_item}
 use Rattle.ti_lsp.specs.Shown.{shown_of}
 
--- a block in the outline
-abbrev pub symbol_shown : SymbolSeen → Data
-symbol_shown symbol = symbol_data symbol.name symbol.range symbol.selection
+-- a block in the outline, for a client that takes symbols as a hierarchy ("DocumentSymbol") or not
+-- ("SymbolInformation")
+abbrev pub symbol_shown : Bool → List ℕ → SymbolSeen → Data
+symbol_shown true uri symbol = symbol_data symbol.name symbol.range symbol.selection
+symbol_shown false uri symbol = symbol_information_data uri symbol.name symbol.range
 
--- the outline of a source ("DocumentSymbol")
-abbrev pub outline_data : List SymbolSeen → Data
-outline_data all = array (items_of (map symbol_shown all))
+-- the outline of a source
+abbrev pub outline_data : Bool → List ℕ → List SymbolSeen → Data
+outline_data nests uri all = array (items_of (map (symbol_shown nests uri) all))
 
 -- where a name is defined ("Location"), or null if nowhere
 abbrev pub definition_data : List ℕ → Option Range → Data
@@ -65,16 +68,16 @@ abbrev pub renamable_data : Option Range → Data
 renamable_data None = null
 renamable_data (Some range) = range_data range
 
--- what comes of a question about a text, under the URI of its document
-abbrev pub answer_of : List ℕ → List ℕ → Query → Said
-answer_of text uri (completion place) = said_answer (completion_data (completion_of text place))
-answer_of text uri (hover place) = said_answer (hover_shown (hover_of text place))
-answer_of text uri (definition place) = said_answer (definition_data uri (definition_of text place))
-answer_of text uri (references place with_declaration) = said_answer (references_data uri (references_of text place with_declaration))
-answer_of text uri symbols = said_answer (outline_data (symbols_of text))
-answer_of text uri (rename place name) = renamed_said uri name (renaming_of text place name)
-answer_of text uri (prepare_rename place) = said_answer (renamable_data (renamable_at text place))
-answer_of text uri (fixes range wanted) = said_answer (fixes_data uri wanted (fixes_of text range))
+-- what comes of a question of a client about a text, under the URI of its document
+abbrev pub answer_of : Client → List ℕ → List ℕ → Query → Said
+answer_of client text uri (completion place) = said_answer (completion_data (completion_of text place))
+answer_of client text uri (hover place) = said_answer (hover_shown (hover_of text place))
+answer_of client text uri (definition place) = said_answer (definition_data uri (definition_of text place))
+answer_of client text uri (references place with_declaration) = said_answer (references_data uri (references_of text place with_declaration))
+answer_of client text uri symbols = said_answer (outline_data client.nests_symbols uri (symbols_of text))
+answer_of client text uri (rename place name) = renamed_said uri name (renaming_of text place name)
+answer_of client text uri (prepare_rename place) = said_answer (renamable_data (renamable_at text place))
+answer_of client text uri (fixes range wanted) = said_answer (fixes_data uri wanted (fixes_of text range))
 
 abbrev pub sayings : Sayings
 sayings = record { diagnostics = shown_of; answers = answer_of }

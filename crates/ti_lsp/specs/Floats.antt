@@ -2,7 +2,7 @@
 use Rattle.std.specs.Prelude.{ℕ, ◌≡◌, Bool, List, [], ◌∷◌, false, true, Option, None, Some, map, refl}
 use Rattle.serde_json.specs.View.{items_of}
 use Rattle.serde_json.specs.Written.{has_float, items_have_float}
-use Rattle.ti_caps.specs.Tables.{Capability}
+use Rattle.ti_caps.specs.Tables.{Capability, name_of}
 use Rattle.lsp_document.specs.Diagnostics.{Shown, diagnostics_of}
 use Rattle.lsp_blocks.specs.Symbols.{SymbolSeen, symbols_of}
 use Rattle.lsp_features.specs.Completions.{CompletionSeen, OffersSeen, completion_of, offers_capabilities, offers_names}
@@ -13,11 +13,12 @@ use Rattle.lsp_fixes.specs.Fixes.{FixSeen, fixes_of}
 use Rattle.ti_lsp.specs.Fixes.{fix_shown, fixes_data}
 use Rattle.lsp_messages.specs.Messages.{Query, completion, hover, definition, references, symbols, rename, prepare_rename, fixes}
 use Rattle.lsp_messages.specs.Shapes.{location_data, text_edit_data}
+use Rattle.lsp_messages.specs.declared.clients.Client.{Client}
 use Rattle.lsp_types.specs.declared.places.Range.{Range}
 use Rattle.lsp_server.specs.Sayings.{HasNoFloats, SaidHasNoFloat}
 use Rattle.ti_lsp.specs.Answers.{answer_of, completion_data, definition_data, entry_item, offered_items, renamable_data, renamed_said, sayings, symbol_shown}
 use Rattle.ti_lsp.specs.Hovers.{hover_shown}
-use Rattle.ti_lsp.specs.Offers.{all_capabilities, capability_item}
+use Rattle.ti_lsp.specs.Offers.{all_capabilities, capability_item, described_item, is_obsolete}
 use Rattle.ti_lsp.specs.Shown.{shown_data, shown_of}
 
 none_in : (all : List Shown) → items_have_float (items_of (map shown_data all)) ≡ false
@@ -27,9 +28,10 @@ none_in (shown ∷ all) = none_in all
 shown_have_no_floats : (text : List ℕ) → items_have_float (shown_of text) ≡ false
 shown_have_no_floats text = none_in (diagnostics_of text)
 
-none_in_outline : (all : List SymbolSeen) → items_have_float (items_of (map symbol_shown all)) ≡ false
-none_in_outline [] = refl
-none_in_outline (symbol ∷ all) = none_in_outline all
+none_in_outline : (nests : Bool) (uri : List ℕ) (all : List SymbolSeen) → items_have_float (items_of (map (symbol_shown nests uri) all)) ≡ false
+none_in_outline nests uri [] = refl
+none_in_outline true uri (symbol ∷ all) = none_in_outline true uri all
+none_in_outline false uri (symbol ∷ all) = none_in_outline false uri all
 
 none_in_definition : (uri : List ℕ) (found : Option Range) → has_float (definition_data uri found) ≡ false
 none_in_definition uri None = refl
@@ -39,9 +41,13 @@ none_in_references : (uri : List ℕ) (ranges : List Range) → items_have_float
 none_in_references uri [] = refl
 none_in_references uri (range ∷ ranges) = none_in_references uri ranges
 
+none_in_described : (obsolete : Bool) (range : Range) (cap : Capability) → has_float (described_item obsolete range cap) ≡ false
+none_in_described true range cap = refl
+none_in_described false range cap = refl
+
 none_in_capabilities : (range : Range) (caps : List Capability) → items_have_float (items_of (map (capability_item range) caps)) ≡ false
 none_in_capabilities range [] = refl
-none_in_capabilities range (cap ∷ caps) = none_in_capabilities range caps
+none_in_capabilities range (cap ∷ caps) = rw (none_in_described (is_obsolete (name_of cap)) range cap) (none_in_capabilities range caps)
 
 none_in_names : (range : Range) (names : List (List ℕ)) → items_have_float (items_of (map (entry_item range) names)) ≡ false
 none_in_names range [] = refl
@@ -80,15 +86,15 @@ none_in_wanted : (uri : List ℕ) (wanted : Bool) (all : List FixSeen) → has_f
 none_in_wanted uri true all = none_in_fixes uri all
 none_in_wanted uri false all = refl
 
-answers_have_no_floats : (text uri : List ℕ) (query : Query) → SaidHasNoFloat (answer_of text uri query)
-answers_have_no_floats text uri (completion place) = none_in_completion (completion_of text place)
-answers_have_no_floats text uri (hover place) = none_in_hover (hover_of text place)
-answers_have_no_floats text uri (definition place) = none_in_definition uri (definition_of text place)
-answers_have_no_floats text uri (references place with_declaration) = none_in_references uri (references_of text place with_declaration)
-answers_have_no_floats text uri symbols = none_in_outline (symbols_of text)
-answers_have_no_floats text uri (rename place name) = none_in_renaming uri name (renaming_of text place name)
-answers_have_no_floats text uri (prepare_rename place) = none_in_renamable (renamable_at text place)
-answers_have_no_floats text uri (fixes range wanted) = none_in_wanted uri wanted (fixes_of text range)
+answers_have_no_floats : (client : Client) (text uri : List ℕ) (query : Query) → SaidHasNoFloat (answer_of client text uri query)
+answers_have_no_floats client text uri (completion place) = none_in_completion (completion_of text place)
+answers_have_no_floats client text uri (hover place) = none_in_hover (hover_of text place)
+answers_have_no_floats client text uri (definition place) = none_in_definition uri (definition_of text place)
+answers_have_no_floats client text uri (references place with_declaration) = none_in_references uri (references_of text place with_declaration)
+answers_have_no_floats client text uri symbols = none_in_outline client.nests_symbols uri (symbols_of text)
+answers_have_no_floats client text uri (rename place name) = none_in_renaming uri name (renaming_of text place name)
+answers_have_no_floats client text uri (prepare_rename place) = none_in_renamable (renamable_at text place)
+answers_have_no_floats client text uri (fixes range wanted) = none_in_wanted uri wanted (fixes_of text range)
 
 pub sayings_have_no_floats : HasNoFloats sayings
 sayings_have_no_floats = record { diagnostics = shown_have_no_floats; answers = answers_have_no_floats }

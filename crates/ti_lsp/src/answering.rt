@@ -12,45 +12,72 @@ use crate::offers::capability_items;
 use lsp_blocks::{Symbol, symbols_of};
 use lsp_document::Document;
 use lsp_features::{Offers, completion_of, definition_of, references_of};
-use lsp_messages::answers::{item_value, list_value, location_value, symbol_value};
+use lsp_messages::answers::{
+    item_value, list_value, location_value, symbol_information_value, symbol_value,
+};
 use lsp_types::{ItemKind, Position, Range};
 use serde_json::Value;
 use std::alloc::{AllocError, Global};
 
-// A block in the outline.
-fn symbol_of(alloc: Global, symbol: &Symbol) -> Result<Value, AllocError>
-    ensures { IfOk result (λ v. view v ≡ symbol_shown (symbol_seen symbol.now)) }
+// A block in the outline, for a client that takes symbols as a hierarchy, or not.
+fn symbol_of(
+    alloc: Global,
+    nests_symbols: bool,
+    uri: &str,
+    symbol: &Symbol,
+) -> Result<Value, AllocError>
+    ensures { IfOk result (λ v. view v ≡ symbol_shown nests_symbols uri.now (symbol_seen symbol.now)) }
 {
-    symbol_value(alloc, symbol.name.as_str(), symbol.range, symbol.selection)
+    let name = symbol.name.as_str();
+    if nests_symbols {
+        symbol_value(alloc, name, symbol.range, symbol.selection)
+    } else {
+        symbol_information_value(alloc, uri, name, symbol.range)
+    }
 }
 
 // Blocks in the outline.
-fn symbol_values(alloc: Global, all: &[Symbol]) -> Result<Vec<Value>, AllocError>
-    ensures { IfOk result (λ values. map view values.items ≡ map (λ s. symbol_shown (symbol_seen s)) all.now) }
+fn symbol_values(
+    alloc: Global,
+    nests_symbols: bool,
+    uri: &str,
+    all: &[Symbol],
+) -> Result<Vec<Value>, AllocError>
+    ensures { IfOk result (λ values. map view values.items ≡ map (λ s. symbol_shown nests_symbols uri.now (symbol_seen s)) all.now) }
 {
     let mut values = Vec::new(alloc);
     for symbol in all {
-        values.push(symbol_of(alloc, symbol)?)?;
+        values.push(symbol_of(alloc, nests_symbols, uri, symbol)?)?;
     }
     Ok(values)
 }
 
 // The blocks of a source in the outline.
-fn blocks_of(alloc: Global, document: &Document) -> Result<Vec<Value>, AllocError>
-    ensures { IfOk result (λ values. map view values.items ≡ map symbol_shown (symbols_of document.now)) }
+fn blocks_of(
+    alloc: Global,
+    nests_symbols: bool,
+    document: &Document,
+    uri: &str,
+) -> Result<Vec<Value>, AllocError>
+    ensures { IfOk result (λ values. map view values.items ≡ map (symbol_shown nests_symbols uri.now) (symbols_of document.now)) }
 {
     let all = symbols_of(alloc, document)?;
-    symbol_values(alloc, all.as_slice())
+    symbol_values(alloc, nests_symbols, uri, all.as_slice())
 }
 
-/// The outline of a source: its blocks.
+/// The outline of a source: its blocks, for a client that takes symbols as a hierarchy, or not.
 ///
 /// # Errors
 /// Out of memory.
-pub fn outline(alloc: Global, document: &Document) -> Result<Value, AllocError>
-    ensures { IfOk result (λ v. view v ≡ outline_data (symbols_of document.now)) }
+pub fn outline(
+    alloc: Global,
+    nests_symbols: bool,
+    document: &Document,
+    uri: &str,
+) -> Result<Value, AllocError>
+    ensures { IfOk result (λ v. view v ≡ outline_data nests_symbols uri.now (symbols_of document.now)) }
 {
-    let blocks = blocks_of(alloc, document)?;
+    let blocks = blocks_of(alloc, nests_symbols, document, uri)?;
     Ok(Value::Array(blocks))
 }
 

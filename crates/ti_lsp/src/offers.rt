@@ -3,29 +3,48 @@ ghost use Rattle.std.specs.Prelude.{◌≡◌, ◌<◌, ◌++◌, IfOk, OnOk, So
 ghost use Rattle.serde_json.specs.View.{view};
 ghost use Rattle.ti_caps.specs.NameOrder.{in_name_order};
 ghost use Rattle.ti_caps.specs.Tables.{count_of};
-ghost use Rattle.ti_lsp.specs.Offers.{all_capabilities, capability_item};
+ghost use Rattle.ti_lsp.specs.Offers.{all_capabilities, byte_at, capability_item, is_obsolete};
 
 use lsp_descriptions::{detail_of, documentation_of};
-use lsp_messages::answers::item_value;
+use lsp_messages::answers::{item_value, obsolete_item_value};
 use lsp_types::{ItemKind, Range};
 use serde_json::Value;
 use std::alloc::{AllocError, Global};
 use ti_caps::{Cap, Kind, by_name, count, name};
 
+// The byte of a name at that place, or 0 after the end.
+fn byte_at(name: &[u8], at: usize) -> u8
+    ensures { result ≡ byte_at name.now at }
+{
+    match name.get(at) {
+        Some(byte) => *byte,
+        None => 0,
+    }
+}
+
+// Whether a name is one of termcap's that is obsolete.
+fn is_obsolete(name: &str) -> bool
+    ensures { result ≡ is_obsolete name.now }
+{
+    let name = name.as_bytes();
+    byte_at(name, 0) == b'O' && byte_at(name, 1) == b'T'
+}
+
 // The item of a capability.
 fn capability_item(alloc: Global, cap: Cap, range: Range) -> Result<Value, AllocError>
     ensures { IfOk result (λ v. view v ≡ capability_item range cap) }
 {
+    let label = name(cap);
     let detail = detail_of(alloc, cap)?;
+    let detail = detail.as_str();
     let documentation = documentation_of(alloc, cap)?;
-    item_value(
-        alloc,
-        ItemKind::Capability,
-        name(cap),
-        detail.as_str(),
-        Some(documentation.as_str()),
-        range,
-    )
+    let documentation = documentation.as_str();
+    let kind = ItemKind::Capability;
+    if is_obsolete(label) {
+        obsolete_item_value(alloc, kind, label, detail, documentation, range)
+    } else {
+        item_value(alloc, kind, label, detail, Some(documentation), range)
+    }
 }
 
 // The capability at a place of the order by name.

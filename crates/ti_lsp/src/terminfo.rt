@@ -10,7 +10,7 @@ use crate::hovering::hover;
 use crate::renaming::{renamable, renamed};
 use lsp_document::{Diagnostic, Document, offset_of};
 use lsp_messages::writing::diagnostic_value;
-use lsp_messages::{Question, Reply};
+use lsp_messages::{Client, Question, Reply};
 use lsp_server::HeldText;
 use lsp_types::Position;
 use serde_json::Value;
@@ -81,6 +81,7 @@ impl HeldText for Terminfo {
     fn answer(
         &self,
         alloc: Global,
+        client: Client,
         uri: &str,
         question: Question<'_>,
     ) -> Result<Reply, AllocError> {
@@ -92,7 +93,7 @@ impl HeldText for Terminfo {
                 with_declaration,
             } => references(alloc, &self.document, uri, place, with_declaration)?,
             Question::Hover(place) => hover(alloc, &self.document, place)?,
-            Question::Symbols => outline(alloc, &self.document)?,
+            Question::Symbols => outline(alloc, client.nests_symbols, &self.document, uri)?,
             Question::Rename { place, name } => {
                 return renamed(alloc, &self.document, uri, place, name);
             }

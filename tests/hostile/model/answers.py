@@ -287,7 +287,9 @@ def capability_items():
     for kind in KINDS:
         for name in sorted(NAMES_OF[kind]):
             detail = f"{WORDS[kind]}, {described(kind, name)[0]}"
-            found.append(item(FIELD_ITEM, name.decode(), detail, documented(kind, name)))
+            # ncurses calls these names of termcap's obsolete
+            is_last = {"sortText": "~" + name.decode(), "tags": [1]} if name.startswith(b"OT") else {}
+            found.append({**item(FIELD_ITEM, name.decode(), detail, documented(kind, name)), **is_last})
     return found
 
 

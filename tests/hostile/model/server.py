@@ -23,6 +23,8 @@ QUESTIONS = {
     "textDocument/references": True, "textDocument/documentSymbol": False, "textDocument/rename": True,
     "textDocument/prepareRename": True, "textDocument/codeAction": False,
 }
+# the methods that tell of a document
+TELLING = ["textDocument/didOpen", "textDocument/didChange", "textDocument/didClose"]
 
 
 class NoJson(Exception):
@@ -104,19 +106,30 @@ def place_of(value):
     return None
 
 
+def is_change(value):
+    """Whether a value is a change: a text, and a range if there is one."""
+    return isinstance(member(value, "text"), str) and (value.get("range") is None or range_of(value["range"]) is not None)
+
+
 def with_change(text, change):
-    """The text after a change, or None if that is no change."""
-    if not isinstance(change, dict) or not isinstance(change.get("text"), str):
-        return None
+    """The text after a change."""
     if change.get("range") is None:
         return change["text"]
-    if not isinstance(change["range"], dict):
-        return None
-    start, end = (place_of(change["range"].get(word)) for word in ("start", "end"))
-    if start is None or end is None:
-        return None
+    start, end = range_of(change["range"])
     at = offset_of(text, *start)
     return text[:at] + change["text"] + text[max(at, offset_of(text, *end)) :]
+
+
+def lost(uri):
+    """What is told of a message about a document that cannot be read."""
+    which, close = ("a document", "the documents, and open them") if uri is None else (uri, "the document, and open it")
+    return {"error": f"A message about {which} could not be read. Close {close} again."}
+
+
+def nests_of(params):
+    """Whether a client takes symbols as a hierarchy."""
+    abilities = member(member(member(params, "capabilities"), "textDocument"), "documentSymbol")
+    return member(abilities, "hierarchicalDocumentSymbolSupport") is True
 
 
 def mark(line, columns, code, message):
@@ -200,7 +213,7 @@ def question_of(method, params):
     return uri, place, None
 
 
-def answer_of(method, text, uri, place, more):
+def answer_of(nests, method, text, uri, place, more):
     """The answer to a question about a text."""
     if method == "textDocument/completion":
         return completion_of(text, place)
@@ -216,7 +229,10 @@ def answer_of(method, text, uri, place, more):
         return hover_of(text, place)
     if method == "textDocument/codeAction":
         return fixes_of(text, uri, *place) if more else []
-    return symbols_of(text) if method == "textDocument/documentSymbol" else None
+    symbols = symbols_of(text)
+    return symbols if nests else [
+        {"kind": each["kind"], "name": each["name"], "location": {"uri": uri, "range": each["range"]}} for each in symbols
+    ]
 
 
 class Server:
@@ -224,6 +240,8 @@ class Server:
 
     def __init__(self):
         self.phase, self.texts, self.status = "fresh", {}, None
+        # whether the client takes a hierarchy, and which documents are out of date
+        self.nests, self.outdated = False, set()
 
     def answer(self, body):
         """What is sent back for a body, as a list that is empty or has one answer."""
@@ -248,7 +266,7 @@ class Server:
         if self.phase == "fresh" and method != "initialize":
             return refusal(number, FRESH)
         if self.phase == "fresh":
-            self.phase = "running"
+            self.phase, self.nests = "running", nests_of(params)
             return {"id": number, "ready": True}
         if self.phase == "running" and method == "shutdown":
             self.phase = "finished"
@@ -262,10 +280,10 @@ class Server:
     def answered(self, number, method, params):
         """The answer to a question about a document."""
         asked = question_of(method, params)
-        if asked is None or asked[0] not in self.texts:
+        if asked is None or asked[0] not in self.texts or asked[0] in self.outdated:
             return refusal(number, BAD_PARAMETERS)
         try:
-            return {"id": number, "result": answer_of(method, self.texts[asked[0]], *asked)}
+            return {"id": number, "result": answer_of(self.nests, method, self.texts[asked[0]], *asked)}
         except Refused:
             return refusal(number, FAILED)
 
@@ -274,32 +292,40 @@ class Server:
         if method == "exit":
             self.status = 0 if self.phase == "finished" else 1
             return []
-        if self.phase != "running":
+        if self.phase != "running" or method not in TELLING:
             return []
-        document = params.get("textDocument") if isinstance(params, dict) else None
-        uri = document.get("uri") if isinstance(document, dict) else None
+        document = member(params, "textDocument")
+        uri = member(document, "uri")
         if not isinstance(uri, str):
-            return []
-        if method == "textDocument/didClose" and uri in self.texts:
-            del self.texts[uri]
-            return [{"uri": uri, "version": None, "shown": []}]
-        if method not in ("textDocument/didOpen", "textDocument/didChange"):
-            return []
-        text = document.get("text") if method.endswith("Open") else self.changed(uri, params.get("contentChanges"))
+            return [lost(None)]
+        if method == "textDocument/didClose":
+            self.outdated.discard(uri)
+            return [] if self.texts.pop(uri, None) is None else [{"uri": uri, "version": None, "shown": []}]
+        if method == "textDocument/didOpen":
+            return self.take(uri, document, document.get("text"))
+        return self.change(uri, document, params.get("contentChanges"))
+
+    def take(self, uri, document, text):
+        """What is published of a document that has this text now."""
         if not isinstance(text, str):
-            return []
-        self.texts[uri] = text
-        version = document.get("version")
+            self.outdated.add(uri)
+            return [lost(uri)]
+        self.texts[uri], version = text, document.get("version")
+        self.outdated.discard(uri)
         return [{"uri": uri, "version": version if is_small(version) else None, "shown": diagnostics_of(text)}]
 
-    def changed(self, uri, changes):
-        """The text of a document after changes; None if it is not open or a change is none."""
-        text = self.texts.get(uri)
-        if not isinstance(changes, list):
-            return None
+    def change(self, uri, document, changes):
+        """What is published of a document that is changed, if it is open."""
+        if not isinstance(changes, list) or not all(map(is_change, changes)):
+            self.outdated.add(uri)
+            return [lost(uri)]
+        is_whole = any(change.get("range") is None for change in changes)
+        if uri not in self.texts or (uri in self.outdated and not is_whole):
+            return []
+        text = self.texts[uri]
         for change in changes:
-            text = None if text is None else with_change(text, change)
-        return text
+            text = with_change(text, change)
+        return self.take(uri, document, text)
 
 
 def frames_in(output):
@@ -330,6 +356,8 @@ def seen(answer):
     if answer.get("jsonrpc") != "2.0":
         raise ValueError(f"an answer is {answer}")
     if "method" in answer:
+        if (answer["method"], answer["params"].get("type")) == ("window/showMessage", 1) and "id" not in answer:
+            return {"error": answer["params"]["message"]}
         if answer["method"] != "textDocument/publishDiagnostics" or "id" in answer:
             raise ValueError(f"a notification is {answer}")
         params = answer["params"]

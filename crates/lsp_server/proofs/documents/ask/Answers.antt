@@ -1,6 +1,5 @@
-use Rattle.std.proofs.Common.{◌≡◌, Some, get_or, refl, sym, ap, ◌∙◌}
+use Rattle.std.proofs.Common.{◌≡◌, get_or, refl, sym, ap, ◌∙◌}
 use Rattle.std.proofs.Math.ListN.{get_or-map}
-use Rattle.lsp_messages.specs.Shapes.{Said}
 use Rattle.lsp_server.proofs.Places.{open_found, open_none}
 use Rattle.lsp_server.specs.States.{documents_view, open_view}
 use Rattle.lsp_server.proofs.documents.ask.Goals as goal
@@ -15,5 +14,4 @@ returns-in_ok-reply-in-Some g c =
     let is : f document ≡ get_or (documents_view g.D.HeldText.text_of c.args.documents.now) c.in-Some.at (f document) =
     ap f c.index-documents-at.is ∙ sym (get_or-map f c.args.documents.now c.in-Some.at document) in
     let found = open_found (documents_view g.D.HeldText.text_of c.args.documents.now) c.args.uri.now c.in-Some.at c.in-Some.ensures.place (f document) is in
-    let answered = rw c.as_str.ensures.value at c.in_ok-reply-in-Some.ensures in
-    rw found (ap (λ (d : Said). Some d) answered)
+    rw found c.in_ok-reply-in-Some.ensures

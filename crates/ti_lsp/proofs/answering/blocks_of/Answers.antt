@@ -8,6 +8,7 @@ use Rattle.ti_lsp.proofs.answering.blocks_of.Goals as goal
 
 pub returns : goal.returns
 returns c =
-    let same = sym (map-map symbol_shown symbol_seen c.as_slice.result.now)
-    ∙ (ap (λ (all : List Symbol). map symbol_shown (map symbol_seen all)) c.as_slice.ensures.value ∙ ap (map symbol_shown) c.in_ok-all.ensures) in
+    let shown = symbol_shown c.args.nests_symbols c.args.uri.now in
+    let same = sym (map-map shown symbol_seen c.as_slice.result.now)
+    ∙ (ap (λ (all : List Symbol). map shown (map symbol_seen all)) c.as_slice.ensures.value ∙ ap (map shown) c.in_ok-all.ensures) in
     IfOk-weaker c.symbol_values.result _ _ (λ values h. h ∙ same) c.symbol_values.ensures

@@ -7,4 +7,4 @@ use Rattle.ti_lsp.proofs.answering.symbol_values.Given as goal
 -- the values so far
 abbrev pub invariant-loop-symbol : goal.invariant-loop-symbol
 invariant-loop-symbol l =
-    map view l.values.items ≡ map (λ s. symbol_shown (symbol_seen s)) (take l.symbol-index l.all)
+    map view l.values.items ≡ map (λ s. symbol_shown l.nests_symbols l.uri (symbol_seen s)) (take l.symbol-index l.all)
