@@ -24,6 +24,7 @@ pub data Query : Type 0 where
   definition : Position → Query
   references : Position → Bool → Query
   symbols : Query
+  highlights : Position → Query
   rename : Position → List ℕ → Query
   prepare_rename : Position → Query
   fixes : Range → Bool → Query
@@ -145,9 +146,10 @@ topic_of method =
     else (if bytes_eq method (codes "textDocument/definition") then Some asks.Definition
     else (if bytes_eq method (codes "textDocument/references") then Some asks.References
     else (if bytes_eq method (codes "textDocument/documentSymbol") then Some asks.Symbols
+    else (if bytes_eq method (codes "textDocument/documentHighlight") then Some asks.Highlights
     else (if bytes_eq method (codes "textDocument/rename") then Some asks.Rename
     else (if bytes_eq method (codes "textDocument/prepareRename") then Some asks.PrepareRename
-    else (if bytes_eq method (codes "textDocument/codeAction") then Some asks.Fixes else None)))))))
+    else (if bytes_eq method (codes "textDocument/codeAction") then Some asks.Fixes else None))))))))
 
 -- "TextDocumentPositionParams"
 abbrev pub asked_place : Data → Option Position
@@ -191,13 +193,14 @@ fixes_of params = do
   Some (fixes range wanted)
 
 -- "CompletionParams", "HoverParams", "DefinitionParams", "DocumentSymbolParams",
--- "PrepareRenameParams", "CodeActionParams"
+-- "DocumentHighlightParams", "PrepareRenameParams", "CodeActionParams"
 abbrev pub question_of : Topic → Data → Option Query
 question_of asks.Completion params = option_map completion (asked_place params)
 question_of asks.Hover params = option_map hover (asked_place params)
 question_of asks.Definition params = option_map definition (asked_place params)
 question_of asks.References params = references_of params
 question_of asks.Symbols params = Some symbols
+question_of asks.Highlights params = option_map highlights (asked_place params)
 question_of asks.Rename params = rename_of params
 question_of asks.PrepareRename params = option_map prepare_rename (asked_place params)
 question_of asks.Fixes params = fixes_of params

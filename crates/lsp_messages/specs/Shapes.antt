@@ -115,6 +115,10 @@ symbol_information_data uri name range =
     (member (codes "location") (location_data uri range)
     (member (codes "name") (string name) no_members)))
 
+-- "DocumentHighlight"
+abbrev pub highlight_data : Range → Data
+highlight_data range = object (member (codes "range") (range_data range) no_members)
+
 -- "MarkupContent"
 abbrev pub plain_data : List ℕ → Data
 plain_data text = object (member (codes "kind") (string (codes "plaintext")) (member (codes "value") (string text) no_members))
@@ -201,12 +205,13 @@ capabilities_data client =
     object (member (codes "codeActionProvider") (action_options_data client.takes_actions)
     (member (codes "completionProvider") completion_options_data
     (member (codes "definitionProvider") (boolean true)
+    (member (codes "documentHighlightProvider") (boolean true)
     (member (codes "documentSymbolProvider") (boolean true)
     (member (codes "hoverProvider") (boolean true)
     (member (codes "positionEncoding") (string (codes "utf-16"))
     (member (codes "referencesProvider") (boolean true)
     (member (codes "renameProvider") (rename_options_data client.prepares_renames)
-    (member (codes "textDocumentSync") sync_data no_members)))))))))
+    (member (codes "textDocumentSync") sync_data no_members))))))))))
 
 -- "InitializeResult"
 abbrev pub server_data : List ℕ → Data

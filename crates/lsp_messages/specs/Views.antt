@@ -10,7 +10,7 @@ use Rattle.lsp_messages.specs.declared.messages.Call.TheVariants as call
 use Rattle.lsp_messages.specs.declared.messages.Notice.{Notice}
 use Rattle.lsp_messages.specs.declared.messages.Notice.TheVariants.{Exited, Opened, Changed, Closed, Lost, Nothing}
 use Rattle.lsp_messages.specs.declared.messages.Question.{Question}
-use Rattle.lsp_messages.specs.declared.messages.Question.TheVariants.{Completion, Hover, Definition, References, Symbols, Rename, PrepareRename, Fixes}
+use Rattle.lsp_messages.specs.declared.messages.Question.TheVariants.{Completion, Hover, Definition, References, Symbols, Highlights, Rename, PrepareRename, Fixes}
 use Rattle.lsp_messages.specs.declared.messages.Reply.{Reply}
 use Rattle.lsp_messages.specs.declared.messages.Reply.TheVariants.{Answer, Refusal}
 use Rattle.lsp_messages.specs.declared.messages.Message.{Message}
@@ -26,6 +26,7 @@ question_view (Hover place) = means.hover place
 question_view (Definition place) = means.definition place
 question_view (References place with_declaration) = means.references place with_declaration
 question_view Symbols = means.symbols
+question_view (Highlights place) = means.highlights place
 question_view (Rename place name) = means.rename place name.now
 question_view (PrepareRename place) = means.prepare_rename place
 question_view (Fixes range wanted) = means.fixes range wanted

@@ -2,7 +2,7 @@
 ghost use Rattle.std.specs.Prelude.{◌≡◌, IfOk, option_map};
 ghost use Rattle.serde_json.specs.Data.{item, no_items};
 ghost use Rattle.serde_json.specs.View.{items_view, view};
-ghost use Rattle.lsp_messages.specs.Shapes.{action_data, hover_data, item_data, list_data, location_data, obsolete_item_data, plain_data, symbol_data, symbol_information_data, text_edit_data, workspace_edit_data};
+ghost use Rattle.lsp_messages.specs.Shapes.{action_data, highlight_data, hover_data, item_data, list_data, location_data, obsolete_item_data, plain_data, symbol_data, symbol_information_data, text_edit_data, workspace_edit_data};
 
 use crate::objects::{with_number, with_text, with_value};
 use crate::writing::range_value;
@@ -58,6 +58,17 @@ pub fn symbol_information_value(
 {
     let location = location_value(alloc, uri, range)?;
     json!(in alloc; {"kind": 23_u32, "location": location, "name": name})
+}
+
+/// A part of a document that names the same as another ("DocumentHighlight").
+///
+/// # Errors
+/// `AllocError` if memory ran out.
+pub fn highlight_value(alloc: Global, range: Range) -> Result<Value, AllocError>
+    ensures { IfOk result (λ v. view v ≡ highlight_data range) }
+{
+    let range = range_value(alloc, range)?;
+    json!(in alloc; {"range": range})
 }
 
 // A text without markup ("MarkupContent").

@@ -22,6 +22,8 @@ pub(crate) enum Topic {
     References,
     /// What the document defines.
     Symbols,
+    /// What else names what a name is of.
+    Highlights,
     /// The changes that give what has a name at a place another one.
     Rename,
     /// Which name a rename at a place is of.
@@ -40,6 +42,7 @@ pub(crate) fn topic_of(method: &str) -> Option<Topic>
         "textDocument/definition" => Some(Topic::Definition),
         "textDocument/references" => Some(Topic::References),
         "textDocument/documentSymbol" => Some(Topic::Symbols),
+        "textDocument/documentHighlight" => Some(Topic::Highlights),
         "textDocument/rename" => Some(Topic::Rename),
         "textDocument/prepareRename" => Some(Topic::PrepareRename),
         "textDocument/codeAction" => Some(Topic::Fixes),
@@ -119,6 +122,7 @@ fn read_question(topic: Topic, params: &Value) -> Option<Question<'_>>
         Topic::Definition => Some(Question::Definition(position_at(params, "position")?)),
         Topic::References => read_references(params),
         Topic::Symbols => Some(Question::Symbols),
+        Topic::Highlights => Some(Question::Highlights(position_at(params, "position")?)),
         Topic::Rename => read_rename(params),
         Topic::PrepareRename => Some(Question::PrepareRename(position_at(params, "position")?)),
         Topic::Fixes => read_fixes(params),

@@ -30,6 +30,8 @@ pub enum Question<'a> {
     },
     /// What the document defines ("Document Symbols Request").
     Symbols,
+    /// What else names what the name at a place is of ("Document Highlights Request").
+    Highlights(Position),
     /// The changes that give what has a name at a place another one ("Rename Request").
     Rename {
         /// The place.

@@ -234,6 +234,8 @@ fn capabilities_value(alloc: Global, client: Client) -> Result<Value, AllocError
     let completions = completion_options_value(alloc)?;
     let members = with_value(alloc, members, "completionProvider", completions)?;
     let members = with_value(alloc, members, "definitionProvider", Value::Bool(true))?;
+    let highlights = Value::Bool(true);
+    let members = with_value(alloc, members, "documentHighlightProvider", highlights)?;
     let members = with_value(alloc, members, "documentSymbolProvider", Value::Bool(true))?;
     let members = with_value(alloc, members, "hoverProvider", Value::Bool(true))?;
     let members = with_text(alloc, members, "positionEncoding", "utf-16")?;

@@ -1,7 +1,7 @@
 -- What the source for tests says of a text.
 use Rattle.std.specs.Prelude.{ℕ, List, Bool, codes, false, length, nat_eq, refl, true, if◌then◌else◌}
 use Rattle.serde_json.specs.Data.{Data, Items, array, boolean, item, no_items, number, string, unsigned}
-use Rattle.lsp_messages.specs.Messages.{Query, completion, hover, definition, references, symbols, rename, prepare_rename, fixes}
+use Rattle.lsp_messages.specs.Messages.{Query, completion, hover, definition, references, symbols, highlights, rename, prepare_rename, fixes}
 use Rattle.lsp_messages.specs.Shapes.{Said, said_answer, said_refusal}
 use Rattle.lsp_types.specs.declared.failures.Failure.TheVariants.{NoName}
 use Rattle.lsp_messages.specs.declared.clients.Client.{Client}
@@ -14,6 +14,7 @@ word_of (hover place) = codes "hover"
 word_of (definition place) = codes "definition"
 word_of (references place with_declaration) = codes "references"
 word_of symbols = codes "symbols"
+word_of (highlights place) = codes "highlights"
 word_of (rename place name) = name
 word_of (prepare_rename place) = codes "prepareRename"
 word_of (fixes range wanted) = codes "fixes"
@@ -24,6 +25,7 @@ place_of (hover place) = place
 place_of (definition place) = place
 place_of (references place with_declaration) = place
 place_of symbols = record { line = 0; column = 0 }
+place_of (highlights place) = place
 place_of (rename place name) = place
 place_of (prepare_rename place) = place
 place_of (fixes range wanted) = range.start
@@ -34,6 +36,7 @@ flag_of client (hover place) = false
 flag_of client (definition place) = false
 flag_of client (references place with_declaration) = with_declaration
 flag_of client symbols = client.nests_symbols
+flag_of client (highlights place) = false
 flag_of client (rename place name) = false
 flag_of client (prepare_rename place) = false
 flag_of client (fixes range wanted) = wanted

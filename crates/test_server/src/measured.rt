@@ -34,6 +34,7 @@ fn parts_of(client: Client, question: Question<'_>) -> (&str, Position, bool)
             with_declaration,
         } => ("references", place, with_declaration),
         Question::Symbols => ("symbols", start, client.nests_symbols),
+        Question::Highlights(place) => ("highlights", place, false),
         Question::Rename { place, name } => (name, place, false),
         Question::PrepareRename(place) => ("prepareRename", place, false),
         Question::Fixes { range, wanted } => ("fixes", range.start, wanted),

@@ -21,7 +21,7 @@ const INITIALIZE: &str =
     r#"{"jsonrpc":"2.0","id":1,"method":"initialize","params":{"capabilities":{}}}"#;
 
 const READY: &str =
-    r#"{"id":1,"jsonrpc":"2.0","result":{"capabilities":{"codeActionProvider":false,"completionProvider":{"triggerCharacters":["="]},"definitionProvider":true,"documentSymbolProvider":true,"hoverProvider":true,"positionEncoding":"utf-16","referencesProvider":true,"renameProvider":true,"textDocumentSync":{"change":2,"openClose":true}},"serverInfo":{"name":"ti-lsp","version":"1.0.0"}}}"#;
+    r#"{"id":1,"jsonrpc":"2.0","result":{"capabilities":{"codeActionProvider":false,"completionProvider":{"triggerCharacters":["="]},"definitionProvider":true,"documentHighlightProvider":true,"documentSymbolProvider":true,"hoverProvider":true,"positionEncoding":"utf-16","referencesProvider":true,"renameProvider":true,"textDocumentSync":{"change":2,"openClose":true}},"serverInfo":{"name":"ti-lsp","version":"1.0.0"}}}"#;
 
 // A client that asks which name a rename is of, and that takes code actions.
 const INITIALIZE_ABLE: &str =
@@ -32,10 +32,10 @@ const INITIALIZE_PLAIN: &str =
     r#"{"jsonrpc":"2.0","id":1,"method":"initialize","params":{"capabilities":{"textDocument":{"codeAction":{"codeActionLiteralSupport":{}}}}}}"#;
 
 const READY_FOR_PLAIN: &str =
-    r#"{"id":1,"jsonrpc":"2.0","result":{"capabilities":{"codeActionProvider":{"codeActionKinds":["quickfix"]},"completionProvider":{"triggerCharacters":["="]},"definitionProvider":true,"documentSymbolProvider":true,"hoverProvider":true,"positionEncoding":"utf-16","referencesProvider":true,"renameProvider":true,"textDocumentSync":{"change":2,"openClose":true}},"serverInfo":{"name":"ti-lsp","version":"1.0.0"}}}"#;
+    r#"{"id":1,"jsonrpc":"2.0","result":{"capabilities":{"codeActionProvider":{"codeActionKinds":["quickfix"]},"completionProvider":{"triggerCharacters":["="]},"definitionProvider":true,"documentHighlightProvider":true,"documentSymbolProvider":true,"hoverProvider":true,"positionEncoding":"utf-16","referencesProvider":true,"renameProvider":true,"textDocumentSync":{"change":2,"openClose":true}},"serverInfo":{"name":"ti-lsp","version":"1.0.0"}}}"#;
 
 const READY_FOR_ABLE: &str =
-    r#"{"id":1,"jsonrpc":"2.0","result":{"capabilities":{"codeActionProvider":{"codeActionKinds":["quickfix"]},"completionProvider":{"triggerCharacters":["="]},"definitionProvider":true,"documentSymbolProvider":true,"hoverProvider":true,"positionEncoding":"utf-16","referencesProvider":true,"renameProvider":{"prepareProvider":true},"textDocumentSync":{"change":2,"openClose":true}},"serverInfo":{"name":"ti-lsp","version":"1.0.0"}}}"#;
+    r#"{"id":1,"jsonrpc":"2.0","result":{"capabilities":{"codeActionProvider":{"codeActionKinds":["quickfix"]},"completionProvider":{"triggerCharacters":["="]},"definitionProvider":true,"documentHighlightProvider":true,"documentSymbolProvider":true,"hoverProvider":true,"positionEncoding":"utf-16","referencesProvider":true,"renameProvider":{"prepareProvider":true},"textDocumentSync":{"change":2,"openClose":true}},"serverInfo":{"name":"ti-lsp","version":"1.0.0"}}}"#;
 
 // A client that takes symbols as a hierarchy.
 const INITIALIZE_NESTING: &str =
@@ -304,6 +304,7 @@ const QUESTIONS: [Session; 6] = [
             r#"{"id":0,"method":"textDocument/references","params":{"context":{"includeDeclaration":true},"position":{"character":8,"line":9},"textDocument":{"uri":"v"}}}"#,
             r#"{"id":1,"method":"textDocument/references","params":{"context":{"includeDeclaration":false},"position":{"character":8,"line":9},"textDocument":{"uri":"u"}}}"#,
             r#"{"id":2,"method":"textDocument/documentSymbol","params":{"textDocument":{"uri":"v"}}}"#,
+            r#"{"id":3,"method":"textDocument/documentHighlight","params":{"textDocument":{"uri":"v"},"position":{"line":6,"character":5}}}"#,
         ],
         answers: &[
             READY,
@@ -315,6 +316,7 @@ const QUESTIONS: [Session; 6] = [
             r#"{"id":0,"jsonrpc":"2.0","result":["v",2,"references",9,8,true]}"#,
             r#"{"id":1,"jsonrpc":"2.0","result":["u",3,"references",9,8,false]}"#,
             r#"{"id":2,"jsonrpc":"2.0","result":["v",2,"symbols",0,0,false]}"#,
+            r#"{"id":3,"jsonrpc":"2.0","result":["v",2,"highlights",6,5,false]}"#,
         ],
         end: Err(FrameError::Broken),
     },
@@ -413,6 +415,7 @@ const QUESTIONS: [Session; 6] = [
             r#"{"id":3,"method":"textDocument/rename","params":{"textDocument":{"uri":"u"},"position":{"line":0,"character":0},"newName":null}}"#,
             r#"{"id":3,"method":"textDocument/rename","params":{"textDocument":{"uri":"u"},"newName":"vt"}}"#,
             r#"{"id":3,"method":"textDocument/prepareRename","params":{"textDocument":{"uri":"u"}}}"#,
+            r#"{"id":3,"method":"textDocument/documentHighlight","params":{"textDocument":{"uri":"u"}}}"#,
             r#"{"id":3,"method":"textDocument/codeAction","params":{"textDocument":{"uri":"u"},"range":{"start":{"line":1,"character":2},"end":{"line":3,"character":4}}}}"#,
             r#"{"id":3,"method":"textDocument/codeAction","params":{"textDocument":{"uri":"u"},"range":{"start":{"line":1,"character":2},"end":{"line":3,"character":4}},"context":{"only":"quickfix"}}}"#,
             r#"{"id":3,"method":"textDocument/codeAction","params":{"textDocument":{"uri":"u"},"range":{"start":{"line":0,"character":0}},"context":{}}}"#,
@@ -420,6 +423,7 @@ const QUESTIONS: [Session; 6] = [
         answers: &[
             READY,
             OPENED,
+            NOT_ANSWERED,
             NOT_ANSWERED,
             NOT_ANSWERED,
             NOT_ANSWERED,

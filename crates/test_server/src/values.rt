@@ -1,7 +1,8 @@
 //! The values that are sent, as the protocol has them.
 use lsp_messages::answers::{
-    action_value, hover_value, item_value, list_value, location_value, obsolete_item_value,
-    symbol_information_value, symbol_value, text_edit_value, workspace_edit_value,
+    action_value, highlight_value, hover_value, item_value, list_value, location_value,
+    obsolete_item_value, symbol_information_value, symbol_value, text_edit_value,
+    workspace_edit_value,
 };
 use lsp_messages::writing::{
     diagnostic_value, initialized_value, lost_value, position_value, publish_value, range_value,
@@ -77,6 +78,9 @@ const SYMBOL_INFORMATION_TEXT: &str =
 const LOCATION_TEXT: &str =
     r#"{"range":{"end":{"character":0,"line":3},"start":{"character":1,"line":2}},"uri":"file:///a"}"#;
 
+const HIGHLIGHT_TEXT: &str =
+    r#"{"range":{"end":{"character":0,"line":3},"start":{"character":1,"line":2}}}"#;
+
 const HOVER_TEXT: &str =
     r#"{"contents":{"kind":"plaintext","value":"am\nflag"},"range":{"end":{"character":0,"line":3},"start":{"character":1,"line":2}}}"#;
 
@@ -93,6 +97,8 @@ fn symbols_and_hovers(rt: HostRuntime) -> Result<(), Fail> {
     assert!(rt; symbol.to_string(alloc)?.as_str() == SYMBOL_INFORMATION_TEXT);
     let location = location_value(alloc, "file:///a", RANGE)?;
     assert!(rt; location.to_string(alloc)?.as_str() == LOCATION_TEXT);
+    let highlight = highlight_value(alloc, RANGE)?;
+    assert!(rt; highlight.to_string(alloc)?.as_str() == HIGHLIGHT_TEXT);
     let hover = hover_value(alloc, "am\nflag", RANGE)?;
     assert!(rt; hover.to_string(alloc)?.as_str() == HOVER_TEXT);
     Ok(())
@@ -133,10 +139,10 @@ const REFUSED: &str =
     r#"{"error":{"code":-32803,"message":"an entry has or uses the new name already"},"id":null,"jsonrpc":"2.0"}"#;
 
 const READY: &str =
-    r#"{"capabilities":{"codeActionProvider":{"codeActionKinds":["quickfix"]},"completionProvider":{"triggerCharacters":["="]},"definitionProvider":true,"documentSymbolProvider":true,"hoverProvider":true,"positionEncoding":"utf-16","referencesProvider":true,"renameProvider":{"prepareProvider":true},"textDocumentSync":{"change":2,"openClose":true}},"serverInfo":{"name":"ti-lsp","version":"9"}}"#;
+    r#"{"capabilities":{"codeActionProvider":{"codeActionKinds":["quickfix"]},"completionProvider":{"triggerCharacters":["="]},"definitionProvider":true,"documentHighlightProvider":true,"documentSymbolProvider":true,"hoverProvider":true,"positionEncoding":"utf-16","referencesProvider":true,"renameProvider":{"prepareProvider":true},"textDocumentSync":{"change":2,"openClose":true}},"serverInfo":{"name":"ti-lsp","version":"9"}}"#;
 
 const READY_FOR_LESS: &str =
-    r#"{"capabilities":{"codeActionProvider":false,"completionProvider":{"triggerCharacters":["="]},"definitionProvider":true,"documentSymbolProvider":true,"hoverProvider":true,"positionEncoding":"utf-16","referencesProvider":true,"renameProvider":true,"textDocumentSync":{"change":2,"openClose":true}},"serverInfo":{"name":"ti-lsp","version":"9"}}"#;
+    r#"{"capabilities":{"codeActionProvider":false,"completionProvider":{"triggerCharacters":["="]},"definitionProvider":true,"documentHighlightProvider":true,"documentSymbolProvider":true,"hoverProvider":true,"positionEncoding":"utf-16","referencesProvider":true,"renameProvider":true,"textDocumentSync":{"change":2,"openClose":true}},"serverInfo":{"name":"ti-lsp","version":"9"}}"#;
 
 // A client that asks which name a rename is of, and that takes code actions.
 const ABLE: Client = Client {

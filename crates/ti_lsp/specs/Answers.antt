@@ -2,8 +2,8 @@
 use Rattle.std.specs.Prelude.{ℕ, List, [], Bool, false, true, Option, None, Some, codes, map}
 use Rattle.serde_json.specs.Data.{Data, array, null}
 use Rattle.serde_json.specs.View.{items_of}
-use Rattle.lsp_messages.specs.Messages.{Query, completion, hover, definition, references, symbols, rename, prepare_rename, fixes}
-use Rattle.lsp_messages.specs.Shapes.{Said, said_answer, said_refusal, item_data, list_data, location_data, range_data, symbol_data, symbol_information_data}
+use Rattle.lsp_messages.specs.Messages.{Query, completion, hover, definition, references, symbols, highlights, rename, prepare_rename, fixes}
+use Rattle.lsp_messages.specs.Shapes.{Said, said_answer, said_refusal, highlight_data, item_data, list_data, location_data, range_data, symbol_data, symbol_information_data}
 use Rattle.lsp_messages.specs.Shapes.{text_edit_data, workspace_edit_data}
 use Rattle.lsp_messages.specs.declared.clients.Client.{Client}
 use Rattle.lsp_types.specs.declared.items.ItemKind.TheVariants as items
@@ -38,6 +38,10 @@ definition_data uri (Some range) = location_data uri range
 -- where names are used
 abbrev pub references_data : List ℕ → List Range → Data
 references_data uri ranges = array (items_of (map (location_data uri) ranges))
+
+-- where a name is used, and where what it is of is defined ("DocumentHighlight")
+abbrev pub highlights_data : List Range → Data
+highlights_data ranges = array (items_of (map highlight_data ranges))
 
 -- the item of the name of an entry, put in place of a range
 abbrev pub entry_item : Range → List ℕ → Data
@@ -75,6 +79,7 @@ answer_of client text uri (hover place) = said_answer (hover_shown (hover_of tex
 answer_of client text uri (definition place) = said_answer (definition_data uri (definition_of text place))
 answer_of client text uri (references place with_declaration) = said_answer (references_data uri (references_of text place with_declaration))
 answer_of client text uri symbols = said_answer (outline_data client.nests_symbols uri (symbols_of text))
+answer_of client text uri (highlights place) = said_answer (highlights_data (references_of text place true))
 answer_of client text uri (rename place name) = renamed_said uri name (renaming_of text place name)
 answer_of client text uri (prepare_rename place) = said_answer (renamable_data (renamable_at text place))
 answer_of client text uri (fixes range wanted) = said_answer (fixes_data uri wanted (fixes_of text range))

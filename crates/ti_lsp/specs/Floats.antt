@@ -11,8 +11,8 @@ use Rattle.lsp_features.specs.Names.{definition_of, references_of}
 use Rattle.lsp_features.specs.Renaming.{RenamingSeen, refuses, renamable_at, renames, renames_nothing, renaming_of}
 use Rattle.lsp_fixes.specs.Fixes.{FixSeen, fixes_of}
 use Rattle.ti_lsp.specs.Fixes.{fix_shown, fixes_data}
-use Rattle.lsp_messages.specs.Messages.{Query, completion, hover, definition, references, symbols, rename, prepare_rename, fixes}
-use Rattle.lsp_messages.specs.Shapes.{location_data, text_edit_data}
+use Rattle.lsp_messages.specs.Messages.{Query, completion, hover, definition, references, symbols, highlights, rename, prepare_rename, fixes}
+use Rattle.lsp_messages.specs.Shapes.{highlight_data, location_data, text_edit_data}
 use Rattle.lsp_messages.specs.declared.clients.Client.{Client}
 use Rattle.lsp_types.specs.declared.places.Range.{Range}
 use Rattle.lsp_server.specs.Sayings.{HasNoFloats, SaidHasNoFloat}
@@ -92,6 +92,7 @@ answers_have_no_floats client text uri (hover place) = none_in_hover (hover_of t
 answers_have_no_floats client text uri (definition place) = none_in_definition uri (definition_of text place)
 answers_have_no_floats client text uri (references place with_declaration) = none_in_references uri (references_of text place with_declaration)
 answers_have_no_floats client text uri symbols = none_in_outline client.nests_symbols uri (symbols_of text)
+answers_have_no_floats client text uri (highlights place) = none_in_highlights (references_of text place true)
 answers_have_no_floats client text uri (rename place name) = none_in_renaming uri name (renaming_of text place name)
 answers_have_no_floats client text uri (prepare_rename place) = none_in_renamable (renamable_at text place)
 answers_have_no_floats client text uri (fixes range wanted) = none_in_wanted uri wanted (fixes_of text range)

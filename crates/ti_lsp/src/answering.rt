@@ -1,19 +1,19 @@
 //! Answers to questions about a terminfo source, as values of the protocol.
-ghost use Rattle.std.specs.Prelude.{◌≡◌, IfOk, map};
+ghost use Rattle.std.specs.Prelude.{◌≡◌, IfOk, map, true};
 ghost use Rattle.std.specs.String.{string_bytes};
 ghost use Rattle.serde_json.specs.View.{view};
 ghost use Rattle.lsp_blocks.specs.Symbols.{symbol_seen, symbols_of};
 ghost use Rattle.lsp_features.specs.Completions.{completion_of, offers_seen};
 ghost use Rattle.lsp_features.specs.Names.{definition_of, references_of};
-ghost use Rattle.ti_lsp.specs.Answers.{completion_data, definition_data, entry_item, offered_items, outline_data, references_data, symbol_shown};
-ghost use Rattle.lsp_messages.specs.Shapes.{location_data};
+ghost use Rattle.ti_lsp.specs.Answers.{completion_data, definition_data, entry_item, highlights_data, offered_items, outline_data, references_data, symbol_shown};
+ghost use Rattle.lsp_messages.specs.Shapes.{highlight_data, location_data};
 
 use crate::offers::capability_items;
 use lsp_blocks::{Symbol, symbols_of};
 use lsp_document::Document;
 use lsp_features::{Offers, completion_of, definition_of, references_of};
 use lsp_messages::answers::{
-    item_value, list_value, location_value, symbol_information_value, symbol_value,
+    highlight_value, item_value, list_value, location_value, symbol_information_value, symbol_value,
 };
 use lsp_types::{ItemKind, Position, Range};
 use serde_json::Value;
@@ -140,6 +140,41 @@ pub fn references(
 {
     let uses = uses_of(alloc, document, uri, place, with_declaration)?;
     Ok(Value::Array(uses))
+}
+
+// Parts of a document that name the same.
+fn highlight_values(alloc: Global, ranges: &[Range]) -> Result<Vec<Value>, AllocError>
+    ensures { IfOk result (λ values. map view values.items ≡ map highlight_data ranges.now) }
+{
+    let mut values = Vec::new(alloc);
+    for range in ranges {
+        values.push(highlight_value(alloc, *range)?)?;
+    }
+    Ok(values)
+}
+
+// Where the names are that belong to the owner of the name at a place.
+fn highlighted(
+    alloc: Global,
+    document: &Document,
+    place: Position,
+) -> Result<Vec<Value>, AllocError>
+    ensures { IfOk result (λ values. map view values.items ≡ map highlight_data (references_of document.now place true)) }
+{
+    let ranges = references_of(alloc, document, place, true)?;
+    highlight_values(alloc, ranges.as_slice())
+}
+
+/// Where the names are used that belong to the owner of the name at a place, and where that owner
+/// is defined.
+///
+/// # Errors
+/// Out of memory.
+pub fn highlights(alloc: Global, document: &Document, place: Position) -> Result<Value, AllocError>
+    ensures { IfOk result (λ v. view v ≡ highlights_data (references_of document.now place true)) }
+{
+    let found = highlighted(alloc, document, place)?;
+    Ok(Value::Array(found))
 }
 
 // The items of names of entries, each put in place of a range.

@@ -4,7 +4,7 @@ ghost use Rattle.serde_json.specs.View.{view};
 ghost use Rattle.lsp_document.specs.Diagnostics.{diagnostic_seen};
 ghost use Rattle.ti_lsp.specs.Shown.{shown_data};
 
-use crate::answering::{completion, definition, outline, references};
+use crate::answering::{completion, definition, highlights, outline, references};
 use crate::fixing::fixes;
 use crate::hovering::hover;
 use crate::renaming::{renamable, renamed};
@@ -94,6 +94,7 @@ impl HeldText for Terminfo {
             } => references(alloc, &self.document, uri, place, with_declaration)?,
             Question::Hover(place) => hover(alloc, &self.document, place)?,
             Question::Symbols => outline(alloc, client.nests_symbols, &self.document, uri)?,
+            Question::Highlights(place) => highlights(alloc, &self.document, place)?,
             Question::Rename { place, name } => {
                 return renamed(alloc, &self.document, uri, place, name);
             }

@@ -21,7 +21,7 @@ NO_JSON, NO_REQUEST, NO_METHOD, BAD_PARAMETERS, FRESH, FAILED = -32700, -32600, 
 QUESTIONS = {
     "textDocument/completion": True, "textDocument/hover": True, "textDocument/definition": True,
     "textDocument/references": True, "textDocument/documentSymbol": False, "textDocument/rename": True,
-    "textDocument/prepareRename": True, "textDocument/codeAction": False,
+    "textDocument/prepareRename": True, "textDocument/codeAction": False, "textDocument/documentHighlight": True,
 }
 # the methods that tell of a document
 TELLING = ["textDocument/didOpen", "textDocument/didChange", "textDocument/didClose"]
@@ -221,6 +221,8 @@ def answer_of(nests, method, text, uri, place, more):
         return definition_of(text, uri, place)
     if method == "textDocument/references":
         return references_of(text, uri, place, more)
+    if method == "textDocument/documentHighlight":
+        return [{"range": each["range"]} for each in references_of(text, uri, place, True)]
     if method == "textDocument/rename":
         return renamed_of(text, uri, place, more)
     if method == "textDocument/prepareRename":
