@@ -41,6 +41,10 @@ none_in_references : (uri : List ℕ) (ranges : List Range) → items_have_float
 none_in_references uri [] = refl
 none_in_references uri (range ∷ ranges) = none_in_references uri ranges
 
+none_in_highlights : (ranges : List Range) → items_have_float (items_of (map highlight_data ranges)) ≡ false
+none_in_highlights [] = refl
+none_in_highlights (range ∷ ranges) = none_in_highlights ranges
+
 none_in_described : (obsolete : Bool) (range : Range) (cap : Capability) → has_float (described_item obsolete range cap) ≡ false
 none_in_described true range cap = refl
 none_in_described false range cap = refl
