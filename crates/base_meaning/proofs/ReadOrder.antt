@@ -10,8 +10,8 @@ use Rattle.ti_caps.specs.declared.capability.Kind.{Kind}
 use Rattle.ti_caps.specs.declared.capability.Kind.TheVariants.{Flag, Number, Text}
 use Rattle.ti_source.specs.declared.code.Code.{Code}
 use Rattle.ti_source.specs.declared.code.Code.TheVariants as code
-use Rattle.ti_source.specs.declared.numbers.NumberError.{NumberError}
-use Rattle.ti_source.specs.declared.numbers.NumberError.TheVariants.{Bad, TooLarge}
+use Rattle.ti_spelling.specs.declared.numbers.NumberError.{NumberError}
+use Rattle.ti_spelling.specs.declared.numbers.NumberError.TheVariants.{Bad, TooLarge}
 use Rattle.ti_source.specs.Folding.{PlacedByte}
 use Rattle.ti_source.specs.Items.{Claim, Statement, piece_of, without_outer_space}
 use Rattle.ti_source.specs.Stating.{statement_of}

@@ -13,14 +13,14 @@ flag_rows =
     ("bw", "auto_left_margin", "Moving left from the first column leads to the end of the line above", "") ∷
     ("am", "auto_right_margin", "Lines wrap at the right margin", "") ∷
     ("xsb", "no_esc_ctlc", "Function keys F1 and F2 serve as Escape and Ctrl-C (Beehive)", "") ∷
-    ("xhp", "ceol_standout_glitch", "Standout stays when it is written over; only el takes it away", "") ∷
+    ("xhp", "ceol_standout_glitch", "Standout stays when it is written over; only el removes it", "") ∷
     ("xenl", "eat_newline_glitch", "A newline straight after a wrap at the right margin is ignored", "") ∷
     ("eo", "erase_overstrike", "A space erases characters that were written on top of each other", "") ∷
     ("gn", "generic_type", "The entry is for a kind of line, not for one known terminal", "") ∷
     ("hc", "hard_copy", "The terminal prints on paper", "") ∷
     ("km", "has_meta_key", "The keyboard has a meta key, which sets the eighth bit", "") ∷
     ("hs", "has_status_line", "The terminal has a status line apart from its screen", "") ∷
-    ("in", "insert_null_glitch", "Insert mode tells cells never written from written spaces", "") ∷
+    ("in", "insert_null_glitch", "Insert mode distinguishes cells never written from written spaces", "") ∷
     ("da", "memory_above", "Lines that leave the screen at the top may be kept in memory", "") ∷
     ("db", "memory_below", "Lines that leave the screen at the bottom may be kept in memory", "") ∷
     ("mir", "move_insert_mode", "The cursor may be moved while insert mode is on", "") ∷
@@ -488,13 +488,13 @@ text_rows_6 =
     ("zerom", "zero_motion", "Print the next character without moving past it", "") ∷
     ("csnm", "char_set_names", "Give the name of a character set", "set") ∷
     ("kmous", "key_mouse", "The sequence that announces an event of the mouse", "") ∷
-    ("minfo", "mouse_info", "Tell the state of the mouse", "") ∷
+    ("minfo", "mouse_info", "Report the state of the mouse", "") ∷
     ("reqmp", "req_mouse_pos", "Ask where the mouse is", "") ∷
     ("getm", "get_mouse", "Ask for the events of the mouse's buttons", "buttons") ∷
     ("setaf", "set_a_foreground", "Set the foreground colour, numbered in ANSI's order", "colour") ∷
     ("setab", "set_a_background", "Set the background colour, numbered in ANSI's order", "colour") ∷
     ("pfxl", "pkey_plab", "Program a function key to type a text and to show a label", "key, text, label") ∷
-    ("devt", "device_type", "Tell which languages and code sets the device supports", "") ∷
+    ("devt", "device_type", "Report which languages and code sets the device supports", "") ∷
     ("csin", "code_set_init", "Set the terminal up for several code sets", "") ∷
     ("s0ds", "set0_des_seq", "Change to code set 0, which is ASCII", "") ∷
     ("s1ds", "set1_des_seq", "Change to code set 1", "") ∷

@@ -130,7 +130,8 @@ written_cut width source =
 
 pub keeps_reading : FormattingKeepsReading
 keeps_reading width source =
-    let parts = cut_is_computed (formatted_text width source) (front_of 10 source) (map (block_text width) (blocks_from_head 10 source)) (written_cut width source) in
+    let written = map (block_text width) (blocks_from_head 10 source) in
+    let parts = cut_is_computed (formatted_text width source) (front_of 10 source) written (written_cut width source) in
     record {
       preface = sym parts.0;
       blocks = subst (λ (bs : List (List ℕ)). ReadAlike (blocks_from_head 10 source) bs) (sym parts.1)
@@ -144,4 +145,5 @@ is_settled width source =
     ap (λ (p : List ℕ). p ++ flat_map (block_text width) (blocks_from_head 10 (formatted_text width source))) parts.0
     ∙ ap (λ (cs : List (List ℕ)). front_of 10 source ++ flat_map (block_text width) cs) parts.1
     ∙ ap (λ (t : List ℕ). front_of 10 source ++ t)
-    (joined width (map (block_text width) bs) ∙ ap concat (all_again width (last_byte 10 (front_of 10 source)) bs (each_has_cut source).each) ∙ sym (joined width bs))
+    (joined width (map (block_text width) bs)
+    ∙ ap concat (all_again width (last_byte 10 (front_of 10 source)) bs (each_has_cut source).each) ∙ sym (joined width bs))

@@ -12,7 +12,8 @@ use Rattle.ti_source.specs.inside.Items.{after_field, field_of}
 use Rattle.ti_source.proofs.ItemLaws.{BeginsVisible}
 use Rattle.lsp_spans.specs.Parts.{with_first}
 use Rattle.lsp_spans.proofs.Escaping.{Escape, backslash, caret, cuts, escape_after, items_of, nothing}
-use Rattle.lsp_format.specs.Pieces.{Entry, KeptLine, Piece, item, kept, entries, entries_of, is_kept, kept_from, kept_lines, kept_piece, lines_before, lines_from}
+use Rattle.lsp_format.specs.Pieces.{Entry, KeptLine, Piece, item, kept, entries, entries_of, is_kept, kept_from, kept_lines, kept_piece, lines_before}
+use Rattle.lsp_format.specs.Pieces.{lines_from}
 use Rattle.lsp_format.specs.Pieces.{lines_of, merged, pieces_of, with_first_byte}
 use Rattle.lsp_format.specs.Laws.{item_texts}
 use Rattle.lsp_format.proofs.Cut.{Ends, Goes, items_computed}
@@ -70,7 +71,9 @@ good_items by before (x ∷ xs) n =
 
 block_good : (block : List ℕ) → GoodItems nothing 44 (block_items block)
 block_good block =
-    subst (GoodItems nothing 44) (sym (items_computed block)) (good_items nothing 44 (after_field (folding_of block)) (rest_one_line (folding_of block) (no_breaks false (without_comments false 10 (bytes_on_lines 1 block)))))
+    let folded = folding_of block in
+    let one_line = rest_one_line folded (no_breaks false (without_comments false 10 (bytes_on_lines 1 block))) in
+    subst (GoodItems nothing 44) (sym (items_computed block)) (good_items nothing 44 (after_field folded) one_line)
 
 -- ---- the white space at the front of an item
 
@@ -267,7 +270,8 @@ ordered_item _ line _ _ ks ps (entry_last x {xs = xs} one visible goes) ordered 
 
 ordered_merged : (es : List Entry) (ks : List KeptLine) → FineEntries es → AreOrdered (merged es ks)
 ordered_merged [] ks fine = ordered_left ks
-ordered_merged (e ∷ es) ks fine = ordered_item e.text e.line e.ended es ks (merged es (lines_from e.line ks)) fine.0 (ordered_merged es (lines_from e.line ks) fine.1)
+ordered_merged (e ∷ es) ks fine =
+    ordered_item e.text e.line e.ended es ks (merged es (lines_from e.line ks)) fine.0 (ordered_merged es (lines_from e.line ks) fine.1)
 
 texts_lines : (ks : List KeptLine) (ps : List Piece) → texts_of (map kept_piece ks ++ ps) ≡ texts_of ps
 texts_lines [] ps = refl
@@ -284,7 +288,8 @@ texts_last p ks = by_text p.text p.line ks
     by_text [] line ks = texts_left ks
     by_text (x ∷ xs) line ks = texts_lines (lines_before line ks) (item (x ∷ xs) false ∷ merged [] (lines_from line ks))
 
-texts_merged : (p : ItemPiece) (ps : List ItemPiece) (ks : List KeptLine) → texts_of (merged (entries_of (p ∷ ps)) ks) ≡ map (λ (q : ItemPiece). q.text) (p ∷ ps)
+texts_merged : (p : ItemPiece) (ps : List ItemPiece) (ks : List KeptLine)
+    → texts_of (merged (entries_of (p ∷ ps)) ks) ≡ map (λ (q : ItemPiece). q.text) (p ∷ ps)
 texts_merged p [] ks = texts_last p ks
 texts_merged p (q ∷ ps) ks =
     let left = lines_from p.line ks in

@@ -16,7 +16,8 @@ HasNoItem (kept line ∷ ps) = HasNoItem ps
 -- one that no comma ends, which is not empty
 pub data IsFine : (text : List ℕ) → Bool → List Piece → Type 0 where
   fine_ended : {text : List ℕ} {ps : List Piece} → IsOneLine text → BeginsVisible text → Ends nothing 44 text → IsFine text true ps
-  fine_last : (x : ℕ) {xs : List ℕ} {ps : List Piece} → IsOneLine (x ∷ xs) → BeginsVisible (x ∷ xs) → Goes nothing 44 (x ∷ xs) → HasNoItem ps → IsFine (x ∷ xs) false ps
+  fine_last : (x : ℕ) {xs : List ℕ} {ps : List Piece} → IsOneLine (x ∷ xs) → BeginsVisible (x ∷ xs) → Goes nothing 44 (x ∷ xs) → HasNoItem ps
+      → IsFine (x ∷ xs) false ps
 
 abbrev pub AreFine : List Piece → Type 0
 AreFine [] = Unit {0}

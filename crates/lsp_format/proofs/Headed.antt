@@ -1,5 +1,6 @@
 -- The names field of a block, and what is read of a block as it is written.
-use Rattle.std.proofs.Common.{◌≡◌, ℕ, ◌+◌, ◌==◌, ◌&&◌, ◌||◌, not, Bool, true, false, cond, List, [], ◌∷◌, ◌++◌, map, append_assoc, refl, sym, ap, subst, ◌∙◌, inl, inr}
+use Rattle.std.proofs.Common.{◌≡◌, ℕ, ◌+◌, ◌==◌, ◌&&◌, ◌||◌, not, Bool, true, false, cond, List, [], ◌∷◌, ◌++◌, map, append_assoc, refl, sym, ap}
+use Rattle.std.proofs.Common.{subst, ◌∙◌, inl, inr}
 use Rattle.std.specs.List.{list_all}
 use Rattle.std.proofs.lemmas.Bool.{cases_Bool, and_parts}
 use Rattle.ti_text.specs.Texts.{last_byte}
@@ -156,7 +157,8 @@ module _ (width : ℕ) (block : List ℕ) (head : HasOneHead block) where
       ∙ items_read lays (block_fine block) 2
 
   pub texts_again : item_texts (block_text width block) ≡ item_texts block
-  texts_again = sym (map_texts (block_items (block_text width block))) ∙ ap (map (λ (q : ItemPiece). q.text)) items_again ∙ texts_placed lays 2 ∙ block_texts block
+  texts_again =
+      sym (map_texts (block_items (block_text width block))) ∙ ap (map (λ (q : ItemPiece). q.text)) items_again ∙ texts_placed lays 2 ∙ block_texts block
 
   lines_again : kept_lines (block_text width block) ≡ numbered lays 2
   lines_again =
@@ -231,8 +233,10 @@ one_head (x ∷ xs) s f none =
 
 pub block_one_head : (width : ℕ) (block : List ℕ) → HasOneHead block → HasOneHead (block_text width block)
 block_one_head width block head =
-    one_head (reading_of_text block).field (laid width line_start (pieces_of block)) (known_field block head) (no_head (laid_lays width line_start (pieces_of block)) (block_fine block))
+    let pieces = pieces_of block in
+    one_head (reading_of_text block).field (laid width line_start pieces) (known_field block head) (no_head (laid_lays width line_start pieces) (block_fine block))
 
 pub block_ends : (width before : ℕ) (block : List ℕ) → last_byte before (block_text width block) ≡ 10
 block_ends width before block =
-    last_byte-append before (reading_of_text block).field (44 ∷ 10 ∷ laid width line_start (pieces_of block)) ∙ ends_line (laid_lays width line_start (pieces_of block))
+    let pieces = pieces_of block in
+    last_byte-append before (reading_of_text block).field (44 ∷ 10 ∷ laid width line_start pieces) ∙ ends_line (laid_lays width line_start pieces)

@@ -8,8 +8,10 @@ use Rattle.lsp_format.specs.Layout.{Place, column_after, gap, goes_on, item_byte
 -- pieces are a text; a line is begun before it, or none is
 pub data Laying : Bool → List Piece → List ℕ → Type 0 where
   no_piece : Laying false [] []
-  line_item : (text : List ℕ) (ended : Bool) {ps : List Piece} {s : List ℕ} → Laying true ps s → Laying false (item text ended ∷ ps) (9 ∷ (item_bytes text ended ++ s))
-  next_item : (text : List ℕ) (ended : Bool) {ps : List Piece} {s : List ℕ} → Laying true ps s → Laying true (item text ended ∷ ps) (32 ∷ (item_bytes text ended ++ s))
+  line_item : (text : List ℕ) (ended : Bool) {ps : List Piece} {s : List ℕ} → Laying true ps s
+      → Laying false (item text ended ∷ ps) (9 ∷ (item_bytes text ended ++ s))
+  next_item : (text : List ℕ) (ended : Bool) {ps : List Piece} {s : List ℕ} → Laying true ps s
+      → Laying true (item text ended ∷ ps) (32 ∷ (item_bytes text ended ++ s))
   kept_line : (line : List ℕ) {ps : List Piece} {s : List ℕ} → Laying false ps s → Laying false (kept line ∷ ps) (line ++ 10 ∷ s)
   line_ends : {ps : List Piece} {s : List ℕ} → Laying false ps s → Laying true ps (10 ∷ s)
 
@@ -40,6 +42,7 @@ laid_lays width place (item text ended ∷ ps) =
     let on = goes_on width place (kind_of text) size in
     let next = place_after width place (kind_of text) size in
     let rest : Laying (not (next.column == 0)) ps (laid width next ps) = laid_lays width next ps in
-    let more : Laying true ps (laid width next ps) = subst (λ (b : Bool). Laying (not b) ps (laid width next ps)) (begun (place.column == 0) on place.column size) rest in
+    let more : Laying true ps (laid width next ps) =
+    subst (λ (b : Bool). Laying (not b) ps (laid width next ps)) (begun (place.column == 0) on place.column size) rest in
     after_gap (place.column == 0) on text ended ps (laid width next ps) more
 laid_lays width place (kept line ∷ ps) = after_end (place.column == 0) line ps (laid width line_start ps) (laid_lays width line_start ps)

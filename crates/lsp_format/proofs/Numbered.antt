@@ -1,13 +1,15 @@
 -- The kept lines of laid pieces are those of the pieces, and items and kept lines are in the order
 -- of the pieces.
-use Rattle.std.proofs.Common.{◌≡◌, ◌≢◌, ℕ, ◌+◌, ◌<◌, ◌≤◌, ◌==◌, ◌&&◌, ◌||◌, Bool, true, false, List, [], ◌∷◌, ◌++◌, map, append_assoc, refl, sym, ap, ◌∙◌, arith}
+use Rattle.std.proofs.Common.{◌≡◌, ◌≢◌, ℕ, ◌+◌, ◌<◌, ◌≤◌, ◌==◌, ◌&&◌, ◌||◌, Bool, true, false, List, [], ◌∷◌, ◌++◌, map, append_assoc, refl, sym, ap}
+use Rattle.std.proofs.Common.{◌∙◌, arith}
 use Rattle.std.specs.Prelude.{nat_lt}
 use Rattle.std.proofs.lemmas.Bool.{le-ltb, lt-ltb}
 use Rattle.std.proofs.lemmas.List.{append-nil}
 use Rattle.ti_text.specs.WhiteSpace.{is_white_space}
 use Rattle.ti_source.proofs.ItemLaws.{BeginsVisible}
 use Rattle.lsp_format.specs.Layout.{item_bytes}
-use Rattle.lsp_format.specs.Pieces.{Entry, KeptLine, Piece, item, kept, is_kept, kept_from, kept_piece, lines_before, lines_from, lines_of, merged, with_first_byte}
+use Rattle.lsp_format.specs.Pieces.{Entry, KeptLine, Piece, item, kept, is_kept, kept_from, kept_piece, lines_before, lines_from, lines_of, merged}
+use Rattle.lsp_format.specs.Pieces.{with_first_byte}
 use Rattle.lsp_format.proofs.Fine.{AreFine, AreOrdered, BeginsFull, IsFine, fine_ended, fine_last}
 use Rattle.lsp_format.proofs.Folded.{IsOneLine, one_line-append}
 use Rattle.lsp_format.proofs.Laying.{Laying, kept_line, line_ends, line_item, next_item, no_piece}
@@ -133,7 +135,8 @@ entry_line : (line : ℕ) (text : List ℕ) (ended : Bool) → (entry_at line te
 entry_line line [] ended = omega arith
 entry_line line (x ∷ xs) ended = omega arith
 
-item_merged : {b : Bool} {ps : List Piece} {s : List ℕ} (d : Laying b ps s) (line : ℕ) (text : List ℕ) (ended : Bool) → merged (placed d line) (numbered d line) ≡ ps
+item_merged : {b : Bool} {ps : List Piece} {s : List ℕ} (d : Laying b ps s) (line : ℕ) (text : List ℕ) (ended : Bool)
+    → merged (placed d line) (numbered d line) ≡ ps
     → merged (entry_at line text ended ∷ placed d line) (numbered d line) ≡ item text ended ∷ ps
 item_merged d line text ended later =
     merged_item (entry_at line text ended) (placed d line) (numbered d line) line (entry_line line text ended) (lines_from_here d line)

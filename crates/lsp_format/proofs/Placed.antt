@@ -66,7 +66,8 @@ nothing_placed (kept_line l d) none line = nothing_placed d none (line + 1)
 nothing_placed (line_ends d) none line = nothing_placed d none (line + 1)
 
 -- the tab of a line is passed over
-ended_after_tab : (line : ℕ) (text s : List ℕ) → IsOneLine text → BeginsVisible text → fresh line (9 ∷ (text ++ 44 ∷ [] ++ s)) ≡ inline line (text ++ 44 ∷ [] ++ s)
+ended_after_tab : (line : ℕ) (text s : List ℕ) → IsOneLine text → BeginsVisible text
+    → fresh line (9 ∷ (text ++ 44 ∷ [] ++ s)) ≡ inline line (text ++ 44 ∷ [] ++ s)
 ended_after_tab line [] s one visible = fresh-item line 44 s refl refl
 ended_after_tab line (x ∷ xs) s one visible = fresh-item line x (xs ++ 44 ∷ [] ++ s) one.0 visible
 
@@ -86,7 +87,8 @@ last_on_line line text s one none =
     inline-run line text s one ∙ ap (λ (t : List PlacedByte). on_line line text ++ t) none ∙ append-nil (on_line line text)
 
 -- the first item of a line
-first_read : {ps : List Piece} (s : List ℕ) (line : ℕ) (text : List ℕ) (ended : Bool) (rest : List ItemPiece) → IsFine text ended ps → (HasNoItem ps → inline line s ≡ [])
+first_read : {ps : List Piece} (s : List ℕ) (line : ℕ) (text : List ℕ) (ended : Bool) (rest : List ItemPiece) → IsFine text ended ps
+    → (HasNoItem ps → inline line s ≡ [])
     → items_at true line s ≡ rest
     → map piece_of (items_of nothing 44 (inline line (item_bytes text ended ++ s))) ≡ and_more ended (placed_piece line text) rest
 first_read s line text _ rest (fine_ended one visible ends) none later =
@@ -100,13 +102,15 @@ first_read s line _ _ rest (fine_last x {xs = xs} one visible goes only) none la
     ∙ ap (λ (p : ItemPiece). p ∷ []) (piece_on_line line (x ∷ xs) visible)
 
 -- an item after a space
-next_read : {ps : List Piece} (s : List ℕ) (line : ℕ) (text : List ℕ) (ended : Bool) (rest : List ItemPiece) → IsFine text ended ps → (HasNoItem ps → inline line s ≡ [])
+next_read : {ps : List Piece} (s : List ℕ) (line : ℕ) (text : List ℕ) (ended : Bool) (rest : List ItemPiece) → IsFine text ended ps
+    → (HasNoItem ps → inline line s ≡ [])
     → items_at true line s ≡ rest
     → map piece_of (items_of nothing 44 (inline line (32 ∷ (item_bytes text ended ++ s)))) ≡ and_more ended (placed_piece line text) rest
 next_read s line text _ rest (fine_ended one visible ends) none later =
     ap (λ (t : List PlacedByte). map piece_of (items_of nothing 44 t))
     (inline-byte line 32 (text ++ 44 ∷ [] ++ s) refl ∙ ap (λ (t : List PlacedByte). (32, line) ∷ t) (ended_on_line line text s one))
-    ∙ ap (λ (all : List (List PlacedByte)). map piece_of (with_first (32, line) all)) (item_and_rest nothing 32 line text (inline line s) (ends_after_space text ends))
+    ∙ ap (λ (all : List (List PlacedByte)). map piece_of (with_first (32, line) all))
+    (item_and_rest nothing 32 line text (inline line s) (ends_after_space text ends))
     ∙ ap (λ (p : ItemPiece). p ∷ items_at true line s) (piece_after_space line text visible)
     ∙ ap (λ (ps : List ItemPiece). placed_piece line text ∷ ps) later
 next_read s line _ _ rest (fine_last x {xs = xs} one visible goes only) none later =

@@ -1,5 +1,6 @@
 -- The steps of reading the lines and items of a block, and of writing them.
-use Rattle.std.proofs.Common.{◌≡◌, ◌≢◌, ℕ, zero, suc, ◌+◌, ◌<◌, ◌≤◌, ◌==◌, Bool, true, false, cond, List, [], ◌∷◌, ◌++◌, length, take, drop, get_or, map, Some, None, refl, sym, ap, ◌∙◌}
+use Rattle.std.proofs.Common.{◌≡◌, ◌≢◌, ℕ, zero, suc, ◌+◌, ◌<◌, ◌≤◌, ◌==◌, Bool, true, false, cond, List, [], ◌∷◌, ◌++◌, length, take, drop, get_or}
+use Rattle.std.proofs.Common.{map, Some, None, refl, sym, ap, ◌∙◌}
 use Rattle.std.proofs.Common.{append_assoc, inl, inr, arith, add-one, drop-cons}
 use Rattle.memchr.specs.Find.{IsFirstByte, is_byte}
 use Rattle.std.proofs.lemmas.Bool.{cases_Bool, ne_eqb}
@@ -54,7 +55,8 @@ kept_step number line all rest old new e more =
 
 -- ---- items
 
-pub items_step : (one : List PlacedByte) (piece : ItemPiece) (walk rest : List (List PlacedByte)) (old new : List Entry) → walk ≡ one ∷ rest → piece_of one ≡ piece
+pub items_step : (one : List PlacedByte) (piece : ItemPiece) (walk rest : List (List PlacedByte)) (old new : List Entry) → walk ≡ one ∷ rest
+    → piece_of one ≡ piece
     → new ≡ old ++ ended_entry piece ∷ [] → new ++ all_ended (map piece_of rest) ≡ old ++ all_ended (map piece_of walk)
 items_step one piece walk rest old new e p more =
     ap (λ (t : List Entry). t ++ all_ended (map piece_of rest)) more
@@ -96,7 +98,8 @@ from_more number k ks left e h = sym (ap (lines_from number) e ∙ (before_more 
 
 pub lays_before : (width number : ℕ) (out new : List ℕ) (place : Place) (k : KeptLine) (ks left : List KeptLine) → left ≡ k ∷ ks → k.number < number
     → Lays width out place (kept k.text ∷ []) new line_start → (rest : List Piece)
-    → out ++ laid width place (map kept_piece (lines_before number left) ++ rest) ≡ new ++ laid width line_start (map kept_piece (lines_before number ks) ++ rest)
+    → out ++ laid width place (map kept_piece (lines_before number left) ++ rest)
+    ≡ new ++ laid width line_start (map kept_piece (lines_before number ks) ++ rest)
 lays_before width number out new place k ks left e h lays rest =
     ap (λ (ls : List KeptLine). out ++ laid width place (map kept_piece ls ++ rest)) (ap (lines_before number) e ∙ (before_more number k ks h).0)
     ∙ lays (map kept_piece (lines_before number ks) ++ rest)
@@ -125,7 +128,8 @@ pieces_end width out between new place after ks lays e =
 -- ---- the last item
 
 pub end_popped : {X : Type 0} (seen : X → Entry) (old front : List X) (last : X) → old ≡ front ++ last ∷ []
-    → with_end (map seen old) ≡ map seen front ++ cond (is_empty (seen last).text) [] (record { text = (seen last).text; line = (seen last).line; ended = false } ∷ [])
+    → with_end (map seen old)
+    ≡ map seen front ++ cond (is_empty (seen last).text) [] (record { text = (seen last).text; line = (seen last).line; ended = false } ∷ [])
 end_popped {X} seen old front last e =
     ap (λ (es : List X). with_end (map seen es)) e ∙ ap with_end (map-append seen front (last ∷ [])) ∙ with_end-last (map seen front) (seen last)
 

@@ -2,7 +2,7 @@
 use std::alloc::{AllocError, Global};
 use std::process::Abort;
 use std::test::Fail;
-use ti_param::{ParamError, Statics, Value, expand};
+use ti_param::{ParamError, Statics, Value, expand, expand_output};
 
 // A format, its first three parameters (the others are 0), and its expansion.
 type Row = (&'static str, [i32; 3], &'static str);
@@ -310,5 +310,34 @@ fn long_formats_send_nothing(rt: HostRuntime) -> Result<(), Fail> {
     assert!(rt; expands(rt.alloc(), &opened, &none, b"")?);
     let skipped = join_pieces(rt.alloc(), b"%?%p1%t", b"%%", 100_000)?;
     assert!(rt; expands(rt.alloc(), &skipped, &none, b"")?);
+    Ok(())
+}
+
+// A piece, how many times it is in a format, and what each sends for 7.
+static LENGTHS: [(&str, usize, &str); 5] = [
+    ("a", 64, "a"),
+    ("a", 65, "a"),
+    ("%p1%d", 130, "7"),
+    ("%p1%3d", 22, "  7"),
+    ("bc%p1%d", 22, "bc7"),
+];
+
+// Whether a format of this many copies of a piece sends as many of the bytes.
+fn outputs(alloc: Global, piece: &[u8], count: usize, bytes: &[u8]) -> Result<bool, ParamError> {
+    let format = repeat_piece(alloc, piece, count)?;
+    let wanted = repeat_piece(alloc, bytes, count)?;
+    let mut statics = Statics::new();
+    let mut output = expand_output(alloc, &format, &numbers(&[7, 0, 0]), &mut statics)?;
+    Ok(output.bytes()? == wanted.as_slice())
+}
+
+#[test]
+fn outputs_of_each_length_are_whole(rt: HostRuntime) -> Result<(), Fail> {
+    for (piece, count, bytes) in LENGTHS.iter() {
+        assert!(rt;
+            outputs(rt.alloc(), piece.as_bytes(), *count, bytes.as_bytes())?,
+            "at {count} times {piece}"
+        );
+    }
     Ok(())
 }

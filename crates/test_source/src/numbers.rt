@@ -1,5 +1,6 @@
-//! Numbers, and texts that are none.
+//! Numbers, texts that are none, and white space at the end of a text.
 use ti_source::{NumberError, read_number};
+use ti_spelling::trim_end;
 
 #[test]
 fn reads_numbers(rt: HostRuntime) {
@@ -27,5 +28,19 @@ fn reads_numbers(rt: HostRuntime) {
         (b"7\r".as_slice(), Err(NumberError::Bad)),
     ] {
         assert_eq!(rt; read_number(text), wanted);
+    }
+}
+
+#[test]
+fn trims_white_space_at_the_end(rt: HostRuntime) {
+    for (text, wanted) in [
+        (b"".as_slice(), b"".as_slice()),
+        (b" \t ".as_slice(), b"".as_slice()),
+        (b"80".as_slice(), b"80".as_slice()),
+        (b"80 \t".as_slice(), b"80".as_slice()),
+        (b" 8 0\t\t".as_slice(), b" 8 0".as_slice()),
+        (b"80\r".as_slice(), b"80\r".as_slice()),
+    ] {
+        assert_eq!(rt; trim_end(text), wanted);
     }
 }

@@ -6,7 +6,7 @@ use Rattle.std.proofs.lemmas.Bool.{cases_Bool, eqb-true, eq-eqb, ne_eqb, and_par
 use Rattle.std.proofs.lemmas.Bool.Decides.{eqb_tells}
 use Rattle.ti_source.specs.declared.items.Escape.TheVariants as escape
 use Rattle.ti_text.specs.WhiteSpace.{is_white_space}
-use Rattle.ti_source.specs.WhiteSpace.{without_trailing_space}
+use Rattle.ti_spelling.specs.WhiteSpace.{without_trailing_space}
 use Rattle.ti_source.specs.Cutting.{last_byte}
 use Rattle.ti_source.specs.Folding.{PlacedByte}
 use Rattle.ti_source.specs.Items.{HasNoComma, Begins, all_field, field_and_rest, takes, stands_alone, AreItems, last_item, item_ends, pair_of_bytes}

@@ -8,13 +8,13 @@ use Rattle.ti_spelling.specs.Spelling.{Spells, SpellsAs, IsCauseOf}
 use Rattle.ti_spelling.specs.inside.Spelling.{unescape_result}
 use Rattle.ti_spelling.proofs.SpellingLaws.{spells_unescaped, fails_unescaped, unescaped_spells, unescaped_fails}
 use Rattle.ti_text.specs.Limits.{number_max}
-use Rattle.ti_source.specs.Numbers.{IsNumeral}
+use Rattle.ti_spelling.specs.Numbers.{IsNumeral}
 use Rattle.ti_source.specs.Items.{Claim, claims_flag, claims_number, claims_text, claims_cancel, without_outer_space}
 use Rattle.ti_source.specs.Reading.{said_flag, said_number, said_text, said_cancel, said_import}
 use Rattle.ti_source.specs.Verdicts.{Verdict, accepted, is_import, ReadClaim, reads_flag, reads_number, reads_text, reads_cancel, IsReadAs, flag_read}
 use Rattle.ti_source.specs.Verdicts.{number_read_as, text_read_as, cancel_read, fitting_verdict, verdict_on, Judges}
 use Rattle.ti_source.specs.inside.Verdicts.{read_claim, verdict_of}
-use Rattle.ti_source.proofs.NumberLemmas.{each_text, one_reading as one_number}
+use Rattle.ti_spelling.proofs.NumberLemmas.{each_text, one_reading as one_number}
 
 -- ---- what a text spells
 

@@ -1,7 +1,5 @@
 pub mod CutLemmas
 pub mod HeaderLemmas
-pub mod NumberLemmas
-pub mod TrimLemmas
 pub mod WalkLemmas
 pub mod FoldLemmas
 pub mod FoldingLaws

@@ -14,8 +14,8 @@ use Rattle.ti_caps.specs.declared.capability.Kind.TheVariants as kind
 use Rattle.ti_source.specs.declared.code.Code.TheVariants as code
 use Rattle.ti_source.specs.declared.items.Escape.{Escape}
 use Rattle.ti_source.specs.declared.items.Escape.TheVariants as escape
-use Rattle.ti_source.specs.declared.numbers.NumberError.{NumberError}
-use Rattle.ti_source.specs.declared.numbers.NumberError.TheVariants.{Bad, TooLarge}
+use Rattle.ti_spelling.specs.declared.numbers.NumberError.{NumberError}
+use Rattle.ti_spelling.specs.declared.numbers.NumberError.TheVariants.{Bad, TooLarge}
 use Rattle.ti_spelling.specs.declared.spelling.UnescapeError.{UnescapeError}
 use Rattle.ti_text.specs.WhiteSpace.{is_white_space}
 use Rattle.ti_source.specs.Cutting.{last_byte}
@@ -23,7 +23,7 @@ use Rattle.ti_text.specs.Lines.{line_count}
 use Rattle.ti_source.specs.Code.{is_error, is_of_header}
 use Rattle.ti_source.specs.Header.{ReadsNames, IsLookupName}
 use Rattle.ti_source.specs.inside.Header.{header_names}
-use Rattle.ti_source.specs.Numbers.{ReadsAs}
+use Rattle.ti_spelling.specs.Numbers.{ReadsAs}
 use Rattle.ti_spelling.specs.Spelling.{SpellsAs, ValuesAreSound}
 use Rattle.ti_source.specs.Folding.{PlacedByte}
 use Rattle.ti_source.specs.inside.Folding.{bytes_on_lines, in_comment, without_comments, without_breaks, folding_of}

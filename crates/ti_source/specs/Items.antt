@@ -3,7 +3,7 @@
 use Rattle.ti_text.specs.Ascii as ascii
 use Rattle.std.specs.Prelude.{◌≡◌, ◌≢◌, ℕ, Bool, true, false, not, ◌||◌, ◌&&◌, ◌==◌, if◌then◌else◌, List, [], ◌∷◌, ◌++◌, map, Option, Some, None}
 use Rattle.ti_text.specs.WhiteSpace.{is_white_space}
-use Rattle.ti_source.specs.WhiteSpace.{without_trailing_space}
+use Rattle.ti_spelling.specs.WhiteSpace.{without_trailing_space}
 use Rattle.ti_source.specs.Cutting.{last_byte}
 use Rattle.ti_source.specs.Folding.{PlacedByte}
 

@@ -1,8 +1,8 @@
-pub mod WhiteSpace
+pub use Rattle.ti_spelling.specs.WhiteSpace
 pub mod Heads
 pub mod Cutting
 pub mod Header
-pub mod Numbers
+pub use Rattle.ti_spelling.specs.Numbers
 pub use Rattle.ti_spelling.specs.Spelling
 pub mod Folding
 pub mod Items

@@ -2,7 +2,7 @@
 -- Issue 7, "Terminfo Source Format"). By `one_reading` it is what `States` relates.
 use Rattle.ti_text.specs.Ascii as ascii
 use Rattle.std.specs.Prelude.{ℕ, ◌==◌, if◌then◌else◌, List, [], ◌∷◌, Option, Some, None}
-use Rattle.ti_source.specs.WhiteSpace.{without_trailing_space}
+use Rattle.ti_spelling.specs.WhiteSpace.{without_trailing_space}
 use Rattle.ti_source.specs.Cutting.{last_byte}
 use Rattle.ti_source.specs.declared.items.Claim.{Claim as ClaimInMemory}
 use Rattle.ti_source.specs.declared.items.Claim.TheVariants as claims

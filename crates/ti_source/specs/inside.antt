@@ -2,7 +2,6 @@
 -- and proofs use.
 pub mod Cutting
 pub mod Header
-pub mod Numbers
 pub mod Folding
 pub mod Items
 pub mod Verdicts

@@ -7,9 +7,9 @@ ghost use Rattle.ti_source.specs.inside.Items.{escape_after, cuts, field_of, aft
 ghost use Rattle.ti_source.specs.Stating.{statement_seen, statement_of, statement_with_value, plain_statement};
 
 use crate::folding::Folded;
-use crate::white_space::trim_end;
 use memchr::memchr2;
 use std::alloc::{AllocError, Global};
+use ti_spelling::trim_end;
 use ti_text::is_white_space;
 
 /// The escape that takes the byte that comes next, if one does.

@@ -2,12 +2,14 @@
 ghost use Rattle.ti_source.specs.Cutting.{BlocksAreSingle, BlocksAreSingleOnceEnded, EachHasCut, IsOnlyCut};
 ghost use Rattle.ti_source.specs.Folding.{EachIsFolded, OneFolding};
 ghost use Rattle.ti_source.specs.Header.{EachHeaderIsRead, HeadersHaveOneReading};
-ghost use Rattle.ti_source.specs.Numbers.{EachTextIsRead, NumbersHaveOneReading, NumeralsHaveOneValue};
 ghost use Rattle.ti_source.specs.Parsing.{BlocksHaveOneReading, HasReading};
 ghost use Rattle.ti_source.specs.Sound.{EachIsWellRead};
 
 use ti_caps::{Kind, count};
-pub use ti_spelling::laws::{one_outcome, written_spells};
+pub use ti_spelling::laws::{
+    each_number_is_read, numbers_have_one_reading, numerals_have_one_value, one_outcome,
+    written_spells,
+};
 
 /// Each source has a cut.
 pub fn each_has_cut()
@@ -43,21 +45,6 @@ pub fn each_header_is_read()
 /// A names field has only one reading.
 pub fn headers_have_one_reading()
     ensures { HeadersHaveOneReading }
-{}
-
-/// A text has at most one value.
-pub fn numerals_have_one_value()
-    ensures { NumeralsHaveOneValue }
-{}
-
-/// Each text reads as a value, as one over the limit, or as none.
-pub fn each_number_is_read()
-    ensures { EachTextIsRead }
-{}
-
-/// A text has no other reading.
-pub fn numbers_have_one_reading()
-    ensures { NumbersHaveOneReading }
 {}
 
 /// Each block has one reading, which `parse` gives.

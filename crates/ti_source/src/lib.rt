@@ -5,15 +5,13 @@
 //! - `cutting` and `walk`: a source as a preface and blocks, one for each entry; `heads` finds
 //!   where they begin.
 //! - `header`: the names field of a block, and its lookup names.
-//! - `numbers`: the value of a number, or why a text is none; `white_space`: the white space at the
-//!   end of a text.
 //! - `folding`: a block without its comments and line breaks; `items`: the names field and the
 //!   items of a block, and what an item states; `verdicts`: what comes of that; `sharing`: strings
 //!   that blocks share; `parsing`: a block as it is read, with its faults, or its names field alone.
 //! - `laws`: that each source has one cut, and each block one reading.
 //!
-//! The crate `ti_spelling` has the spelling of string values. What the layers above need of it is
-//! public here too.
+//! The crate `ti_spelling` has the spelling of string values and numbers. What the layers above need
+//! of it is public here too.
 #![tactic(auto)]
 
 mod code;
@@ -23,21 +21,18 @@ mod header;
 mod heads;
 mod items;
 pub mod laws;
-mod numbers;
 mod parsing;
 mod sharing;
 mod statements;
 mod verdicts;
 mod walk;
-mod white_space;
 
 pub use code::Code;
 pub use cutting::{blocks, is_block};
 pub use header::{is_lookup_name, lookup_names};
 pub use items::{Claim, RawItem, Statement, statement_of, strip};
-pub use numbers::{NumberError, read_number};
 pub use parsing::{Item, Local, Parsed, What, names_field, parse, parse_sharing};
 pub use sharing::SharedTexts;
 pub use statements::ItemWalk;
-pub use ti_spelling::{UnescapeError, Unescaped, escape, unescape};
+pub use ti_spelling::{NumberError, UnescapeError, Unescaped, escape, read_number, unescape};
 pub use walk::Blocks;

@@ -1,20 +1,19 @@
 //! What comes of what an item states.
 ghost use Rattle.std.specs.Prelude.{◌≡◌, IfOk};
 ghost use Rattle.ti_source.specs.Stating.{statement_seen};
-ghost use Rattle.ti_source.specs.inside.Numbers.{number_read};
+ghost use Rattle.ti_spelling.specs.inside.Numbers.{number_read};
 ghost use Rattle.ti_source.specs.Verdicts.{number_verdict, text_verdict};
 ghost use Rattle.ti_source.specs.inside.Verdicts.{verdict_seen, verdict_of};
 ghost use Rattle.ti_spelling.specs.inside.Spelling.{unescape_result};
 
 use crate::code::Code;
 use crate::items::{Claim, Statement, strip};
-use crate::numbers::{NumberError, read_number};
 use crate::parsing::What;
 use crate::sharing::SharedTexts;
 use std::alloc::{AllocError, Global};
 use std::rc::RcSlice;
 use ti_caps::{Cap, Kind, find};
-use ti_spelling::{UnescapeError, unescape_into};
+use ti_spelling::{NumberError, UnescapeError, read_number, unescape_into};
 
 /// What comes of a statement: it is accepted, accepted though an escape in it is odd, or refused by
 /// a fault.

@@ -1,3 +1,5 @@
+pub mod NumberLemmas
+pub mod TrimLemmas
 pub mod OctalDigits
 pub mod PieceLemmas
 pub mod SpellingLaws

@@ -1,2 +1,4 @@
+pub mod WhiteSpace
+pub mod Numbers
 pub mod Spelling
 pub mod inside

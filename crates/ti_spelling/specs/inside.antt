@@ -1,4 +1,5 @@
 -- Computed forms of what the other files define by relations, and words that only private functions
 -- and proofs use.
+pub mod Numbers
 pub mod Spelling
 pub mod Writing

@@ -1,4 +1,5 @@
 //! Laws of the definitions on which the contracts of this crate depend. They compute nothing.
+ghost use Rattle.ti_spelling.specs.Numbers.{EachTextIsRead, NumbersHaveOneReading, NumeralsHaveOneValue};
 ghost use Rattle.ti_spelling.specs.Spelling.{OneOutcome, ValuesAreSound, WrittenSpells};
 
 /// Each text spells one value or has one first fault, and a value is no longer than its text.
@@ -10,4 +11,19 @@ pub fn one_outcome()
 /// The text that is written spells the value.
 pub fn written_spells()
     ensures { WrittenSpells }
+{}
+
+/// A text has at most one value.
+pub fn numerals_have_one_value()
+    ensures { NumeralsHaveOneValue }
+{}
+
+/// Each text reads as a value, as one over the limit, or as none.
+pub fn each_number_is_read()
+    ensures { EachTextIsRead }
+{}
+
+/// A text has no other reading.
+pub fn numbers_have_one_reading()
+    ensures { NumbersHaveOneReading }
 {}

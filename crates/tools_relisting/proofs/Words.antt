@@ -16,7 +16,7 @@ use Rattle.ti_caps.specs.Names.{flag_names, number_names, text_names}
 use Rattle.ti_caps.specs.Tables.{Capability, IsCapability, names, name_of, count_of}
 use Rattle.ti_caps.specs.declared.capability.Kind.{Kind}
 use Rattle.ti_caps.specs.declared.capability.Kind.TheVariants.{Flag, Number, Text}
-use Rattle.ti_source.specs.Numbers.{digit_value, IsDigit, value_in, IsNumber, octal, decimal, IsNumeral}
+use Rattle.ti_spelling.specs.Numbers.{digit_value, IsDigit, value_in, IsNumber, octal, decimal, IsNumeral}
 use Rattle.ti_spelling.specs.Spelling.{is_empty}
 
 -- a letter or a digit

@@ -10,7 +10,7 @@ use Rattle.ti_source.specs.inside.Verdicts.{read_claim}
 use Rattle.ti_source.specs.Verdicts.{ReadClaim, reads_number, reads_text, IsReadAs, flag_read, number_read_as, text_read_as, cancel_read}
 use Rattle.ti_source.proofs.FoldingLaws.{folds_computed, only_folded}
 use Rattle.ti_source.proofs.JudgingLaws.{is_read, one_spelling}
-use Rattle.ti_source.proofs.NumberLemmas.{one_reading as one_number}
+use Rattle.ti_spelling.proofs.NumberLemmas.{one_reading as one_number}
 use Rattle.ti_text.specs.WhiteSpace.{is_white_space}
 use Rattle.std.proofs.lemmas.Bool.{cases_Bool}
 use Rattle.ti_source.proofs.ItemLaws.{has_field, one_field, has_items, one_items, BeginsVisible, has_statement, one_statement}

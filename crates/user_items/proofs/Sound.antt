@@ -4,12 +4,12 @@ use Rattle.std.specs.List.{AllByRecursion}
 use Rattle.std.proofs.lemmas.List.Elements.{All-from_recursion, recursion_from_All}
 use Rattle.ti_spelling.specs.declared.spelling.UnescapeError.{UnescapeError}
 use Rattle.ti_spelling.specs.Spelling.{SpellsAs, ValuesAreSound}
-use Rattle.ti_source.specs.declared.numbers.NumberError.{NumberError}
+use Rattle.ti_spelling.specs.declared.numbers.NumberError.{NumberError}
 use Rattle.ti_source.specs.Folding.{PlacedByte}
 use Rattle.ti_source.specs.Items.{Claim, Statement, piece_of, without_outer_space}
 use Rattle.ti_source.specs.Stating.{statement_of}
 use Rattle.ti_source.specs.Judging.{items_at, items_from, faults_at, faults_from, header_faults}
-use Rattle.ti_source.specs.Numbers.{ReadsAs}
+use Rattle.ti_spelling.specs.Numbers.{ReadsAs}
 use Rattle.ti_source.specs.Parsing.{reading_of_text}
 use Rattle.ti_source.specs.Reading.{ReadItem, ReadFault}
 use Rattle.ti_source.specs.Sound.{EachIsWellRead, IsLineOf}

@@ -3,7 +3,7 @@ ghost use Rattle.std.specs.Prelude.{◌≡◌, IfOk};
 ghost use Rattle.std.specs.Option.{option_map};
 ghost use Rattle.std.specs.Rc.{rc_slice_items};
 ghost use Rattle.ti_source.specs.Stating.{statement_seen};
-ghost use Rattle.ti_source.specs.inside.Numbers.{number_read};
+ghost use Rattle.ti_spelling.specs.inside.Numbers.{number_read};
 ghost use Rattle.ti_spelling.specs.inside.Spelling.{unescape_result};
 ghost use Rattle.user_items.specs.Verdicts.{number_verdict, text_verdict};
 ghost use Rattle.user_items.specs.inside.Computed.{verdict_of, verdict_seen};

@@ -13,7 +13,7 @@ use Rattle.std.proofs.lemmas.List.Folds.{list_all-append}
 use Rattle.ti_caps.specs.Tables.{Capability, IsCapability, name_of, EveryNameIsFound}
 use Rattle.ti_text.specs.Limits.{number_max}
 use Rattle.ti_text.specs.WhiteSpace.{is_white_space}
-use Rattle.ti_source.specs.WhiteSpace.{without_trailing_space}
+use Rattle.ti_spelling.specs.WhiteSpace.{without_trailing_space}
 use Rattle.ti_source.specs.Header.{IsNameByte, IsLookupName}
 use Rattle.ti_source.specs.Items.{Claim, Statement, claims_flag, claims_number, claims_text, claims_cancel, States, number_item, text_item, cancel_item}
 use Rattle.ti_source.specs.Items.{flag_item, without_outer_space}

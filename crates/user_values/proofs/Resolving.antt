@@ -10,7 +10,7 @@ use Rattle.ti_text.specs.Lists.{both_lists}
 use Rattle.ti_caps.specs.Tables.{Capability}
 use Rattle.ti_caps.specs.declared.capability.Kind.{Kind}
 use Rattle.ti_caps.specs.declared.capability.Kind.TheVariants as kind
-use Rattle.ti_source.specs.declared.numbers.NumberError.TheVariants.{Bad, TooLarge}
+use Rattle.ti_spelling.specs.declared.numbers.NumberError.TheVariants.{Bad, TooLarge}
 use Rattle.ti_source.specs.Folding.{PlacedByte}
 use Rattle.ti_source.specs.Items.{Statement, Claim, piece_of}
 use Rattle.ti_source.specs.Stating.{statement_of}

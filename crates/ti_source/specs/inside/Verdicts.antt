@@ -4,7 +4,7 @@ use Rattle.std.specs.Prelude.{ℕ, List}
 use Rattle.ti_source.specs.declared.verdicts.Verdict.{Verdict as VerdictInMemory}
 use Rattle.ti_source.specs.declared.verdicts.Verdict.TheVariants as verdict
 use Rattle.ti_spelling.specs.inside.Spelling.{unescape_result}
-use Rattle.ti_source.specs.inside.Numbers.{number_read}
+use Rattle.ti_spelling.specs.inside.Numbers.{number_read}
 use Rattle.ti_source.specs.Items.{Claim, claims_flag, claims_number, claims_text, claims_cancel}
 use Rattle.ti_source.specs.Reading.{said_of}
 

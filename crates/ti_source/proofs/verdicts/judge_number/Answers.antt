@@ -1,6 +1,6 @@
 use Rattle.std.proofs.Common.{Ok, Err, ap, refl, sym}
 use Rattle.ti_source.specs.Verdicts.{number_verdict}
-use Rattle.ti_source.proofs.NumberLemmas.{one_reading}
+use Rattle.ti_spelling.proofs.NumberLemmas.{one_reading}
 use Rattle.ti_source.proofs.verdicts.judge_number.Goals as goal
 
 pub returns-in-Ok : goal.returns-in-Ok

@@ -1,7 +1,7 @@
 use Rattle.std.proofs.Common.{Ok, Err, ap, sym}
 use Rattle.std.specs.Rc.{rc_slice_items}
 use Rattle.user_items.specs.Verdicts.{number_verdict}
-use Rattle.ti_source.proofs.NumberLemmas.{one_reading}
+use Rattle.ti_spelling.proofs.NumberLemmas.{one_reading}
 use Rattle.user_items.proofs.verdicts.judge_number.Goals as goal
 
 pub returns-in-Ok : goal.returns-in-Ok

@@ -5,8 +5,8 @@ use Rattle.ti_text.specs.Ascii as ascii
 use Rattle.ti_text.specs.Ascii.{byte_of}
 use Rattle.std.specs.Prelude.{◌≡◌, ◌≢◌, ℕ, ◌+◌, ◌-◌, ◌*◌, ◌<◌, ◌≤◌, ◌&&◌, nat_le, if◌then◌else◌, List, ◌∷◌, ◌++◌, Result, Ok, Err, All, ◌⊎◌}
 use Rattle.std.specs.List.{fold, AllPass}
-use Rattle.ti_source.specs.declared.numbers.NumberError.{NumberError}
-use Rattle.ti_source.specs.declared.numbers.NumberError.TheVariants.{Bad, TooLarge}
+use Rattle.ti_spelling.specs.declared.numbers.NumberError.{NumberError}
+use Rattle.ti_spelling.specs.declared.numbers.NumberError.TheVariants.{Bad, TooLarge}
 use Rattle.ti_text.specs.WhiteSpace.{is_white_space}
 
 -- what a byte counts as a digit: `0` to `9`, and `a` to `f` or `A` to `F` from 10 on; a byte that

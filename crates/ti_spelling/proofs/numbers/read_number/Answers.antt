@@ -1,7 +1,7 @@
 use Rattle.std.proofs.Common.{Ok, Err, rules}
-use Rattle.ti_source.specs.declared.numbers.NumberError.TheVariants.{Bad, TooLarge}
-use Rattle.ti_source.proofs.NumberLemmas.{reads_as}
-use Rattle.ti_source.proofs.numbers.read_number.Goals as goal
+use Rattle.ti_spelling.specs.declared.numbers.NumberError.TheVariants.{Bad, TooLarge}
+use Rattle.ti_spelling.proofs.NumberLemmas.{reads_as}
+use Rattle.ti_spelling.proofs.numbers.read_number.Goals as goal
 
 pub returns-in-None : goal.returns-in-None
 returns-in-None c = reads_as c.args.text.now (Err Bad) (search rules)

@@ -1,6 +1,6 @@
 use Rattle.std.proofs.Common.{sym, ◌∙◌, arith}
-use Rattle.ti_source.proofs.TrimLemmas.{trim_step, trim_stop}
-use Rattle.ti_source.proofs.white_space.trim_end.Goals as goal
+use Rattle.ti_spelling.proofs.TrimLemmas.{trim_step, trim_stop}
+use Rattle.ti_spelling.proofs.white_space.trim_end.Goals as goal
 
 pub loop-rest-preserved : goal.loop-rest-preserved
 loop-rest-preserved c =

@@ -6,7 +6,7 @@ use Rattle.std.proofs.Math.Bool.{and-true}
 use Rattle.std.proofs.lemmas.List.{take_all, take_more}
 use Rattle.std.proofs.lemmas.List.Folds.{list_all-append}
 use Rattle.ti_text.specs.WhiteSpace.{is_white_space}
-use Rattle.ti_source.specs.WhiteSpace.{without_trailing_space}
+use Rattle.ti_spelling.specs.WhiteSpace.{without_trailing_space}
 
 trimmed-white : (s : List ℕ) (x : ℕ) → is_white_space x ≡ true → without_trailing_space (s ++ x ∷ []) ≡ without_trailing_space s
 trimmed-white [] x t = let one = and-true (is_white_space x) ∙ t in rw one refl

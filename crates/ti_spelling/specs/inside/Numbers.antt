@@ -3,10 +3,10 @@ use Rattle.ti_text.specs.Ascii as ascii
 use Rattle.ti_text.specs.Ascii.{byte_of}
 use Rattle.std.specs.Prelude.{◌≡◌, ℕ, ◌||◌, ◌==◌, nat_le, nat_lt, if◌then◌else◌, List, [], ◌∷◌, Option, Some, None, Result, Ok, Err}
 use Rattle.std.specs.List.{list_all}
-use Rattle.ti_source.specs.declared.numbers.NumberError.{NumberError}
-use Rattle.ti_source.specs.declared.numbers.NumberError.TheVariants.{Bad, TooLarge}
-use Rattle.ti_source.specs.WhiteSpace.{without_trailing_space}
-use Rattle.ti_source.specs.Numbers.{ReadsAs, digit_value, value_in}
+use Rattle.ti_spelling.specs.declared.numbers.NumberError.{NumberError}
+use Rattle.ti_spelling.specs.declared.numbers.NumberError.TheVariants.{Bad, TooLarge}
+use Rattle.ti_spelling.specs.WhiteSpace.{without_trailing_space}
+use Rattle.ti_spelling.specs.Numbers.{ReadsAs, digit_value, value_in}
 use Rattle.ti_text.specs.Limits.{number_max}
 
 -- the value of digits in a base, none if a byte is not a digit of it

@@ -1,8 +1,8 @@
 use Rattle.std.proofs.Common.{◌≡◌, ◌+◌, true, nat_lt, min, take}
 use Rattle.std.specs.List.{list_all}
-use Rattle.ti_source.specs.Numbers.{digit_value, value_in}
+use Rattle.ti_spelling.specs.Numbers.{digit_value, value_in}
 use Rattle.ti_text.specs.Limits.{number_max}
-use Rattle.ti_source.proofs.numbers.digits_value.Given as goal
+use Rattle.ti_spelling.proofs.numbers.digits_value.Given as goal
 
 abbrev pub invariant-loop-byte : goal.invariant-loop-byte
 invariant-loop-byte l = record {

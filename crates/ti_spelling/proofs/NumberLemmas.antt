@@ -8,14 +8,14 @@ use Rattle.std.proofs.lemmas.Bool.{le-leb, lt-leb}
 use Rattle.std.proofs.lemmas.Bool.Decides.{Decides-ltb, Decides-by_and}
 use Rattle.std.proofs.lemmas.List.Elements.{All-nil, All-head, All-tail}
 use Rattle.std.proofs.lemmas.List.Sums.{AllPass-from_list_all, list_all-from_AllPass}
-use Rattle.ti_source.specs.declared.numbers.NumberError.{NumberError}
-use Rattle.ti_source.specs.declared.numbers.NumberError.TheVariants.{Bad, TooLarge}
+use Rattle.ti_spelling.specs.declared.numbers.NumberError.{NumberError}
+use Rattle.ti_spelling.specs.declared.numbers.NumberError.TheVariants.{Bad, TooLarge}
 use Rattle.ti_text.specs.WhiteSpace.{is_white_space}
-use Rattle.ti_source.specs.WhiteSpace.{without_trailing_space}
-use Rattle.ti_source.specs.Numbers.{digit_value, IsDigit, value_in, IsNumber, octal, hexadecimal, decimal, IsNumeral, ReadsAs, NumeralsHaveOneValue}
-use Rattle.ti_source.specs.Numbers.{EachTextIsRead, NumbersHaveOneReading}
+use Rattle.ti_spelling.specs.WhiteSpace.{without_trailing_space}
+use Rattle.ti_spelling.specs.Numbers.{digit_value, IsDigit, value_in, IsNumber, octal, hexadecimal, decimal, IsNumeral, ReadsAs, NumeralsHaveOneValue}
+use Rattle.ti_spelling.specs.Numbers.{EachTextIsRead, NumbersHaveOneReading}
 use Rattle.ti_text.specs.Limits.{number_max}
-use Rattle.ti_source.specs.inside.Numbers.{digits_read, after_zero_read, value_read, within_limit, number_read, NumbersAreComputed}
+use Rattle.ti_spelling.specs.inside.Numbers.{digits_read, after_zero_read, value_read, within_limit, number_read, NumbersAreComputed}
 
 -- ---- digits
 digits_decide : (base : ℕ) (ds : List ℕ) → Decides (list_all (λ b. nat_lt (digit_value b) base) ds) (All (IsDigit base) ds)

@@ -2,8 +2,8 @@
 ghost use Rattle.std.specs.Prelude.{◌≡◌, ◌≤◌, ◌+◌, min, IfSome};
 ghost use Rattle.std.specs.Option.{option_map, option_and_then};
 ghost use Rattle.ti_text.specs.Limits.{number_max};
-ghost use Rattle.ti_source.specs.Numbers as spec;
-ghost use Rattle.ti_source.specs.inside.Numbers as computed;
+ghost use Rattle.ti_spelling.specs.Numbers as spec;
+ghost use Rattle.ti_spelling.specs.inside.Numbers as computed;
 
 use crate::white_space::trim_end;
 use thiserror::Error;

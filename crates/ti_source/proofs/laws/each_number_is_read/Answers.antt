@@ -1,5 +1,0 @@
-use Rattle.ti_source.proofs.NumberLemmas.{each_text_is_read}
-use Rattle.ti_source.proofs.laws.each_number_is_read.Goals as goal
-
-pub returns : goal.returns
-returns c = each_text_is_read
