@@ -20,8 +20,8 @@ use Rattle.lsp_spans.specs.Replacing.{exchanged}
 use Rattle.lsp_spans.specs.declared.parts.Part.{Part}
 use Rattle.lsp_document.specs.Diagnostics.{text_at}
 use Rattle.lsp_document.specs.Documents.{HeldBlocksFit, held, unless_refused}
-use Rattle.lsp_document.specs.Position.{column_offset, ends_line, is_start, line_start, lines_left, offset_of, units}
-use Rattle.lsp_document.specs.Splicing.{spliced}
+use Rattle.lsp_places.specs.Position.{column_offset, ends_line, is_start, line_start, lines_left, offset_of, units}
+use Rattle.lsp_places.specs.Splicing.{spliced}
 use Rattle.lsp_blocks.specs.Spots.{head_line, offset_in, range_in, settled, spot_at, spot_from}
 use Rattle.lsp_blocks.specs.declared.spots.Spot.{Spot}
 use Rattle.lsp_blocks.proofs.Outlines.{text_got}

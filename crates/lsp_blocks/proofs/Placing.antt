@@ -12,10 +12,10 @@ use Rattle.tools_sources.specs.Sources.{with_last_newline}
 use Rattle.lsp_types.specs.declared.places.Position.{Position}
 use Rattle.lsp_spans.specs.Replacing.{exchanged}
 use Rattle.lsp_spans.specs.declared.parts.Part.{Part}
-use Rattle.lsp_document.specs.Position.{begins_with_newline, is_start, offset_of, place_after, position_of, step_over}
-use Rattle.lsp_document.specs.Splicing.{spliced}
-use Rattle.lsp_document.proofs.Measuring.{count_newline, count_plain}
-use Rattle.lsp_document.proofs.Places.{inverse, step_newline, step_plain, step_return}
+use Rattle.lsp_places.specs.Position.{begins_with_newline, is_start, offset_of, place_after, position_of, step_over}
+use Rattle.lsp_places.specs.Splicing.{spliced}
+use Rattle.lsp_places.proofs.Measuring.{count_newline, count_plain}
+use Rattle.lsp_places.proofs.Places.{inverse, step_newline, step_plain, step_return}
 use Rattle.lsp_blocks.specs.Places.{missing_newline}
 
 -- a place

@@ -12,7 +12,7 @@ use Rattle.lsp_spans.specs.Parts.{end_of, field_of, spanned}
 use Rattle.lsp_spans.specs.Subjects.{head_span, span_or_start}
 use Rattle.lsp_types.specs.declared.places.Position.{Position}
 use Rattle.lsp_document.specs.Documents.{HeldBlocksFit, IsShortBlock, held}
-use Rattle.lsp_document.specs.Position.{ends_line, place_after, position_of, step_over, units}
+use Rattle.lsp_places.specs.Position.{ends_line, place_after, position_of, step_over, units}
 use Rattle.lsp_blocks.specs.Spots.{head_line, place_in}
 use Rattle.lsp_blocks.specs.Symbols.{IsInside, IsUpTo, SelectionsAreInside, SymbolSeen, symbol_at, symbols_from}
 

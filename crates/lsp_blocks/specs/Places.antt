@@ -4,7 +4,7 @@ use Rattle.std.specs.Prelude.{ℕ, ◌==◌, ◌&&◌, nat_lt, Bool, List, [], �
 use Rattle.ti_text.specs.Ascii as ascii
 use Rattle.ti_text.specs.Texts.{last_byte}
 use Rattle.lsp_spans.specs.declared.parts.Part.{Part}
-use Rattle.lsp_document.specs.Position.{is_start}
+use Rattle.lsp_places.specs.Position.{is_start}
 
 -- whether an editor has a place of that offset of a block: it is before the end of the last line,
 -- and the start of a character, neither within one nor between a CR and its LF

@@ -8,7 +8,7 @@ use Rattle.lsp_spans.specs.declared.parts.Part.{Part}
 use Rattle.lsp_types.specs.declared.places.Position.{Position}
 use Rattle.lsp_types.specs.declared.places.Range.{Range}
 use Rattle.lsp_document.specs.Documents.{held}
-use Rattle.lsp_document.specs.Position.{offset_of, position_of}
+use Rattle.lsp_places.specs.Position.{offset_of, position_of}
 use Rattle.lsp_blocks.specs.declared.spots.Spot.{Spot}
 
 -- the line on which the first block begins, from 0

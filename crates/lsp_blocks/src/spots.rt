@@ -7,7 +7,8 @@ ghost use Rattle.lsp_document.specs.Documents.{held};
 ghost use Rattle.lsp_blocks.specs.Spots as spec;
 ghost use Rattle.lsp_blocks.specs.Counting.{CanCount};
 
-use lsp_document::{Document, offset_of, position_of};
+use lsp_document::Document;
+use lsp_places::{offset_of, position_of};
 use lsp_spans::Part;
 use lsp_types::{Position, Range};
 use ti_base::Database;

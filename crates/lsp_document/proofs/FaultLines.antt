@@ -17,9 +17,9 @@ use Rattle.lsp_spans.specs.Faulty.{Search}
 use Rattle.lsp_spans.specs.declared.parts.Part.{Part}
 use Rattle.lsp_document.specs.Diagnostics.{Shown, diagnostics_of, diagnostics_unless, fault_diagnostics, fault_message, refusal_diagnostic}
 use Rattle.lsp_document.specs.Documents.{held}
-use Rattle.lsp_document.specs.LineTexts.{line_of}
+use Rattle.lsp_places.specs.LineTexts.{line_of}
 use Rattle.lsp_document.specs.Marking.{found_for, marked, marked_for, marked_part, text_at}
-use Rattle.lsp_document.specs.Position.{position_of}
+use Rattle.lsp_places.specs.Position.{position_of}
 use Rattle.lsp_document.specs.inside.Marked.{AreMarked, marked_diagnostic, marked_diagnostics, on_line, source_marks}
 use Rattle.lsp_document.proofs.HeldTexts.{held_taken}
 use Rattle.lsp_document.specs.declared.diagnostics.Problem.TheVariants as problem

@@ -1,15 +1,11 @@
 pub mod BlockFaults
-pub mod Columns
 pub mod FaultLines
 pub mod Fitting
 pub mod HeldBlocks
 pub mod HeldTexts
-pub mod LineStarts
 pub mod ListEdits
-pub mod Measuring
-pub mod Onward
+pub mod LocalCuts
 pub mod PartsExchanged
-pub mod Places
 pub mod PublishedFaults
 pub mod SameFaults
 pub mod ShownDetails

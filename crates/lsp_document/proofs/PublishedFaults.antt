@@ -9,11 +9,11 @@ use Rattle.ti_source.specs.Code.{code_name, label_of}
 use Rattle.tools_sources.specs.Sources.{first_line, source_texts}
 use Rattle.lsp_spans.specs.Faulty.{Search}
 use Rattle.lsp_spans.specs.declared.parts.Part.{Part}
-use Rattle.lsp_document.specs.Advice.{advice}
+use Rattle.lsp_spans.specs.Sentences.{sentence}
 use Rattle.lsp_document.specs.Diagnostics.{AreOfFaults, DiagnosticsAreTheFaults, IsOfFault, Shown, diagnostics_unless, fault_diagnostic, fault_diagnostics}
-use Rattle.lsp_document.specs.LineTexts.{line_of}
+use Rattle.lsp_places.specs.LineTexts.{line_of}
 use Rattle.lsp_document.specs.Marking.{found_for, marked, marked_for, marked_part, text_at}
-use Rattle.lsp_document.specs.Position.{position_of}
+use Rattle.lsp_places.specs.Position.{position_of}
 
 line_parts : (number colon label name detail : List ℕ)
     → number ++ colon ++ (label ++ 32 ∷ name) ++ detail ++ 10 ∷ [] ≡ number ++ colon ++ label ++ (32 ∷ []) ++ (name ++ detail) ++ 10 ∷ []
@@ -39,7 +39,7 @@ of_fault texts first part fault =
       start = there.0;
       end = there.1;
       subject = code_name fault.code ++ detail_text fault.detail;
-      words = advice fault.code;
+      words = sentence fault.code;
       message = refl;
       reported = line_parts (decimal (line_number texts first fault)) (58 ∷ 32 ∷ []) (label_of fault.code) (code_name fault.code) (detail_text fault.detail);
     }

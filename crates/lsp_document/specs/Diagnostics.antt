@@ -14,8 +14,8 @@ use Rattle.base_meaning.specs.Report.{detail_text, line_number, report_line}
 use Rattle.tools_sources.specs.Sources.{first_line, source_refusal, source_texts}
 use Rattle.tools_sources.specs.declared.source_error.SourceError.{SourceError}
 use Rattle.tools_sources.specs.declared.source_error.SourceError.TheVariants as refusal
-use Rattle.lsp_document.specs.Advice.{advice, block_too_long, too_many_blocks}
-use Rattle.lsp_document.specs.LineTexts.{line_of}
+use Rattle.lsp_spans.specs.Sentences.{sentence, block_too_long, too_many_blocks}
+use Rattle.lsp_places.specs.LineTexts.{line_of}
 use Rattle.lsp_document.specs.Marking.{found_for, marked, marked_for}
 use Rattle.lsp_spans.specs.Faulty.{Search}
 use Rattle.lsp_spans.specs.declared.parts.Part.{Part}
@@ -56,7 +56,7 @@ shown_on number line problem message = record { range = marked number line; prob
 -- what is reported about a fault: its name and the detail as its report shows it, what it means,
 -- and a hint
 abbrev pub fault_message : Code → Option (List ℕ) → List ℕ
-fault_message code detail = code_name code ++ detail_text detail ++ codes ": " ++ advice code
+fault_message code detail = code_name code ++ detail_text detail ++ codes ": " ++ sentence code
 
 -- the diagnostic of a fault that is of a part of its block, in a source whose first block begins on
 -- the line of that number, counted from 1

@@ -6,8 +6,8 @@ use Rattle.std.specs.Option.{option_map_or}
 use Rattle.base_meaning.specs.Faults.{SourceFault}
 use Rattle.lsp_spans.specs.Faulty.{Search, Sought, find_sought, search_of}
 use Rattle.lsp_spans.specs.declared.parts.Part.{Part}
-use Rattle.lsp_document.specs.LineTexts.{indent, line_of, until_end, width}
-use Rattle.lsp_document.specs.Position.{position_of}
+use Rattle.lsp_places.specs.LineTexts.{indent, line_of, until_end, width}
+use Rattle.lsp_places.specs.Position.{position_of}
 use Rattle.lsp_types.specs.declared.places.Range.{Range}
 
 -- the text of the block at that position

@@ -10,13 +10,13 @@ ghost use Rattle.tools_sources.specs.Sources.{source_refusal};
 ghost use Rattle.lsp_document.specs.Diagnostics as spec;
 ghost use Rattle.lsp_document.specs.Diagnostics.{diagnostic_seen, diagnostics_of, fault_message};
 ghost use Rattle.lsp_document.specs.Documents.{held};
-ghost use Rattle.lsp_document.specs.LineTexts.{line_of};
+ghost use Rattle.lsp_places.specs.LineTexts.{line_of};
 ghost use Rattle.lsp_document.specs.inside.Marked.{AreMarked, on_line};
 
-use crate::advice::{BLOCK_TOO_LONG, TOO_MANY_BLOCKS, advice};
 use crate::faults::MarkedFaults;
-use crate::lines::line_of;
 use crate::marking::marked;
+use lsp_places::line_of;
+use lsp_spans::{BLOCK_TOO_LONG, TOO_MANY_BLOCKS, sentence};
 use lsp_types::{Position, Range, Severity};
 use std::alloc::{AllocError, Global};
 use std::rc::RcSlice;
@@ -111,7 +111,7 @@ fn message_of(alloc: Global, fault: &Fault) -> Result<String, AllocError>
     message.push_str(fault.code.name())?;
     push_subject(alloc, &mut message, &fault.detail)?;
     message.push_str(": ")?;
-    message.push_str(advice(fault.code))?;
+    message.push_str(sentence(fault.code))?;
     Ok(message)
 }
 

@@ -14,11 +14,11 @@ use crate::cut::{common_back, common_front};
 use crate::diagnostics::{Diagnostic, source_diagnostics};
 use crate::exchanging::exchange;
 use crate::faults::{MarkedFaults, mark_faults};
+use crate::recutting::texts_of;
 use crate::taking::refusal_of;
 use std::alloc::{AllocError, Global};
 use std::marker::Model;
 use ti_base::{Database, EditError};
-use ti_source::blocks;
 use tools_sources::{SourceError, database_of, is_ended};
 
 // The most blocks that are exchanged one by one; of more the database is loaded anew.
@@ -52,19 +52,6 @@ impl Model for Document {
         × AreMarked d.database (map fault_seen d.marked.faults.items) d.marked.marks.items };
 }
 
-// The texts of the blocks.
-fn texts_of(alloc: Global, ended: &[u8]) -> Result<Vec<&[u8]>, AllocError>
-    requires { last_byte ascii.newline ended.now ≡ ascii.newline }
-    ensures { IfOk result (λ texts. map (λ text. text.now) texts.items ≡ source_texts ended.now) }
-{
-    let mut texts = Vec::new(alloc);
-    let mut cut = blocks(ended);
-    while let Some(text) = cut.next() {
-        texts.push(text)?;
-    }
-    Ok(texts)
-}
-
 // The texts of the blocks of a database.
 fn held_texts(alloc: Global, database: &Database) -> Result<Vec<&[u8]>, AllocError>
     ensures { IfOk result (λ texts. map (λ text. text.now) texts.items ≡ database.now) }
@@ -76,19 +63,24 @@ fn held_texts(alloc: Global, database: &Database) -> Result<Vec<&[u8]>, AllocErr
     Ok(texts)
 }
 
-// How many texts are the same at the front of the blocks of a database and of others, and after
-// these at the end.
-fn common_ends(
+// The blocks of a text whose last line is ended, and how many of them are the same as those of a
+// database at the front and, after these, at the end.
+fn cut_beside<'a>(
     alloc: Global,
     database: &Database,
-    texts: &[&[u8]],
-) -> Result<(usize, usize), AllocError>
-    ensures { IfOk result (λ ends. AtFront database.now (map (λ text. text.now) texts.now) ends.0
-        × AtBack database.now (map (λ text. text.now) texts.now) ends.0 ends.1) }
+    ended: &'a [u8],
+) -> Result<(Vec<&'a [u8]>, usize, usize), AllocError>
+    requires { last_byte ascii.newline ended.now ≡ ascii.newline }
+    ensures texts { IfOk result (λ cut. map (λ text. text.now) cut.0.items ≡ source_texts ended.now) }
+    ensures front { IfOk result (λ cut. AtFront database.now (source_texts ended.now) cut.1) }
+    ensures back { IfOk result (λ cut. AtBack database.now (source_texts ended.now) cut.1 cut.2) }
 {
+    database.each_is_one_block();
     let held = held_texts(alloc, database)?;
-    let front = common_front(&held, texts);
-    Ok((front, common_back(&held, texts, front)))
+    let texts = texts_of(alloc, &held, ended)?;
+    let front = common_front(&held, &texts);
+    let back = common_back(&held, &texts, front);
+    Ok((texts, front, back))
 }
 
 // A database of the blocks of a text that is not refused.
@@ -110,21 +102,24 @@ struct Changed {
     refusal: Option<SourceError>,
 }
 
-// Makes the blocks of a database these texts, those of a source that is not refused, and gives the
-// number of edits.
+// Makes the blocks of a database these texts, those of a source that is not refused, of which so
+// many at the front and at the end are the same, and gives the number of edits.
 fn exchange_all(
     alloc: Global,
     database: &mut Database,
     ended: &[u8],
     texts: &[&[u8]],
+    front: usize,
+    back: usize,
 ) -> Result<usize, EditError>
     requires texts { map (λ text. text.now) texts.now ≡ source_texts ended.now }
     requires taken { AreTaken (source_texts ended.now) }
+    requires at_front { AtFront database.old (source_texts ended.now) front }
+    requires at_back { AtBack database.old (source_texts ended.now) front back }
     ensures held { OnOk result (database.new ≡ source_texts ended.now) }
     ensures edits { IfOk result (Exchanged database.old (source_texts ended.now)) }
     ensures refused { IfErr result (λ error. error ≡ Memory) }
 {
-    let (front, back) = common_ends(alloc, database, texts)?;
     if database.len().max(texts.len()) - front - back > EDITS_MAX {
         *database = load(alloc, ended)?;
         return Ok(0);
@@ -141,10 +136,10 @@ fn change_to(alloc: Global, database: &mut Database, ended: &[u8]) -> Result<Cha
     ensures edits { IfOk result (λ changed. source_refusal ended.now ≡ None → Exchanged database.old (source_texts ended.now) changed.edits) }
     ensures refused { IfErr result (λ error. error ≡ Memory) }
 {
-    let texts = texts_of(alloc, ended)?;
+    let (texts, front, back) = cut_beside(alloc, database, ended)?;
     let refusal = refusal_of(ended, &texts);
     let edits = match refusal {
-        None => exchange_all(alloc, database, ended, &texts)?,
+        None => exchange_all(alloc, database, ended, &texts, front, back)?,
         Some(_) => {
             *database = Database::new(alloc);
             0

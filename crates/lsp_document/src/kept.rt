@@ -10,7 +10,7 @@ ghost use Rattle.lsp_document.specs.Marking.{marked_for, sought_of};
 ghost use Rattle.lsp_document.specs.inside.Kept.{block_marks, kept_marks, sought_in};
 
 use crate::marking::{detail_of, marked_for};
-use crate::walking::PlaceWalk;
+use lsp_places::PlaceWalk;
 use lsp_spans::FaultFinder;
 use lsp_types::Range;
 use std::alloc::{AllocError, Global};
@@ -73,8 +73,8 @@ fn fault_copies(alloc: Global, faults: &[Fault]) -> Result<Vec<Fault>, AllocErro
     Ok(copies)
 }
 
-// Whether two texts are the same.
-fn is_equal(one: &[u8], other: &[u8]) -> bool
+/// Whether two texts are the same.
+pub(crate) fn is_equal(one: &[u8], other: &[u8]) -> bool
     ensures { result ≡ true → one.now ≡ other.now }
 {
     one == other

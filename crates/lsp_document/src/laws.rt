@@ -3,7 +3,4 @@
 pub use crate::diagnostics::diagnostics_are_the_faults;
 pub use crate::document::held_blocks_fit;
 pub use crate::exchanging::one_change_is_one_edit;
-pub use crate::lines::{
-    columns_have_one_offset, lines_have_one_start, places_are_measured, widths_are_utf16,
-};
-pub use crate::position::positions_are_inverse;
+pub use crate::recutting::cutting_is_local;

@@ -3,11 +3,10 @@ ghost use Rattle.std.specs.Prelude.{◌≡◌, option_map};
 ghost use Rattle.std.specs.List.{slice_range};
 ghost use Rattle.std.specs.Rc.{rc_slice_items};
 ghost use Rattle.lsp_document.specs.Marking as spec;
-ghost use Rattle.lsp_document.specs.Position.{position_of};
+ghost use Rattle.lsp_places.specs.Position.{position_of};
 ghost use Rattle.lsp_document.specs.Marking.{marked_for};
 
-use crate::lines::{first_of, indent, line_of, width};
-use crate::walking::PlaceWalk;
+use lsp_places::{PlaceWalk, first_of, indent, line_of, width};
 use lsp_spans::Part;
 use lsp_types::{Position, Range};
 use ti_base::Fault;

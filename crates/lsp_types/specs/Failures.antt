@@ -15,10 +15,10 @@ code_of NameTaken = negsuc 32802
 
 -- the sentence of a refusal (own)
 abbrev pub sentence_of : Failure → List ℕ
-sentence_of NoJson = codes "the body is not JSON or is too long"
-sentence_of NoRequest = codes "no request is expected here"
-sentence_of NoMethod = codes "there is no such method"
-sentence_of BadParameters = codes "the parameters are not those of the method"
+sentence_of NoJson = codes "the body is not JSON, or is too long"
+sentence_of NoRequest = codes "invalid request"
+sentence_of NoMethod = codes "method not found"
+sentence_of BadParameters = codes "invalid parameters"
 sentence_of NotInitialized = codes "the server is not initialized"
-sentence_of NoName = codes "no entry can have the new name"
-sentence_of NameTaken = codes "an entry has or uses the new name already"
+sentence_of NoName = codes "the new name is invalid"
+sentence_of NameTaken = codes "the new name is already in use"

@@ -41,13 +41,13 @@ impl Failure {
         ensures { result.now ≡ sentence_of self }
     {
         match self {
-            Failure::NoJson => "the body is not JSON or is too long",
-            Failure::NoRequest => "no request is expected here",
-            Failure::NoMethod => "there is no such method",
-            Failure::BadParameters => "the parameters are not those of the method",
+            Failure::NoJson => "the body is not JSON, or is too long",
+            Failure::NoRequest => "invalid request",
+            Failure::NoMethod => "method not found",
+            Failure::BadParameters => "invalid parameters",
             Failure::NotInitialized => "the server is not initialized",
-            Failure::NoName => "no entry can have the new name",
-            Failure::NameTaken => "an entry has or uses the new name already",
+            Failure::NoName => "the new name is invalid",
+            Failure::NameTaken => "the new name is already in use",
         }
     }
 }

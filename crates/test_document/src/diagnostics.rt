@@ -174,7 +174,7 @@ fn a_whole_message(rt: HostRuntime) -> Result<(), AllocError> {
     let message = all[0].message.as_str();
     assert!(rt;
         message
-            == "MissingUse b?c: No block has this name. Correct it, or put the block in: installed entries are not looked at."
+            == "MissingUse b?c: No block has this name. Correct it, or add the block: installed entries are not searched."
     );
     Ok(())
 }

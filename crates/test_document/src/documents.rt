@@ -45,6 +45,55 @@ fn exchanges(rt: HostRuntime) -> Result<(), AllocError> {
     Ok(())
 }
 
+// A text, the text after it, and the blocks of that: of the former blocks only those stay after
+// which a block begins, and before which a line ends.
+#[rattlefmt::skip]
+static CUTS: [(&'static [u8], &'static [u8], &'static [&'static [u8]]); 14] = [
+    // A line is put in after a block, and taken out; it is white space, a comment, and none.
+    (b"a,\nb,\n", b"a,\n\tam,\nb,\n", &[b"a,\n\tam,\n", b"b,\n"]),
+    (b"a,\n\tam,\nb,\n", b"a,\nb,\n", &[b"a,\n", b"b,\n"]),
+    (b"a,\nb,\n", b"a,\n# c\nb,\n", &[b"a,\n# c\n", b"b,\n"]),
+    (b"a,\nb,\n", b"a,\n\nb,\n", &[b"a,\n\n", b"b,\n"]),
+    // The newline before a block goes, and comes.
+    (b"a,\nb,\n", b"a,b,\n", &[b"a,b,\n"]),
+    (b"a,b,\n", b"a,\nb,\n", &[b"a,\n", b"b,\n"]),
+    // White space before a block makes it part of the one before.
+    (b"a,\nb,\nc,\n", b"a,\n b,\nc,\n", &[b"a,\n b,\n", b"c,\n"]),
+    (b"a,\n b,\nc,\n", b"a,\nb,\nc,\n", &[b"a,\n", b"b,\n", b"c,\n"]),
+    // The blocks are alike, or change places.
+    (b"a,\na,\na,\n", b"a,\na,\na,\na,\n", &[b"a,\n", b"a,\n", b"a,\n", b"a,\n"]),
+    (b"a,\na,\na,\n", b"a,\n", &[b"a,\n"]),
+    (b"a,\nb,\n", b"b,\na,\n", &[b"b,\n", b"a,\n"]),
+    // Lines before the first block, and none after it.
+    (b"a,\nb,\n", b"\tx,\na,\nb,\n", &[b"a,\n", b"b,\n"]),
+    (b"# c\na,\nb,\n", b"# c\n", &[]),
+    (b"a,\nb,\n", b"a,\nb,\n\tam,", &[b"a,\n", b"b,\n\tam,\n"]),
+];
+
+// Whether the blocks of a document are these texts.
+fn has_blocks(document: &Document, texts: &[&[u8]]) -> bool {
+    let database = document.database();
+    if database.len() != texts.len() {
+        return false;
+    }
+    for at in 0..texts.len() {
+        if database.text(at) != texts[at] {
+            return false;
+        }
+    }
+    true
+}
+
+#[test]
+fn blocks_cut_anew(rt: HostRuntime) -> Result<(), AllocError> {
+    for (old, new, texts) in CUTS.iter() {
+        let mut document = Document::open(rt.alloc(), text_of(rt.alloc(), old)?)?;
+        document.set(text_of(rt.alloc(), new)?)?;
+        assert!(rt; has_blocks(&document, texts));
+    }
+    Ok(())
+}
+
 #[test]
 fn a_new_document(rt: HostRuntime) -> Result<(), AllocError> {
     let mut document = Document::new(rt.alloc());

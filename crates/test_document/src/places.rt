@@ -1,5 +1,5 @@
-//! Offsets and places, and parts of a text exchanged.
-use lsp_document::{offset_of, position_of, spliced};
+//! Offsets and places, lines, and parts of a text exchanged.
+use lsp_places::{PlaceWalk, first_of, indent, line_of, offset_of, position_of, spliced, width};
 use lsp_types::Position;
 use std::alloc::AllocError;
 use std::process::Abort;
@@ -81,6 +81,62 @@ fn lines_of_a_long_text(rt: HostRuntime) -> Result<(), AllocError> {
         assert!(rt; offset_of(&text, Position { line, column: 1 }) == offset);
     }
     Ok(())
+}
+
+// The lines of the text, and one past the last: the number, its bytes, its width.
+#[rattlefmt::skip]
+const LINES_OF_TEXT: [(usize, &[u8], usize); 5] = [
+    (0, b"a\xC3\xA9\xE2\x82\xAC\xF0\x9F\x98\x80z", 6),
+    (1, b"\rq", 2),
+    (2, b"", 0),
+    (3, b"last", 4),
+    (4, b"", 0),
+];
+
+#[test]
+fn lines_of_the_text(rt: HostRuntime) {
+    for (number, line, wide) in LINES_OF_TEXT {
+        assert!(rt; line_of(TEXT, number) == line);
+        assert!(rt; width(line) == wide);
+    }
+}
+
+#[test]
+fn a_line_at_the_front(rt: HostRuntime) {
+    assert!(rt; first_of(b"ab\ncd") == b"ab".as_slice());
+    assert!(rt; first_of(b"ab\r\ncd") == b"ab".as_slice());
+    assert!(rt; first_of(b"ab\rcd") == b"ab\rcd".as_slice());
+    assert!(rt; first_of(b"\nab") == b"".as_slice());
+    assert!(rt; first_of(b"") == b"".as_slice());
+}
+
+#[test]
+fn white_space_at_the_front(rt: HostRuntime) {
+    assert!(rt; indent(b"\t am,") == 2);
+    assert!(rt; indent(b"am, ") == 0);
+    assert!(rt; indent(b" \t") == 2);
+    assert!(rt; indent(b"") == 0);
+}
+
+// Offsets as a walk is asked for them: forward, again, back, and past the end.
+#[rattlefmt::skip]
+const WALKED: [(usize, usize, usize); 7] = [
+    (3, 0, 2),
+    (14, 1, 1),
+    (14, 1, 1),
+    (1, 0, 1),
+    (17, 3, 0),
+    (99, 3, 4),
+    (0, 0, 0),
+];
+
+#[test]
+fn a_walk_over_the_text(rt: HostRuntime) {
+    let mut walk = PlaceWalk::new(TEXT);
+    for (offset, line, column) in WALKED {
+        assert!(rt; walk.place_of(offset) == Position { line, column });
+        assert!(rt; walk.text() == TEXT);
+    }
 }
 
 // A start and an end in `abcd`, what is put in, and the text after it.
