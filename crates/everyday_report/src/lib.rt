@@ -2,11 +2,11 @@
 //! compilers.
 //!
 //! ```text
-//! mine.ti:4:9: error: cols: This is not a number. .. [E3 BadNumber]
+//! mine.ti:4:9: error: cols: Invalid number. .. [E3 BadNumber]
 //! ```
 //!
 //! - `report`: the lines (`write_said`, `write_faults`)
-//! - `sentences`: what is reported about a fault
+//! - `sentences`: the sentence of each error and warning
 //! - `places`: the column of each fault, at the part of its block that it is of
 //! - `columns`: columns of a text
 #![tactic(auto)]
@@ -16,5 +16,6 @@ mod places;
 mod report;
 mod sentences;
 
+pub use lsp_spans::{BLOCK_TOO_LONG, TOO_MANY_BLOCKS};
 pub use report::{Place, append_parts, write_faults, write_said};
-pub use sentences::{BAD_USER_DEFINED, BLOCK_TOO_LONG, TOO_MANY_BLOCKS, TOO_MANY_NAMES, sentence};
+pub use sentences::{BAD_USER_DEFINED, TOO_MANY_NAMES, sentence};

@@ -18,7 +18,7 @@ use Rattle.lsp_spans.specs.declared.words.Word.{Word}
 use Rattle.lsp_types.specs.declared.places.Position.{Position}
 use Rattle.lsp_document.specs.Diagnostics.{text_at}
 use Rattle.lsp_document.specs.Documents.{held}
-use Rattle.lsp_document.specs.Position.{column_offset, ends_line, line_start, lines_left, offset_of, place_after, position_of, step_over, units}
+use Rattle.lsp_places.specs.Position.{column_offset, ends_line, line_start, lines_left, offset_of, place_after, position_of, step_over, units}
 use Rattle.lsp_blocks.specs.Spots.{head_line, offset_in, place_in, settled, spot_at, spot_from}
 use Rattle.lsp_blocks.specs.Symbols.{IsUpTo}
 use Rattle.lsp_blocks.specs.declared.spots.Spot.{Spot}

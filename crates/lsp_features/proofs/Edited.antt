@@ -22,7 +22,7 @@ use Rattle.lsp_types.specs.declared.failures.Failure.{Failure}
 use Rattle.lsp_types.specs.declared.failures.Failure.TheVariants.{NameTaken, NoName}
 use Rattle.lsp_types.specs.declared.places.Range.{Range}
 use Rattle.lsp_document.specs.Documents.{HeldBlocksFit, IsShortBlock, held, unless_refused}
-use Rattle.lsp_document.specs.Splicing.{spliced}
+use Rattle.lsp_places.specs.Splicing.{spliced}
 use Rattle.lsp_blocks.specs.Giving.{can_be_given}
 use Rattle.lsp_blocks.specs.Places.{can_be_exchanged, missing_newline}
 use Rattle.lsp_blocks.specs.Spots.{range_in}

@@ -22,7 +22,7 @@ use Rattle.lsp_types.specs.declared.failures.Failure.{Failure}
 use Rattle.lsp_types.specs.declared.places.Position.{Position}
 use Rattle.lsp_types.specs.declared.places.Range.{Range}
 use Rattle.lsp_document.specs.Documents.{HeldBlocksFit, IsShortBlock, held}
-use Rattle.lsp_document.specs.Position.{ends_line, place_after, step_over, units}
+use Rattle.lsp_places.specs.Position.{ends_line, place_after, step_over, units}
 use Rattle.lsp_blocks.specs.Spots.{head_line, place_in, range_in}
 use Rattle.lsp_blocks.specs.Symbols.{IsUpTo}
 use Rattle.lsp_blocks.proofs.Selections.{rises_in, up_up}

@@ -19,8 +19,8 @@ use Rattle.lsp_types.specs.declared.places.Position.{Position}
 use Rattle.lsp_types.specs.declared.places.Range.{Range}
 use Rattle.lsp_document.specs.Diagnostics.{text_at}
 use Rattle.lsp_document.specs.Documents.{held}
-use Rattle.lsp_document.specs.Position.{offset_of}
-use Rattle.lsp_document.specs.Splicing.{spliced}
+use Rattle.lsp_places.specs.Position.{offset_of}
+use Rattle.lsp_places.specs.Splicing.{spliced}
 use Rattle.lsp_blocks.specs.Giving.{can_be_given}
 use Rattle.lsp_blocks.specs.Places.{is_place, missing_newline}
 use Rattle.lsp_blocks.specs.Spots.{range_in, settled, spot_at}

@@ -8,8 +8,8 @@ use Rattle.lsp_spans.specs.declared.parts.Part.{Part}
 use Rattle.lsp_types.specs.declared.places.Position.{Position}
 use Rattle.lsp_types.specs.declared.places.Range.{Range}
 use Rattle.lsp_document.specs.Documents.{held}
-use Rattle.lsp_document.specs.Position.{offset_of}
-use Rattle.lsp_document.specs.Splicing.{spliced}
+use Rattle.lsp_places.specs.Position.{offset_of}
+use Rattle.lsp_places.specs.Splicing.{spliced}
 use Rattle.lsp_blocks.specs.Giving.{can_be_given}
 use Rattle.lsp_blocks.specs.Places.{can_be_exchanged, missing_newline}
 use Rattle.lsp_features.specs.Names.{one_name, parts_in}

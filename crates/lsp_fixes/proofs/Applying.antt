@@ -7,8 +7,8 @@ use Rattle.ti_text.specs.Lines.{line_count}
 use Rattle.ti_text.specs.Texts.{last_byte}
 use Rattle.lsp_spans.specs.Replacing.{exchanged}
 use Rattle.lsp_spans.specs.declared.parts.Part.{Part}
-use Rattle.lsp_document.specs.Position.{is_start, offset_of, position_of}
-use Rattle.lsp_document.specs.Splicing.{spliced}
+use Rattle.lsp_places.specs.Position.{is_start, offset_of, position_of}
+use Rattle.lsp_places.specs.Splicing.{spliced}
 use Rattle.lsp_blocks.proofs.Placing.{IsMissing, leads, missing_size, place, spliced_in, spliced_more}
 use Rattle.lsp_fixes.specs.Healing.{IsInLine, IsPartOf}
 

@@ -17,11 +17,11 @@ use Rattle.ti_source.specs.Reading.{Said, said_text}
 use Rattle.ti_source.specs.Verdicts.{IsReadAs, ReadClaim, Verdict, cancel_read, fitting_verdict, flag_read, is_import, named_verdict, number_read_as}
 use Rattle.ti_source.specs.Verdicts.{reads_cancel, reads_flag, reads_number, reads_text, refused, said_by, text_read_as, text_verdict, verdict_on}
 use Rattle.ti_source.specs.declared.code.Code.TheVariants as code
-use Rattle.ti_source.specs.declared.numbers.NumberError.{NumberError}
-use Rattle.ti_source.specs.declared.numbers.NumberError.TheVariants.{Bad, TooLarge}
+use Rattle.ti_spelling.specs.declared.numbers.NumberError.{NumberError}
+use Rattle.ti_spelling.specs.declared.numbers.NumberError.TheVariants.{Bad, TooLarge}
 use Rattle.ti_source.specs.Stating.{plain_statement, statement_by_mark, statement_with_value}
 use Rattle.ti_source.specs.inside.Verdicts.{read_claim, verdict_of}
-use Rattle.ti_source.specs.WhiteSpace.{without_trailing_space}
+use Rattle.ti_spelling.specs.WhiteSpace.{without_trailing_space}
 use Rattle.ti_source.proofs.JudgingLaws.{has_verdict}
 use Rattle.lsp_fixes.specs.Carets.{can_be_read, caret_at, healing_caret, with_backslash}
 use Rattle.lsp_fixes.specs.Edits.{EditSeen, advises_caret, caret_in, carets}

@@ -8,7 +8,7 @@ use Rattle.std.proofs.lemmas.Bool.{cases_lt, le-leb, le-ltb, lt-leb, lt-ltb}
 use Rattle.ti_text.specs.Texts.{last_byte}
 use Rattle.ti_source.specs.Folding.{PlacedByte}
 use Rattle.ti_source.specs.Items.{bytes}
-use Rattle.lsp_document.specs.Position.{is_start, units}
+use Rattle.lsp_places.specs.Position.{is_start, units}
 use Rattle.lsp_fixes.specs.Carets.{caret_at, caret_at_end}
 use Rattle.lsp_fixes.specs.Fixes.{begins_character}
 

@@ -26,7 +26,7 @@ use Rattle.lsp_spans.specs.Folding.{folded_of}
 use Rattle.lsp_spans.specs.Subjects.{items_of}
 use Rattle.lsp_document.specs.Diagnostics.{text_at}
 use Rattle.lsp_document.specs.Documents.{HeldBlocksFit, held, unless_refused}
-use Rattle.lsp_document.specs.Position.{is_start}
+use Rattle.lsp_places.specs.Position.{is_start}
 use Rattle.lsp_blocks.specs.Spots.{head_line, settled, spot_at, spot_from}
 use Rattle.lsp_blocks.specs.declared.spots.Spot.{Spot}
 use Rattle.lsp_spans.specs.declared.parts.Part.{Part}

@@ -11,7 +11,7 @@ use Rattle.ti_source.specs.Cutting.{begins_head}
 use Rattle.ti_source.specs.Folding.{PlacedByte}
 use Rattle.ti_source.specs.Header.{is_lookup_name, is_name_byte}
 use Rattle.ti_source.specs.Items.{IsWhite, bytes, without_front, without_outer_space, without_white_front}
-use Rattle.ti_source.specs.WhiteSpace.{without_trailing_space}
+use Rattle.ti_spelling.specs.WhiteSpace.{without_trailing_space}
 use Rattle.lsp_spans.specs.Folding.{bytes_at, folded_of, without_breaks, without_comments}
 use Rattle.lsp_spans.specs.Parts.{items_after, rest_of, spanned}
 use Rattle.lsp_spans.specs.Replacing.{BeginsVisible, IsOneLine}

@@ -7,7 +7,7 @@ use Rattle.std.proofs.lemmas.Bool.{and_parts, cases_Bool, eqb-true, le-ltb, lt-l
 use Rattle.std.proofs.lemmas.List.{drop_all, length-append, map-append}
 use Rattle.ti_text.specs.Texts.{is_empty, last_byte}
 use Rattle.ti_text.specs.WhiteSpace.{is_white_space}
-use Rattle.ti_source.specs.WhiteSpace.{without_trailing_space}
+use Rattle.ti_spelling.specs.WhiteSpace.{without_trailing_space}
 use Rattle.ti_source.specs.Folding.{PlacedByte}
 use Rattle.ti_source.specs.Items.{HasNoMark, IsEnabled, IsWhite, bytes, is_mark}
 use Rattle.ti_source.specs.Stating.{before_mark, from_mark}

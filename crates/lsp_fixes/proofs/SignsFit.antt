@@ -14,7 +14,7 @@ use Rattle.ti_source.specs.Verdicts.{refused}
 use Rattle.ti_source.specs.declared.code.Code.TheVariants as code
 use Rattle.ti_source.specs.Stating.{plain_statement, statement_by_mark, without_last}
 use Rattle.ti_source.specs.inside.Verdicts.{verdict_of}
-use Rattle.ti_source.specs.WhiteSpace.{without_trailing_space}
+use Rattle.ti_spelling.specs.WhiteSpace.{without_trailing_space}
 use Rattle.ti_source.proofs.JudgingLaws.{one_verdict}
 use Rattle.lsp_spans.specs.Subjects.{without_end}
 use Rattle.lsp_fixes.specs.Edits.{EditSeen, advises_sign, is_digit, kind_signs, sign_at, sign_for, signs}

@@ -14,7 +14,7 @@ use Rattle.ti_source.specs.Folding.{PlacedByte}
 use Rattle.ti_source.specs.Items.{HasNoMark, IsEnabled, Statement, bytes, claims_text, is_mark, text_item}
 use Rattle.ti_source.specs.Reading.{said_text}
 use Rattle.ti_source.specs.Verdicts.{accepted, accepted_odd, is_import}
-use Rattle.ti_source.specs.WhiteSpace.{without_trailing_space}
+use Rattle.ti_spelling.specs.WhiteSpace.{without_trailing_space}
 use Rattle.ti_source.specs.Stating.{plain_statement, statement_by_mark, statement_with_value}
 use Rattle.ti_source.proofs.JudgingLaws.{judged_text}
 use Rattle.ti_source.proofs.TextLemmas.{last_byte-push}

@@ -21,10 +21,10 @@ use Rattle.ti_source.specs.Verdicts.{Judges, IsReadAs, ReadClaim, Verdict, accep
 use Rattle.ti_source.specs.Verdicts.{number_read_as, number_verdict, reads_cancel, reads_flag, reads_number, reads_text, refused, text_read_as}
 use Rattle.ti_source.specs.Verdicts.{text_verdict, verdict_on}
 use Rattle.ti_source.specs.declared.code.Code.TheVariants as code
-use Rattle.ti_source.specs.declared.numbers.NumberError.{NumberError}
-use Rattle.ti_source.specs.declared.numbers.NumberError.TheVariants.{Bad, TooLarge}
+use Rattle.ti_spelling.specs.declared.numbers.NumberError.{NumberError}
+use Rattle.ti_spelling.specs.declared.numbers.NumberError.TheVariants.{Bad, TooLarge}
 use Rattle.ti_source.specs.Stating.{from_mark, statement_by_mark, statement_of}
-use Rattle.ti_source.specs.inside.Numbers.{number_read}
+use Rattle.ti_spelling.specs.inside.Numbers.{number_read}
 use Rattle.ti_spelling.specs.inside.Spelling.{unescape_result}
 use Rattle.ti_source.specs.inside.Verdicts.{read_claim, verdict_of}
 use Rattle.ti_source.proofs.ItemLaws.{one_statement}

@@ -8,8 +8,8 @@ use Rattle.tools_sources.specs.Sources.{preface_of, source_texts}
 use Rattle.lsp_types.specs.declared.places.Range.{Range}
 use Rattle.lsp_document.specs.Diagnostics.{text_at}
 use Rattle.lsp_document.specs.Documents.{held}
-use Rattle.lsp_document.specs.Position.{is_start, offset_of}
-use Rattle.lsp_document.specs.Splicing.{spliced}
+use Rattle.lsp_places.specs.Position.{is_start, offset_of}
+use Rattle.lsp_places.specs.Splicing.{spliced}
 use Rattle.lsp_blocks.specs.Places.{missing_newline}
 use Rattle.lsp_fixes.specs.Edits.{EditSeen}
 use Rattle.lsp_fixes.specs.Fixes.{FixSeen, fixes_of}

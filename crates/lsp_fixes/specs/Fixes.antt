@@ -22,7 +22,7 @@ use Rattle.lsp_types.specs.declared.places.Position.{Position}
 use Rattle.lsp_types.specs.declared.places.Range.{Range}
 use Rattle.lsp_document.specs.Diagnostics.{text_at}
 use Rattle.lsp_document.specs.Documents.{held}
-use Rattle.lsp_document.specs.Position.{units}
+use Rattle.lsp_places.specs.Position.{units}
 use Rattle.lsp_blocks.specs.Giving.{can_be_given}
 use Rattle.lsp_blocks.specs.Places.{can_be_exchanged}
 use Rattle.lsp_blocks.specs.Spots.{offset_in, range_in, spot_at}

@@ -39,14 +39,14 @@ pub data Asked : Type 0 where
   unknown : Asked
 
 -- a notification: of a document its URI, its version if it is known, and its text or the edits;
--- `lost` are those of a document whose parameters are not those of the method, with its URI if that
--- can be read; `nothing` are those that ask for nothing: `initialized` and unknown ones
+-- `unreadable` are those of a document whose parameters are not those of the method, with its URI if
+-- that can be read; `nothing` are those that ask for nothing: `initialized` and unknown ones
 pub data Told : Type 0 where
   exited : Told
   opened : List ℕ → Option ℕ → List ℕ → Told
   changed : List ℕ → Option ℕ → List Edit → Told
   closed : List ℕ → Told
-  lost : Option (List ℕ) → Told
+  unreadable : Option (List ℕ) → Told
   nothing : Told
 
 -- what a value is as a message; a faulty one may have an id
@@ -272,8 +272,8 @@ told_by method params =
     else (if bytes_eq method (codes "textDocument/didClose") then closed_of params else None))
 
 -- the methods by which a document is opened, changed and closed
-abbrev pub tells_of_document : List ℕ → Bool
-tells_of_document method =
+abbrev pub is_about_document : List ℕ → Bool
+is_about_document method =
     bytes_eq method (codes "textDocument/didOpen") || bytes_eq method (codes "textDocument/didChange")
     || bytes_eq method (codes "textDocument/didClose")
 
@@ -285,13 +285,13 @@ uri_in d = do
   text_at (codes "uri") document
 
 -- what is said by parameters that are not those of the method
-abbrev pub untold_of : List ℕ → Data → Told
-untold_of method d = if tells_of_document method then lost (uri_in d) else nothing
+abbrev pub unreadable_of : List ℕ → Data → Told
+unreadable_of method d = if is_about_document method then unreadable (uri_in d) else nothing
 
 abbrev pub told_of : List ℕ → Data → Told
 told_of method d =
     if bytes_eq method (codes "exit") then exited
-    else unwrap_or (option_and_then (told_by method) (get (codes "params") d)) (untold_of method d)
+    else unwrap_or (option_and_then (told_by method) (get (codes "params") d)) (unreadable_of method d)
 
 -- ---- messages ("Base Protocol")
 

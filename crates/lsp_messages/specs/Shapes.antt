@@ -54,15 +54,15 @@ publish_data uri version diagnostics = notification_data (codes "textDocument/pu
 
 -- what is said where a message about a document could not be read, of which the URI may be known
 -- (own)
-abbrev pub lost_sentence : Option (List ℕ) → List ℕ
-lost_sentence None = codes "A message about a document could not be read. Close the documents, and open them again."
-lost_sentence (Some uri) = codes "A message about " ++ uri ++ codes " could not be read. Close the document, and open it again."
+abbrev pub unreadable_sentence : Option (List ℕ) → List ℕ
+unreadable_sentence None = codes "A message about a document could not be read. Close the documents, and open them again."
+unreadable_sentence (Some uri) = codes "A message about " ++ uri ++ codes " could not be read. Close the document, and open it again."
 
 -- "ShowMessage Notification"; the type 1 is an error ("MessageType")
-abbrev pub lost_data : Option (List ℕ) → Data
-lost_data uri =
+abbrev pub unreadable_data : Option (List ℕ) → Data
+unreadable_data uri =
     notification_data (codes "window/showMessage")
-    (object (member (codes "message") (string (lost_sentence uri)) (member (codes "type") (natural 1) no_members)))
+    (object (member (codes "message") (string (unreadable_sentence uri)) (member (codes "type") (natural 1) no_members)))
 
 -- "Response Message"
 abbrev pub response_data : Data → Data → Data

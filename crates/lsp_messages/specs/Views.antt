@@ -8,7 +8,7 @@ use Rattle.lsp_messages.specs.declared.messages.Change.{Change}
 use Rattle.lsp_messages.specs.declared.messages.Call.{Call}
 use Rattle.lsp_messages.specs.declared.messages.Call.TheVariants as call
 use Rattle.lsp_messages.specs.declared.messages.Notice.{Notice}
-use Rattle.lsp_messages.specs.declared.messages.Notice.TheVariants.{Exited, Opened, Changed, Closed, Lost, Nothing}
+use Rattle.lsp_messages.specs.declared.messages.Notice.TheVariants.{Exited, Opened, Changed, Closed, Unreadable, Nothing}
 use Rattle.lsp_messages.specs.declared.messages.Question.{Question}
 use Rattle.lsp_messages.specs.declared.messages.Question.TheVariants.{Completion, Hover, Definition, References, Symbols, Highlights, Rename, PrepareRename, Fixes}
 use Rattle.lsp_messages.specs.declared.messages.Reply.{Reply}
@@ -50,7 +50,7 @@ told_view Exited = means.exited
 told_view (Opened uri version text) = means.opened uri.now version text.now
 told_view (Changed uri version changes) = means.changed uri.now version (map edit_view changes.items)
 told_view (Closed uri) = means.closed uri.now
-told_view (Lost uri) = means.lost (option_map (λ text. text.now) uri)
+told_view (Unreadable uri) = means.unreadable (option_map (λ text. text.now) uri)
 told_view Nothing = means.nothing
 
 -- what a message that is held in memory means

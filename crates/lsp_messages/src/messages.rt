@@ -108,7 +108,7 @@ pub enum Notice<'a> {
         uri: &'a str,
     },
     /// Something about a document, but the parameters are not those of the method.
-    Lost {
+    Unreadable {
         /// The document's URI, if it can be read.
         uri: Option<&'a str>,
     },

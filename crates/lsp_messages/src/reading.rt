@@ -2,7 +2,7 @@
 ghost use Rattle.std.specs.Prelude.{◌≡◌, IfOk, MatchOption, None, Option, Some, codes, map, option_and_then, option_map};
 ghost use Rattle.serde_json.specs.Find.{get};
 ghost use Rattle.serde_json.specs.View.{items_view, view};
-ghost use Rattle.lsp_messages.specs.Messages.{asked_of, called_of, changed, changed_of, closed_of, edit_of, edits_of, id_in, is_id, message_of, opened_of, optional_range, response_or_fault, tells_of_document, told_by, told_of, untold_of, uri_in};
+ghost use Rattle.lsp_messages.specs.Messages.{asked_of, called_of, changed, changed_of, closed_of, edit_of, edits_of, id_in, is_id, message_of, opened_of, optional_range, response_or_fault, is_about_document, told_by, told_of, unreadable_of, uri_in};
 ghost use Rattle.lsp_messages.specs.Views.{asked_view, edit_view, message_view, told_view};
 
 use crate::asking::{read_asked, topic_of};
@@ -119,8 +119,8 @@ fn read_params<'a>(
 }
 
 // Whether a method is about a document that is opened, changed or closed.
-fn tells_of_document(method: &str) -> bool
-    ensures { result ≡ tells_of_document method.now }
+fn is_about_document(method: &str) -> bool
+    ensures { result ≡ is_about_document method.now }
 {
     matches!(
         method,
@@ -137,11 +137,11 @@ fn uri_in(value: &Value) -> Option<&str>
 }
 
 // What a notification says whose parameters are not those of the method.
-fn read_untold<'a>(method: &str, value: &'a Value) -> Notice<'a>
-    ensures { told_view result ≡ untold_of method.now (view value.now) }
+fn read_unreadable<'a>(method: &str, value: &'a Value) -> Notice<'a>
+    ensures { told_view result ≡ unreadable_of method.now (view value.now) }
 {
-    if tells_of_document(method) {
-        Notice::Lost { uri: uri_in(value) }
+    if is_about_document(method) {
+        Notice::Unreadable { uri: uri_in(value) }
     } else {
         Notice::Nothing
     }
@@ -155,10 +155,10 @@ fn read_notice<'a>(alloc: Global, method: &str, value: &'a Value) -> Result<Noti
         return Ok(Notice::Exited);
     }
     let Some(params) = value.get("params") else {
-        return Ok(read_untold(method, value));
+        return Ok(read_unreadable(method, value));
     };
     match read_params(alloc, method, params)? {
-        None => Ok(read_untold(method, value)),
+        None => Ok(read_unreadable(method, value)),
         Some(notice) => Ok(notice),
     }
 }

@@ -5,7 +5,7 @@ ghost use Rattle.serde_json.specs.Data.{null};
 ghost use Rattle.serde_json.specs.View.{items_view, view};
 ghost use Rattle.lsp_messages.specs.Views.{reply_view};
 ghost use Rattle.lsp_messages.specs.Shapes.{action_options_data, capabilities_data, completion_options_data, initialized_data, rename_options_data, server_data, sync_data};
-ghost use Rattle.lsp_messages.specs.Shapes.{diagnostic_data, failure_data, lost_data, lost_sentence, notification_data, position_data, publish_data, published_data, range_data, refusal_data, reply_data, response_data};
+ghost use Rattle.lsp_messages.specs.Shapes.{diagnostic_data, failure_data, unreadable_data, unreadable_sentence, notification_data, position_data, publish_data, published_data, range_data, refusal_data, reply_data, response_data};
 
 use crate::clients::Client;
 use crate::messages::Reply;
@@ -101,8 +101,8 @@ pub fn publish_value(
 }
 
 // What is said where a message about a document could not be read.
-fn lost_sentence(alloc: Global, uri: Option<&str>) -> Result<String, AllocError>
-    ensures { IfOk result (λ text. string_bytes text ≡ lost_sentence (option_map (λ uri. uri.now) uri.entry)) }
+fn unreadable_sentence(alloc: Global, uri: Option<&str>) -> Result<String, AllocError>
+    ensures { IfOk result (λ text. string_bytes text ≡ unreadable_sentence (option_map (λ uri. uri.now) uri.entry)) }
 {
     match uri {
         None => String::from_str(
@@ -122,10 +122,10 @@ fn lost_sentence(alloc: Global, uri: Option<&str>) -> Result<String, AllocError>
 ///
 /// # Errors
 /// `AllocError` if memory ran out.
-pub fn lost_value(alloc: Global, uri: Option<&str>) -> Result<Value, AllocError>
-    ensures { IfOk result (λ v. view v ≡ lost_data (option_map (λ uri. uri.now) uri.entry)) }
+pub fn unreadable_value(alloc: Global, uri: Option<&str>) -> Result<Value, AllocError>
+    ensures { IfOk result (λ v. view v ≡ unreadable_data (option_map (λ uri. uri.now) uri.entry)) }
 {
-    let sentence = lost_sentence(alloc, uri)?;
+    let sentence = unreadable_sentence(alloc, uri)?;
     let params = json!(in alloc; {"message": sentence, "type": 1_u32})?;
     notification_value(alloc, "window/showMessage", params)
 }

@@ -5,7 +5,7 @@ use Rattle.serde_json.specs.Find.{as_str, get}
 use Rattle.serde_json.specs.Written.{has_float, items_have_float}
 use Rattle.std.specs.Prelude.{codes, option_and_then}
 use Rattle.lsp_messages.specs.Messages.{Asked, initialize, shutdown, about, unreadable, unknown, Edit, Meaning, Query, request, notification, response, faulty}
-use Rattle.lsp_messages.specs.Messages.{Told, exited, opened, changed, closed, lost, nothing, id_in, id_of, message_of, meaning_by, method_meaning, request_of}
+use Rattle.lsp_messages.specs.Messages.{Told, exited, opened, changed, closed, unreadable, nothing, id_in, id_of, message_of, meaning_by, method_meaning, request_of}
 use Rattle.lsp_messages.specs.Messages.{told_of}
 use Rattle.lsp_messages.specs.Shapes.{Said, said_answer, said_refusal, action_options_data, publish_data, refusal_data, rename_options_data, reply_data}
 use Rattle.lsp_types.specs.declared.failures.Failure.{Failure}
@@ -14,7 +14,7 @@ use Rattle.lsp_server.specs.Answers.{answer_data}
 use Rattle.lsp_server.specs.Sayings.{HasNoFloats, SaidHasNoFloat, Sayings}
 use Rattle.lsp_server.specs.Steps.{Answer, ready, done, refused, answered, shown, cleared, warned, Open, Places, State, answered_of, current_of, open_at}
 use Rattle.lsp_messages.specs.declared.clients.Client.{Client}
-use Rattle.lsp_server.specs.Steps.{replied, requested, requested_fresh, requested_running, shown_by_change, step, takes_edits, told, told_in, with_edits}
+use Rattle.lsp_server.specs.Steps.{replied, requested, requested_fresh, requested_running, shown_by_change, step, can_apply, told, told_in, with_edits}
 use Rattle.lsp_server.specs.declared.phase.Phase.{Phase}
 use Rattle.lsp_server.specs.declared.phase.Phase.TheVariants.{Fresh, Running, Finished, Ended}
 use Rattle.lsp_server.specs.inside.Turns.{HasNoFloat}
@@ -160,7 +160,7 @@ plain_changed : (says : Sayings) (places : Places) (version : Option ℕ) (edits
     → IsPlain says (option_and_then (shown_by_change places version edits) found)
 plain_changed says places version edits None plain = tt
 plain_changed says places version edits (Some document) plain =
-    plain_if says (takes_edits edits document) (with_edits places version edits document) plain
+    plain_if says (can_apply edits document) (with_edits places version edits document) plain
 
 plain_closed : (says : Sayings) (uri : List ℕ) (found : Option Open) → IsPlain says (option_map (λ document. cleared uri) found)
 plain_closed says uri None = tt
@@ -171,7 +171,7 @@ plain_told says places exited documents plain = tt
 plain_told says places (opened uri version text) documents plain = plain_answer says (shown (record { uri = uri; version = version; text = text; current = true })) plain tt
 plain_told says places (changed uri version edits) documents plain = plain_changed says places version edits (open_at uri documents) plain
 plain_told says places (closed uri) documents plain = plain_closed says uri (open_at uri documents)
-plain_told says places (lost uri) documents plain = plain_answer says (warned uri) plain tt
+plain_told says places (unreadable uri) documents plain = plain_answer says (warned uri) plain tt
 plain_told says places nothing documents plain = tt
 
 plain_told_in : (says : Sayings) (places : Places) (phase : Phase) (notice : Told) (documents : List Open) → HasNoFloats says

@@ -6,12 +6,12 @@ use Rattle.std.specs.Str.{bytes_eq}
 use Rattle.std.proofs.lemmas.Slice.Eq.{bytes_eq-Decides}
 use Rattle.serde_json.specs.Data.{Data}
 use Rattle.lsp_messages.specs.Messages.{Asked, initialize, shutdown, about, unreadable, unknown, Edit, Meaning, message_of, Query, request, notification}
-use Rattle.lsp_messages.specs.Messages.{response, faulty, Told, exited, opened, changed, closed, lost, nothing}
+use Rattle.lsp_messages.specs.Messages.{response, faulty, Told, exited, opened, changed, closed, unreadable, nothing}
 use Rattle.lsp_messages.specs.declared.clients.Client.{Client}
 use Rattle.lsp_server.specs.Runs.{AnswersAreOfShownTexts, answers_to, last_shown, shown_by, state_after, OpenDocumentsAreShown}
 use Rattle.lsp_server.specs.Serving.{ServedDocumentsAreShown, replies_to, served_state}
-use Rattle.lsp_server.specs.Steps.{Answer, shown, cleared, warned, Open, Places, State, answered_of, at_start, changed_by, current_of, lost_at, open_at, outdated}
-use Rattle.lsp_server.specs.Steps.{requested, requested_fresh, requested_running, replied, shown_by_change, step, takes_edits, told, told_in, with_change}
+use Rattle.lsp_server.specs.Steps.{Answer, shown, cleared, warned, Open, Places, State, answered_of, at_start, changed_by, current_of, outdated_at, open_at, outdated}
+use Rattle.lsp_server.specs.Steps.{requested, requested_fresh, requested_running, replied, shown_by_change, step, can_apply, told, told_in, with_change}
 use Rattle.lsp_server.specs.Steps.{with_document, with_edits, without}
 use Rattle.lsp_server.specs.declared.phase.Phase.{Phase}
 use Rattle.lsp_server.specs.declared.phase.Phase.TheVariants.{Fresh, Running, Finished, Ended}
@@ -133,13 +133,13 @@ module _ (places : Places) (version : Option ℕ) (edits : List Edit) (uri : Lis
       → shown_after uri before (option_and_then (shown_by_change places version edits) found) ≡ before
   other_shown other before None has differ = refl
   other_shown other before (Some d) has differ =
-      other_if uri before (takes_edits edits d) (with_edits places version edits d)
+      other_if uri before (can_apply edits d) (with_edits places version edits d)
       (ap (λ (u : List ℕ). bytes_eq u uri) (same_uri d.uri other (has d refl)) ∙ differ)
 
   same_shown : (found : Option Open) → ((d : Open) → found ≡ Some d → bytes_eq d.uri uri ≡ true)
       → shown_after uri found (option_and_then (shown_by_change places version edits) found) ≡ option_map (changed_by places version edits) found
   same_shown None has = refl
-  same_shown (Some d) has = same_if uri (takes_edits edits d) (with_edits places version edits d) d (has d refl)
+  same_shown (Some d) has = same_if uri (can_apply edits d) (with_edits places version edits d) d (has d refl)
 
   shown_either : (other : List ℕ) (ds : List Open) (r : Bool) → bytes_eq other uri ≡ r
       → shown_after uri (open_at uri ds) (option_and_then (shown_by_change places version edits) (open_at other ds))
@@ -155,12 +155,12 @@ module _ (places : Places) (version : Option ℕ) (edits : List Edit) (uri : Lis
   shown_changed other ds =
       shown_either other ds (bytes_eq other uri) refl
       ∙ sym (open_at-with_change uri other (changed_by places version edits)
-      (λ d. keeps_if (takes_edits edits d) (with_edits places version edits d) d refl) ds)
+      (λ d. keeps_if (can_apply edits d) (with_edits places version edits d) d refl) ds)
 
 -- what is not read of a document has it out of date
-shown_lost : (uri : List ℕ) (lost : Option (List ℕ)) (ds : List Open) → shown_by uri (open_at uri ds) (warned lost) ≡ open_at uri (lost_at lost ds)
-shown_lost uri None ds = refl
-shown_lost uri (Some other) ds = sym (open_at-with_change uri other outdated (λ d. refl) ds)
+shown_unreadable : (uri : List ℕ) (other : Option (List ℕ)) (ds : List Open) → shown_by uri (open_at uri ds) (warned other) ≡ open_at uri (outdated_at other ds)
+shown_unreadable uri None ds = refl
+shown_unreadable uri (Some other) ds = sym (open_at-with_change uri other outdated (λ d. refl) ds)
 
 -- ---- a document that is closed
 
@@ -213,7 +213,7 @@ shown_told places uri exited ds = refl
 shown_told places uri (opened other version text) ds = sym (open_at-with_document uri (record { uri = other; version = version; text = text; current = true }) ds)
 shown_told places uri (changed other version edits) ds = shown_changed places version edits uri other ds
 shown_told places uri (closed other) ds = closed_by uri other ds (bytes_eq other uri) refl
-shown_told places uri (lost other) ds = shown_lost uri other ds
+shown_told places uri (unreadable other) ds = shown_unreadable uri other ds
 shown_told places uri nothing ds = refl
 
 shown_in : (places : Places) (uri : List ℕ) (phase : Phase) (notice : Told) (ds : List Open)

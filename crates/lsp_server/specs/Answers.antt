@@ -1,7 +1,7 @@
 -- The values that are sent (LSP 3.17).
 use Rattle.std.specs.Prelude.{ℕ, List, None, codes}
 use Rattle.serde_json.specs.Data.{Data, no_items, null}
-use Rattle.lsp_messages.specs.Shapes.{initialized_data, lost_data, publish_data, refusal_data, reply_data, response_data}
+use Rattle.lsp_messages.specs.Shapes.{initialized_data, unreadable_data, publish_data, refusal_data, reply_data, response_data}
 use Rattle.lsp_server.specs.Sayings.{Sayings}
 use Rattle.lsp_server.specs.Steps.{Answer, ready, done, refused, answered, shown, cleared, warned}
 
@@ -17,4 +17,4 @@ answer_data says (refused id failure) = refusal_data id failure
 answer_data says (answered id client document query) = reply_data id (says.answers client document.text document.uri query)
 answer_data says (shown document) = publish_data document.uri document.version (says.diagnostics document.text)
 answer_data says (cleared uri) = publish_data uri None no_items
-answer_data says (warned uri) = lost_data uri
+answer_data says (warned uri) = unreadable_data uri

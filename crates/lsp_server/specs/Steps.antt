@@ -6,7 +6,7 @@ use Rattle.std.specs.List.{filter}
 use Rattle.std.specs.Str.{bytes_eq}
 use Rattle.serde_json.specs.Data.{Data}
 use Rattle.lsp_messages.specs.Messages.{Asked, initialize, shutdown, about, unreadable, unknown, Edit, Meaning, message_of, Query, request, notification}
-use Rattle.lsp_messages.specs.Messages.{response, faulty, Told, exited, opened, changed, closed, lost, nothing}
+use Rattle.lsp_messages.specs.Messages.{response, faulty, Told, exited, opened, changed, closed, unreadable, nothing}
 use Rattle.lsp_types.specs.declared.failures.Failure.{Failure}
 use Rattle.lsp_types.specs.declared.failures.Failure.TheVariants.{BadParameters, NoJson, NoMethod, NoRequest, NotInitialized}
 use Rattle.lsp_messages.specs.declared.clients.Client.{Client}
@@ -131,16 +131,16 @@ send_whole [] = false
 send_whole (edit ∷ edits) = not (is_some edit.range) || send_whole edits
 
 -- a document takes edits if it is current, or is so after them
-abbrev pub takes_edits : List Edit → Open → Bool
-takes_edits edits document = document.current || send_whole edits
+abbrev pub can_apply : List Edit → Open → Bool
+can_apply edits document = document.current || send_whole edits
 
 -- the document after them, and what is sent of it
 abbrev pub changed_by : Places → Option ℕ → List Edit → Open → Open
-changed_by places version edits document = if takes_edits edits document then with_edits places version edits document else document
+changed_by places version edits document = if can_apply edits document then with_edits places version edits document else document
 
 abbrev pub shown_by_change : Places → Option ℕ → List Edit → Open → Option Answer
 shown_by_change places version edits document =
-    if takes_edits edits document then Some (shown (with_edits places version edits document)) else None
+    if can_apply edits document then Some (shown (with_edits places version edits document)) else None
 
 -- what becomes of the documents, and what is sent
 abbrev pub changed_at : Places → List ℕ → Option ℕ → List Edit → List Open → List Open × Option Answer
@@ -153,9 +153,9 @@ changed_at places uri version edits documents = (
 abbrev pub outdated : Open → Open
 outdated document = record { uri = document.uri; version = document.version; text = document.text; current = false }
 
-abbrev pub lost_at : Option (List ℕ) → List Open → List Open
-lost_at None documents = documents
-lost_at (Some uri) documents = with_change uri outdated documents
+abbrev pub outdated_at : Option (List ℕ) → List Open → List Open
+outdated_at None documents = documents
+outdated_at (Some uri) documents = with_change uri outdated documents
 
 abbrev pub closed_at : List ℕ → List Open → List Open × Option Answer
 closed_at uri documents = (without uri documents, option_map (λ document. cleared uri) (open_at uri documents))
@@ -168,7 +168,7 @@ told places (opened uri version text) documents = (
 )
 told places (changed uri version edits) documents = changed_at places uri version edits documents
 told places (closed uri) documents = closed_at uri documents
-told places (lost uri) documents = (lost_at uri documents, Some (warned uri))
+told places (unreadable uri) documents = (outdated_at uri documents, Some (warned uri))
 told places nothing documents = (documents, None)
 
 -- ---- messages
@@ -186,7 +186,7 @@ phase_told phase exited = ended_by phase
 phase_told phase (opened uri version text) = phase
 phase_told phase (changed uri version edits) = phase
 phase_told phase (closed uri) = phase
-phase_told phase (lost uri) = phase
+phase_told phase (unreadable uri) = phase
 phase_told phase nothing = phase
 
 -- documents are told about notifications while the server runs

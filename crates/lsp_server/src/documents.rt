@@ -5,12 +5,12 @@ ghost use Rattle.lsp_messages.specs.Shapes.{publish_data};
 ghost use Rattle.lsp_messages.specs.Views.{edit_view, question_view, reply_view};
 ghost use Rattle.lsp_server.specs.Answers.{answer_data};
 ghost use Rattle.lsp_server.specs.States.{documents_view, open_view};
-ghost use Rattle.lsp_server.specs.Steps.{changed_at, changed_by, closed_at, current_of, lost_at, open_at, outdated, shown, shown_by_change, takes_edits, warned, with_change, with_document, with_edits, without};
+ghost use Rattle.lsp_server.specs.Steps.{changed_at, changed_by, closed_at, current_of, outdated_at, open_at, outdated, shown, shown_by_change, can_apply, warned, with_change, with_document, with_edits, without};
 ghost use Rattle.lsp_server.specs.inside.Views.{Tells, place_of};
 
 use crate::editing::{edited, send_whole};
 use crate::source::HeldText;
-use lsp_messages::writing::{lost_value, publish_value};
+use lsp_messages::writing::{publish_value, unreadable_value};
 use lsp_messages::{Change, Client, Question, Reply};
 use serde_json::Value;
 use std::alloc::{AllocError, Global};
@@ -119,8 +119,8 @@ fn change_one<D: HeldText>(
 
 // Whether changes are made in a document: in one that is out of date only if one of them sends the
 // whole text.
-fn takes_edits<D: HeldText>(document: &Opened<D>, changes: &[Change<'_>]) -> bool
-    ensures { result ≡ takes_edits (map edit_view changes.now) (open_view D.text_of document.now) }
+fn can_apply<D: HeldText>(document: &Opened<D>, changes: &[Change<'_>]) -> bool
+    ensures { result ≡ can_apply (map edit_view changes.now) (open_view D.text_of document.now) }
 {
     document.is_current || send_whole(changes)
 }
@@ -138,7 +138,7 @@ fn change_known<D: HeldText>(
     ensures shown { IfOk result (λ answer. option_map view answer ≡ option_map (answer_data D.says)
         (shown_by_change D.place_in version (map edit_view changes.now) (open_view D.text_of document.old))) }
 {
-    if takes_edits(document, changes) {
+    if can_apply(document, changes) {
         Ok(Some(change_one(alloc, document, version, changes)?))
     } else {
         Ok(None)
@@ -169,15 +169,15 @@ pub fn change<D: HeldText>(
     }
 }
 
-// Has a document out of date.
+// Marks a document as out of date.
 fn outdate<D: HeldText>(document: &mut Opened<D>)
     ensures { open_view D.text_of document.new ≡ outdated (open_view D.text_of document.old) }
 {
     document.is_current = false;
 }
 
-// Has the document of that URI out of date.
-fn lose_one<D: HeldText>(documents: &mut Vec<Opened<D>>, uri: &str)
+// Marks the document of that URI as out of date.
+fn outdate_one<D: HeldText>(documents: &mut Vec<Opened<D>>, uri: &str)
     ensures { documents_view D.text_of documents.new.items ≡ with_change uri.now outdated (documents_view D.text_of documents.old.items) }
 {
     match find(documents, uri) {
@@ -186,33 +186,33 @@ fn lose_one<D: HeldText>(documents: &mut Vec<Opened<D>>, uri: &str)
     }
 }
 
-// Has the document of that URI out of date, if it is known.
-fn lose_known<D: HeldText>(documents: &mut Vec<Opened<D>>, uri: Option<&str>)
+// Marks the document of that URI as out of date, if the URI is known.
+fn outdate_known<D: HeldText>(documents: &mut Vec<Opened<D>>, uri: Option<&str>)
     ensures { documents_view D.text_of documents.new.items
-        ≡ lost_at (option_map (λ uri. uri.now) uri.entry) (documents_view D.text_of documents.old.items) }
+        ≡ outdated_at (option_map (λ uri. uri.now) uri.entry) (documents_view D.text_of documents.old.items) }
 {
     match uri {
         None => {}
-        Some(uri) => lose_one(documents, uri),
+        Some(uri) => outdate_one(documents, uri),
     }
 }
 
-/// Has a document out of date about which a message was not read; its URI may not be known. The
-/// answer is what is sent.
+/// Marks a document as out of date since a message about it could not be read; its URI may not be
+/// known. The result is what is sent.
 ///
 /// # Errors
 /// Out of memory.
-pub fn lose<D: HeldText>(
+pub fn outdate_unreadable<D: HeldText>(
     alloc: Global,
     documents: &mut Vec<Opened<D>>,
     uri: Option<&str>,
 ) -> Result<Value, AllocError>
     ensures documents { OnOk result (documents_view D.text_of documents.new.items
-        ≡ lost_at (option_map (λ uri. uri.now) uri.entry) (documents_view D.text_of documents.old.items)) }
+        ≡ outdated_at (option_map (λ uri. uri.now) uri.entry) (documents_view D.text_of documents.old.items)) }
     ensures warned { IfOk result (λ v. view v ≡ answer_data D.says (warned (option_map (λ uri. uri.now) uri.entry))) }
 {
-    lose_known(documents, uri);
-    lost_value(alloc, uri)
+    outdate_known(documents, uri);
+    unreadable_value(alloc, uri)
 }
 
 // Takes the documents of that URI out.

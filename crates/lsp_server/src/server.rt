@@ -65,7 +65,9 @@ fn tell<D: HeldText + Drop>(
             changes,
         } => documents::change(alloc, documents, uri, *version, changes),
         Notice::Closed { uri } => documents::close(alloc, documents, uri),
-        Notice::Lost { uri } => Ok(Some(documents::lose(alloc, documents, *uri)?)),
+        Notice::Unreadable { uri } => Ok(Some(documents::outdate_unreadable(
+            alloc, documents, *uri,
+        )?)),
         Notice::Exited | Notice::Nothing => Ok(None),
     }
 }

@@ -5,6 +5,7 @@ pub mod Found
 pub mod Ordinals
 pub mod Parts
 pub mod Replacing
+pub mod Sentences
 pub mod Subjects
 pub mod Touching
 pub mod Words

@@ -8,6 +8,7 @@
 //! - `subjects`: what an offset of a block is on
 //! - `faulty`: the part of a block that each of its faults is of
 //! - `touching`: the item that an offset of a block is on, as it is written, and its ordinal
+//! - `sentences`: the sentence of each error and warning
 //! - `words`: the word that an editor completes
 #![tactic(auto)]
 
@@ -19,6 +20,7 @@ pub mod laws;
 mod names;
 mod parts;
 mod replacing;
+mod sentences;
 mod subjects;
 mod touching;
 mod words;
@@ -29,6 +31,7 @@ pub use heads::{Head, head_of};
 pub use items::{Use, used_part, uses_of, visible_items, without_end};
 pub use names::own_spans;
 pub use parts::{Part, field_len, item_parts, name_parts, span_of};
+pub use sentences::{BLOCK_TOO_LONG, TOO_MANY_BLOCKS, sentence};
 pub use subjects::{Subject, Touched, subject_at, subject_in};
 pub use touching::{Item, item_in, name_of, ordinal_in};
 pub use words::{Word, word_before};

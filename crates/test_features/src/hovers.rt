@@ -81,7 +81,7 @@ const ROWS: [((usize, usize), (usize, usize), Wanted); 15] = [
     ((5, 12), (10, 15), Wanted::Name("a", A)),
     ((6, 0), (0, 1), Wanted::Name("d", Becomes::Faulty(6, "E6", "MissingUse x: No"))),
     ((6, 8), (3, 8), Wanted::Name("x", Becomes::Missing)),
-    ((6, 10), (10, 15), Wanted::Name("f", Becomes::Faulty(4, "E3", "BadNumber cols: This"))),
+    ((6, 10), (10, 15), Wanted::Name("f", Becomes::Faulty(4, "E3", "BadNumber cols: Invalid"))),
 ];
 
 /// Whether a meaning is as it is wanted.
@@ -161,14 +161,14 @@ i,
 const CAUSES: [((usize, usize), &str, Becomes); 12] = [
     ((0, 0), "a", Becomes::Faulty(0, "E6", "MissingUse zz: No")),
     ((1, 0), "b", Becomes::Faulty(1, "E7", "Circular b: This")),
-    ((2, 0), "c", Becomes::Faulty(2, "E3", "BadNumber cols: This")),
+    ((2, 0), "c", Becomes::Faulty(2, "E3", "BadNumber cols: Invalid")),
     ((3, 0), "d", Becomes::Faulty(3, "E8", "Unresolved c: The")),
-    ((3, 2), "c", Becomes::Faulty(2, "E3", "BadNumber cols: This")),
-    ((4, 0), "e", Becomes::Faulty(4, "E3", "BadNumber cols: This")),
+    ((3, 2), "c", Becomes::Faulty(2, "E3", "BadNumber cols: Invalid")),
+    ((4, 0), "e", Becomes::Faulty(4, "E3", "BadNumber cols: Invalid")),
     ((4, 9), "f", Becomes::Faulty(5, "E7", "Circular e: This")),
-    ((5, 2), "e", Becomes::Faulty(4, "E3", "BadNumber cols: This")),
+    ((5, 2), "e", Becomes::Faulty(4, "E3", "BadNumber cols: Invalid")),
     ((6, 0), "g", Becomes::Faulty(6, "E8", "Unresolved e: The")),
-    ((7, 0), "h", Becomes::Faulty(7, "E5", "BadString bel: The")),
+    ((7, 0), "h", Becomes::Faulty(7, "E5", "BadString bel: Invalid")),
     ((7, 2), "a", Becomes::Faulty(0, "E6", "MissingUse zz: No")),
     ((8, 0), "i", Becomes::Faulty(10, "E4", "NumberTooLarge cols: The")),
 ];

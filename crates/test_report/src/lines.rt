@@ -37,15 +37,15 @@ fn parts_are_appended(rt: HostRuntime) -> Result<(), AllocError> {
 const SENTENCES: [(Code, &'static str); 13] = [
     (
         Code::BadHeader,
-        "The line of names is not in order. Correct the name that is empty or has a space, a slash or a byte that is not visible ASCII.",
+        "The line of names is invalid. Correct the name that is empty or has a space, a slash or a byte that is not printable ASCII.",
     ),
     (
         Code::NamesTooLong,
-        "The names are over 127 bytes up to the first comma. Shorten them, or put in the comma that is missing.",
+        "The names up to the first comma are over 127 bytes. Shorten them, or add the missing comma.",
     ),
     (
         Code::BadNumber,
-        "This is not a number. Write it in decimal, in octal after 0, or in hexadecimal after 0x.",
+        "Invalid number. Write it in decimal, in octal after 0, or in hexadecimal after 0x.",
     ),
     (
         Code::NumberTooLarge,
@@ -53,39 +53,39 @@ const SENTENCES: [(Code, &'static str); 13] = [
     ),
     (
         Code::BadString,
-        "The string cannot be read. Write octal escapes up to \\377, and \\^ for a caret that means itself.",
+        "Invalid string. Write octal escapes up to \\377, and \\^ for a literal caret.",
     ),
     (
         Code::MissingUse,
-        "No block and no installed entry has this name. Correct it, or put the block in.",
+        "No block and no installed entry has this name. Correct it, or add the block.",
     ),
     (
         Code::Circular,
-        "This use leads back to its own block. Take one use of the circle out.",
+        "This use leads back to its own block. Remove one use= of the cycle.",
     ),
     (
         Code::Unresolved,
-        "The block of this name has an error, or leads to one. Correct that block.",
+        "The block with this name has an error, or uses one that does. Correct that block.",
     ),
     (
         Code::TooLarge,
-        "The entry is over 4096 bytes, or over 32768 with a number over 32767. Cancel what is not needed.",
+        "The entry is over 4096 bytes, or over 32768 with a number over 32767. Cancel capabilities that are not needed.",
     ),
     (
         Code::UnknownCapability,
-        "No capability has this name, so it is ignored. Upper and lower case differ, and a comma in a string is written \\,.",
+        "Unknown capability, so it is ignored. Names are case-sensitive, and a comma in a string is written \\,.",
     ),
     (
         Code::WrongKind,
-        "The capability is of another kind, so it is ignored. Booleans have no sign, numbers #, and strings =.",
+        "The capability is of another kind, so it is ignored. Booleans have no sign, numbers have #, and strings have =.",
     ),
     (
         Code::UnknownEscape,
-        "This backslash does not begin an escape. Leave it out, or double it.",
+        "Unknown escape sequence. Remove the backslash, or double it.",
     ),
     (
         Code::DuplicateName,
-        "An earlier block has this name. Take it out of one of the two.",
+        "An earlier block has this name. Remove it from one of the two.",
     ),
 ];
 
@@ -96,7 +96,7 @@ fn each_code_has_its_sentence(rt: HostRuntime) {
     }
     assert_eq!(rt;
         BAD_USER_DEFINED,
-        "The value of this user-defined name cannot be read, so the item is ignored. Correct the number or the string."
+        "Invalid value of a user-defined capability, so the item is ignored. Correct the number or the string."
     );
     assert_eq!(rt;
         BLOCK_TOO_LONG,

@@ -65,19 +65,19 @@ const HOVER: &str =
 const HOVERED: &str = r#"{"id":3,"jsonrpc":"2.0","result":["u",3,"hover",4,5,false]}"#;
 
 const NOT_ANSWERED: &str =
-    r#"{"error":{"code":-32602,"message":"the parameters are not those of the method"},"id":3,"jsonrpc":"2.0"}"#;
+    r#"{"error":{"code":-32602,"message":"invalid parameters"},"id":3,"jsonrpc":"2.0"}"#;
 
-const LOST: &str =
+const UNREADABLE: &str =
     r#"{"jsonrpc":"2.0","method":"window/showMessage","params":{"message":"A message about u could not be read. Close the document, and open it again.","type":1}}"#;
 
-const LOST_UNKNOWN: &str =
+const UNREADABLE_UNKNOWN: &str =
     r#"{"jsonrpc":"2.0","method":"window/showMessage","params":{"message":"A message about a document could not be read. Close the documents, and open them again.","type":1}}"#;
 
 const NO_JSON: &str =
-    r#"{"error":{"code":-32700,"message":"the body is not JSON or is too long"},"id":null,"jsonrpc":"2.0"}"#;
+    r#"{"error":{"code":-32700,"message":"the body is not JSON, or is too long"},"id":null,"jsonrpc":"2.0"}"#;
 
 const NO_REQUEST: &str =
-    r#"{"error":{"code":-32600,"message":"no request is expected here"},"id":null,"jsonrpc":"2.0"}"#;
+    r#"{"error":{"code":-32600,"message":"invalid request"},"id":null,"jsonrpc":"2.0"}"#;
 
 // The frame of a body.
 fn push_frame(frames: &mut Vec<u8>, alloc: Global, body: &str) -> Result<(), AllocError> {
@@ -195,7 +195,7 @@ const LIVES: [Session; 9] = [
         sent: &[INITIALIZE, INITIALIZE, EXIT],
         answers: &[
             READY,
-            r#"{"error":{"code":-32600,"message":"no request is expected here"},"id":1,"jsonrpc":"2.0"}"#,
+            r#"{"error":{"code":-32600,"message":"invalid request"},"id":1,"jsonrpc":"2.0"}"#,
         ],
         end: Ok(1),
     },
@@ -208,9 +208,9 @@ const LIVES: [Session; 9] = [
             READY,
             OPENED,
             DONE,
-            r#"{"error":{"code":-32600,"message":"no request is expected here"},"id":1,"jsonrpc":"2.0"}"#,
-            r#"{"error":{"code":-32600,"message":"no request is expected here"},"id":2,"jsonrpc":"2.0"}"#,
-            r#"{"error":{"code":-32600,"message":"no request is expected here"},"id":3,"jsonrpc":"2.0"}"#,
+            r#"{"error":{"code":-32600,"message":"invalid request"},"id":1,"jsonrpc":"2.0"}"#,
+            r#"{"error":{"code":-32600,"message":"invalid request"},"id":2,"jsonrpc":"2.0"}"#,
+            r#"{"error":{"code":-32600,"message":"invalid request"},"id":3,"jsonrpc":"2.0"}"#,
         ],
         end: Ok(0),
     },
@@ -235,9 +235,9 @@ const REQUESTS: [Session; 4] = [
         ],
         answers: &[
             READY,
-            r#"{"error":{"code":-32601,"message":"there is no such method"},"id":3,"jsonrpc":"2.0"}"#,
-            r#"{"error":{"code":-32601,"message":"there is no such method"},"id":4,"jsonrpc":"2.0"}"#,
-            r#"{"error":{"code":-32601,"message":"there is no such method"},"id":5,"jsonrpc":"2.0"}"#,
+            r#"{"error":{"code":-32601,"message":"method not found"},"id":3,"jsonrpc":"2.0"}"#,
+            r#"{"error":{"code":-32601,"message":"method not found"},"id":4,"jsonrpc":"2.0"}"#,
+            r#"{"error":{"code":-32601,"message":"method not found"},"id":5,"jsonrpc":"2.0"}"#,
         ],
         end: Err(FrameError::Broken),
     },
@@ -268,8 +268,8 @@ const REQUESTS: [Session; 4] = [
             NO_REQUEST,
             NO_REQUEST,
             NO_REQUEST,
-            r#"{"error":{"code":-32600,"message":"no request is expected here"},"id":5,"jsonrpc":"2.0"}"#,
-            r#"{"error":{"code":-32600,"message":"no request is expected here"},"id":"x","jsonrpc":"2.0"}"#,
+            r#"{"error":{"code":-32600,"message":"invalid request"},"id":5,"jsonrpc":"2.0"}"#,
+            r#"{"error":{"code":-32600,"message":"invalid request"},"id":"x","jsonrpc":"2.0"}"#,
         ],
         end: Err(FrameError::Broken),
     },
@@ -348,7 +348,7 @@ const QUESTIONS: [Session; 6] = [
             OPENED,
             r#"{"id":"p","jsonrpc":"2.0","result":["u",3,"prepareRename",6,7,false]}"#,
             r#"{"id":"r","jsonrpc":"2.0","result":["u",3,"vté",8,9,false]}"#,
-            r#"{"error":{"code":-32803,"message":"no entry can have the new name"},"id":5,"jsonrpc":"2.0"}"#,
+            r#"{"error":{"code":-32803,"message":"the new name is invalid"},"id":5,"jsonrpc":"2.0"}"#,
         ],
         end: Err(FrameError::Broken),
     },
@@ -489,12 +489,12 @@ const DROPPED: [Session; 6] = [
         ],
         answers: &[
             READY,
-            LOST_UNKNOWN,
-            LOST_UNKNOWN,
-            LOST,
-            LOST_UNKNOWN,
-            LOST,
-            LOST_UNKNOWN,
+            UNREADABLE_UNKNOWN,
+            UNREADABLE_UNKNOWN,
+            UNREADABLE,
+            UNREADABLE_UNKNOWN,
+            UNREADABLE,
+            UNREADABLE_UNKNOWN,
             NOT_ANSWERED,
             DONE,
         ],
@@ -522,15 +522,15 @@ const DROPPED: [Session; 6] = [
         answers: &[
             READY,
             OPENED,
-            LOST,
+            UNREADABLE,
             NOT_ANSWERED,
             NOT_ANSWERED,
             r#"{"jsonrpc":"2.0","method":"textDocument/publishDiagnostics","params":{"diagnostics":[4],"uri":"u","version":5}}"#,
             r#"{"id":3,"jsonrpc":"2.0","result":["u",4,"hover",4,5,false]}"#,
-            LOST,
+            UNREADABLE,
             OPENED,
             HOVERED,
-            LOST,
+            UNREADABLE,
             CLOSED,
             NOT_ANSWERED,
         ],

@@ -5,8 +5,8 @@ use lsp_messages::answers::{
     workspace_edit_value,
 };
 use lsp_messages::writing::{
-    diagnostic_value, initialized_value, lost_value, position_value, publish_value, range_value,
-    refusal_value, reply_value, response_value,
+    diagnostic_value, initialized_value, position_value, publish_value, range_value, refusal_value,
+    reply_value, response_value, unreadable_value,
 };
 use lsp_messages::{Client, Message, Notice, Reply, parse, read_message};
 use lsp_types::{Failure, ItemKind, Position, Range, Severity};
@@ -124,19 +124,19 @@ fn edits(rt: HostRuntime) -> Result<(), Fail> {
 const PUBLISHED: &str =
     r#"{"jsonrpc":"2.0","method":"textDocument/publishDiagnostics","params":{"diagnostics":[],"uri":"file:///a%20b.ti","version":0}}"#;
 
-const LOST: &str =
+const UNREADABLE: &str =
     r#"{"jsonrpc":"2.0","method":"window/showMessage","params":{"message":"A message about file:///a%20b.ti could not be read. Close the document, and open it again.","type":1}}"#;
 
-const LOST_UNKNOWN: &str =
+const UNREADABLE_UNKNOWN: &str =
     r#"{"jsonrpc":"2.0","method":"window/showMessage","params":{"message":"A message about a document could not be read. Close the documents, and open them again.","type":1}}"#;
 
 const RESPONSE: &str = r#"{"id":null,"jsonrpc":"2.0","result":true}"#;
 
 const REFUSAL: &str =
-    r#"{"error":{"code":-32602,"message":"the parameters are not those of the method"},"id":true,"jsonrpc":"2.0"}"#;
+    r#"{"error":{"code":-32602,"message":"invalid parameters"},"id":true,"jsonrpc":"2.0"}"#;
 
 const REFUSED: &str =
-    r#"{"error":{"code":-32803,"message":"an entry has or uses the new name already"},"id":null,"jsonrpc":"2.0"}"#;
+    r#"{"error":{"code":-32803,"message":"the new name is already in use"},"id":null,"jsonrpc":"2.0"}"#;
 
 const READY: &str =
     r#"{"capabilities":{"codeActionProvider":{"codeActionKinds":["quickfix"]},"completionProvider":{"triggerCharacters":["="]},"definitionProvider":true,"documentHighlightProvider":true,"documentSymbolProvider":true,"hoverProvider":true,"positionEncoding":"utf-16","referencesProvider":true,"renameProvider":{"prepareProvider":true},"textDocumentSync":{"change":2,"openClose":true}},"serverInfo":{"name":"ti-lsp","version":"9"}}"#;
@@ -163,10 +163,10 @@ fn messages(rt: HostRuntime) -> Result<(), Fail> {
     let alloc = rt.alloc();
     let published = publish_value(alloc, "file:///a%20b.ti", Some(0), Vec::new(alloc))?;
     assert!(rt; published.to_string(alloc)?.as_str() == PUBLISHED);
-    let lost = lost_value(alloc, Some("file:///a%20b.ti"))?;
-    assert!(rt; lost.to_string(alloc)?.as_str() == LOST);
-    let lost = lost_value(alloc, None)?;
-    assert!(rt; lost.to_string(alloc)?.as_str() == LOST_UNKNOWN);
+    let value = unreadable_value(alloc, Some("file:///a%20b.ti"))?;
+    assert!(rt; value.to_string(alloc)?.as_str() == UNREADABLE);
+    let value = unreadable_value(alloc, None)?;
+    assert!(rt; value.to_string(alloc)?.as_str() == UNREADABLE_UNKNOWN);
     let response = response_value(alloc, &Value::Null, Value::Bool(true))?;
     assert!(rt; response.to_string(alloc)?.as_str() == RESPONSE);
     let reply = reply_value(alloc, &Value::Null, Reply::Answer(Value::Bool(true)))?;

@@ -10,15 +10,15 @@ use Rattle.lsp_fixes.specs.Fixes.{FixSeen}
 
 -- what is said about the sign of a kind
 abbrev pub sign_told : Kind → List ℕ
-sign_told Flag = codes "Leave the sign out"
+sign_told Flag = codes "Remove the sign"
 sign_told Number = codes "Write `#` before the number"
 sign_told Text = codes "Write `=` before the string"
 
 -- what is said about advice, by which this text is written
 abbrev pub advice_told : AdviceSeen → List ℕ → List ℕ
-advice_told (advises_name name) text = codes "Replace `" ++ name ++ codes "` by `" ++ text ++ codes "`"
+advice_told (advises_name name) text = codes "Replace `" ++ name ++ codes "` with `" ++ text ++ codes "`"
 advice_told (advises_sign kind) text = sign_told kind
-advice_told advises_spelling text = codes "Spell the string as it is read"
+advice_told advises_spelling text = codes "Rewrite the string as it is read"
 advice_told advises_caret text = codes "Write `" ++ text ++ codes "` at the end"
 
 -- a fix of the document of that URI

@@ -51,7 +51,7 @@ item_told c text = documentation_of c ++ codes "\nWritten: " ++ text
 
 -- what an item means
 abbrev pub meaning_told : MeaningSeen → List ℕ
-meaning_told means_nothing = codes "nothing, as the item is faulty"
+meaning_told means_nothing = codes "nothing, since the item has an error"
 meaning_told means_set = codes "set"
 meaning_told (means_number number) = decimal number
 meaning_told (means_text text) = text

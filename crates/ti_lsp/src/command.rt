@@ -44,7 +44,7 @@ fn stdio<'a>(alloc: Global) -> Arg<'a>
     Arg::new(alloc, "stdio")
         .long("stdio")
         .action(ArgAction::SetTrue)
-        .help("Speak over standard input and output, as without this option")
+        .help("Use standard input and output, as without this option")
 }
 
 // The program's command line.

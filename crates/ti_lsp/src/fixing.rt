@@ -20,28 +20,28 @@ fn sign_told(kind: Kind) -> &'static str
     ensures { result.now ≡ sign_told kind }
 {
     match kind {
-        Kind::Flag => "Leave the sign out",
+        Kind::Flag => "Remove the sign",
         Kind::Number => "Write `#` before the number",
         Kind::Text => "Write `=` before the string",
     }
 }
 
-// By what something is replaced.
+// The name that replaces another, between quotes.
 fn other_told(alloc: Global, text: &str) -> Result<String, AllocError>
-    ensures { IfOk result (λ told. string_bytes told ≡ codes "` by `" ++ text.now ++ codes "`") }
+    ensures { IfOk result (λ told. string_bytes told ≡ codes "` with `" ++ text.now ++ codes "`") }
 {
-    format!(in alloc; "` by `{text}`")
+    format!(in alloc; "` with `{text}`")
 }
 
-// What is said about another name in place of one.
+// The title of a fix that replaces a name.
 fn name_told(alloc: Global, name: &str, text: &str) -> Result<String, AllocError>
-    ensures { IfOk result (λ told. string_bytes told ≡ codes "Replace `" ++ name.now ++ codes "` by `" ++ text.now ++ codes "`") }
+    ensures { IfOk result (λ told. string_bytes told ≡ codes "Replace `" ++ name.now ++ codes "` with `" ++ text.now ++ codes "`") }
 {
     let other = other_told(alloc, text)?;
     format!(in alloc; "Replace `{name}{other}")
 }
 
-// What is said about another spelling of the last byte of a string.
+// The title of a fix that replaces the last byte of a string.
 fn caret_told(alloc: Global, text: &str) -> Result<String, AllocError>
     ensures { IfOk result (λ told. string_bytes told ≡ codes "Write `" ++ text.now ++ codes "` at the end") }
 {
@@ -55,7 +55,7 @@ fn advice_told(alloc: Global, advice: &Advice, text: &str) -> Result<String, All
     match advice {
         Advice::Name(name) => name_told(alloc, name.as_str(), text),
         Advice::Sign(kind) => String::from_str(alloc, sign_told(*kind)),
-        Advice::Spelling => String::from_str(alloc, "Spell the string as it is read"),
+        Advice::Spelling => String::from_str(alloc, "Rewrite the string as it is read"),
         Advice::Caret => caret_told(alloc, text),
     }
 }

@@ -123,7 +123,7 @@ fn meaning_told(alloc: Global, meaning: &Meaning) -> Result<String, AllocError>
     ensures { IfOk result (λ told. string_bytes told ≡ meaning_told (meaning_seen meaning.now)) }
 {
     match meaning {
-        Meaning::Nothing => String::from_str(alloc, "nothing, as the item is faulty"),
+        Meaning::Nothing => String::from_str(alloc, "nothing, since the item has an error"),
         Meaning::Set => String::from_str(alloc, "set"),
         Meaning::Number(number) => digits(alloc, *number as usize),
         Meaning::Text(text) => String::from_str(alloc, text.as_str()),

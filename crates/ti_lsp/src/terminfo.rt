@@ -8,9 +8,10 @@ use crate::answering::{completion, definition, highlights, outline, references};
 use crate::fixing::fixes;
 use crate::hovering::hover;
 use crate::renaming::{renamable, renamed};
-use lsp_document::{Diagnostic, Document, offset_of};
+use lsp_document::{Diagnostic, Document};
 use lsp_messages::writing::diagnostic_value;
 use lsp_messages::{Client, Question, Reply};
+use lsp_places::offset_of;
 use lsp_server::HeldText;
 use lsp_types::Position;
 use serde_json::Value;
@@ -43,7 +44,7 @@ fn values_of(alloc: Global, all: &[Diagnostic]) -> Result<Vec<Value>, AllocError
 }
 
 impl HeldText for Terminfo {
-    ghost use Rattle.lsp_document.specs.Position.{offset_of as place_of};
+    ghost use Rattle.lsp_places.specs.Position.{offset_of as place_of};
     ghost use Rattle.ti_lsp.specs.Answers.{sayings};
     ghost use Rattle.ti_lsp.specs.Floats.{sayings_have_no_floats};
 

@@ -4,7 +4,7 @@ use Rattle.std.proofs.lemmas.List.{map-set}
 use Rattle.lsp_server.proofs.Places.{change_found, change_none}
 use Rattle.lsp_server.specs.States.{documents_view, open_view}
 use Rattle.lsp_server.specs.Steps.{Open, outdated}
-use Rattle.lsp_server.proofs.documents.lose_one.Goals as goal
+use Rattle.lsp_server.proofs.documents.outdate_one.Goals as goal
 
 pub returns-in-None : goal.returns-in-None
 returns-in-None g c =
