@@ -2,14 +2,12 @@
 use Rattle.std.proofs.Common.{◌≡◌, ℕ, suc, ◌<◌, true, ◌⊎◌, inl, inr, List, [], ◌∷◌, ◌++◌, length, refl, ap, sym, ◌∙◌, subst, arith}
 use Rattle.std.specs.Prelude.{Option, Some, None, nat_lt, if◌then◌else◌}
 use Rattle.std.proofs.lemmas.Bool.Decides.{nat_tests}
-use Rattle.ti_param.specs.declared.acceptor.Phase.{Phase}
-use Rattle.ti_param.specs.declared.acceptor.Phase.TheVariants.{Testing, Taken}
 use Rattle.ti_param.specs.declared.codes.Token.{Token}
 use Rattle.ti_param.specs.declared.codes.Token.TheVariants.{Literal, Operation, If, Then, Else, EndIf}
 use Rattle.ti_param.specs.declared.lexer.Placed.{Placed}
 use Rattle.ti_param.specs.Formats.{FormatTree, nothing, byte, code, group, choice, placed_token, Closes, by_mark, by_end, IsSequence, no_piece, byte_piece}
 use Rattle.ti_param.specs.Formats.{code_piece, conditional_piece, IsConditional, test_alone, test_then, test_then_else, AreTokensOf}
-use Rattle.ti_param.specs.inside.Formats.{phases_after, refusal}
+use Rattle.ti_param.specs.inside.Formats.{Phase, in_test, in_taken, phases_after, refusal}
 use Rattle.ti_param.proofs.Fronts.{chosen}
 
 -- ---- the acceptor over a list of tokens
@@ -85,15 +83,15 @@ mutual
 
   pub conditional_accepted : {depth : ℕ} {tokens inner : List Placed} {t : FormatTree} → IsConditional depth tokens inner t →
       (phases : List Phase) (after : List Placed) → suc (length phases) ≡ depth → Closes inner after → Accepts phases after →
-      Accepts (Testing ∷ phases) tokens
+      Accepts (in_test ∷ phases) tokens
   conditional_accepted (test_alone {left = inner} test) phases after deep closes rest =
-      sequence_accepted test (Testing ∷ phases) deep (closing_accepted inner after Testing phases closes rest)
+      sequence_accepted test (in_test ∷ phases) deep (closing_accepted inner after in_test phases closes rest)
   conditional_accepted (test_then place {left = inner} tested took) phases after deep closes rest =
-      sequence_accepted tested (Testing ∷ phases) deep
-      (sequence_accepted took (Taken ∷ phases) deep (closing_accepted inner after Taken phases closes rest))
+      sequence_accepted tested (in_test ∷ phases) deep
+      (sequence_accepted took (in_taken ∷ phases) deep (closing_accepted inner after in_taken phases closes rest))
   conditional_accepted (test_then_else place at tested took other) phases after deep closes rest =
-      sequence_accepted tested (Testing ∷ phases) deep
-      (sequence_accepted took (Taken ∷ phases) deep (conditional_accepted other phases after deep closes rest))
+      sequence_accepted tested (in_test ∷ phases) deep
+      (sequence_accepted took (in_taken ∷ phases) deep (conditional_accepted other phases after deep closes rest))
 
 pub parses_accepted : (tokens : List Placed) (t : FormatTree) → AreTokensOf tokens t → Accepts [] tokens
 unfolding advanced_all
@@ -110,9 +108,9 @@ IsTaken depth tokens left = ((taken : FormatTree) × IsSequence depth tokens lef
 -- what is left of each open conditional, the innermost first, and of the format after them
 abbrev IsLeft : List Phase → List Placed → Type 0
 IsLeft [] tokens = (t : FormatTree) × IsSequence 0 tokens [] t
-IsLeft (Testing ∷ phases) tokens =
+IsLeft (in_test ∷ phases) tokens =
     (inner after : List Placed) × (t : FormatTree) × IsConditional (suc (length phases)) tokens inner t × Closes inner after × IsLeft phases after
-IsLeft (Taken ∷ phases) tokens = (inner after : List Placed) × IsTaken (suc (length phases)) tokens inner × Closes inner after × IsLeft phases after
+IsLeft (in_taken ∷ phases) tokens = (inner after : List Placed) × IsTaken (suc (length phases)) tokens inner × Closes inner after × IsLeft phases after
 
 -- pieces in front of a sequence
 abbrev Fronts : ℕ → List Placed → List Placed → Type 0
@@ -129,17 +127,17 @@ fronts_conditional depth tokens longer left t front (test_then_else place at {mo
 
 fronts_left : (phases : List Phase) (tokens longer : List Placed) → Fronts (length phases) tokens longer → IsLeft phases tokens → IsLeft phases longer
 fronts_left [] tokens longer front (t, sequence) = front [] t sequence
-fronts_left (Testing ∷ phases) tokens longer front (inner, after, t, conditional, closes, rest) =
+fronts_left (in_test ∷ phases) tokens longer front (inner, after, t, conditional, closes, rest) =
     let (u, more) = fronts_conditional (suc (length phases)) tokens longer inner t front conditional in (inner, after, u, more, closes, rest)
-fronts_left (Taken ∷ phases) tokens longer front (inner, after, inl (taken, sequence), closes, rest) =
+fronts_left (in_taken ∷ phases) tokens longer front (inner, after, inl (taken, sequence), closes, rest) =
     let (u, more) = front inner taken sequence in (inner, after, inl (u, more), closes, rest)
-fronts_left (Taken ∷ phases) tokens longer front (inner, after, inr (taken, other, at, others, sequence, conditional), closes, rest) =
+fronts_left (in_taken ∷ phases) tokens longer front (inner, after, inr (taken, other, at, others, sequence, conditional), closes, rest) =
     let (u, more) = front (placed_token at Else ∷ others) taken sequence in (inner, after, inr (u, other, at, others, more, conditional), closes, rest)
 
 nothing_left : (phases : List Phase) → IsLeft phases []
 nothing_left [] = (nothing, no_piece)
-nothing_left (Testing ∷ phases) = ([], [], nothing, test_alone no_piece, by_end, nothing_left phases)
-nothing_left (Taken ∷ phases) = ([], [], inl (nothing, no_piece), by_end, nothing_left phases)
+nothing_left (in_test ∷ phases) = ([], [], nothing, test_alone no_piece, by_end, nothing_left phases)
+nothing_left (in_taken ∷ phases) = ([], [], inl (nothing, no_piece), by_end, nothing_left phases)
 
 -- one token in front
 left_before : (place : ℕ) (token : Token) (tokens : List Placed) (phases : List Phase) → Accepts phases (placed_token place token ∷ tokens) →
@@ -150,33 +148,33 @@ left_before place (Literal b) tokens phases accepts before =
 left_before place (Operation c) tokens phases accepts before =
     fronts_left phases tokens (placed_token place (Operation c) ∷ tokens) (λ left t s. (code place c t, code_piece place c s)) (before phases accepts)
 left_before place If tokens phases (final, accepts) before =
-    let (opened, step, rest) = gone_on (if nat_lt (length phases) 64 then Some (Testing ∷ phases) else None) (λ o. advanced_all o tokens) final accepts in
+    let (opened, step, rest) = gone_on (if nat_lt (length phases) 64 then Some (in_test ∷ phases) else None) (λ o. advanced_all o tokens) final accepts in
     elim (chosen (nat_lt (length phases) 64) _ _ _ step) [
       | inl (room, is) ↦
-          let same : opened ≡ Testing ∷ phases = cc is in
+          let same : opened ≡ in_test ∷ phases = cc is in
           let few : length phases < 64 = grind (arith, nat_tests) in
-          let (inner, after, t, conditional, closes, left) = before (Testing ∷ phases) (final, subst (λ o. advanced_all o tokens ≡ Some final) same rest) in
+          let (inner, after, t, conditional, closes, left) = before (in_test ∷ phases) (final, subst (λ o. advanced_all o tokens ≡ Some final) same rest) in
           fronts_left phases after (placed_token place If ∷ tokens) (λ end u s. (group t u, conditional_piece place few conditional closes s)) left
       | inr (full, is) ↦ absurd (cc is)
     ]
 left_before place Then tokens [] (final, accepts) before = absurd (cc)
-left_before place Then tokens (Testing ∷ phases) accepts before = then_before (before (Taken ∷ phases) accepts)
+left_before place Then tokens (in_test ∷ phases) accepts before = then_before (before (in_taken ∷ phases) accepts)
   where
-    then_before : IsLeft (Taken ∷ phases) tokens → IsLeft (Testing ∷ phases) (placed_token place Then ∷ tokens)
+    then_before : IsLeft (in_taken ∷ phases) tokens → IsLeft (in_test ∷ phases) (placed_token place Then ∷ tokens)
     then_before (inner, after, inl (taken, sequence), closes, left) =
         (inner, after, choice nothing taken nothing, test_then place no_piece sequence, closes, left)
     then_before (inner, after, inr (taken, rest, at, others, sequence, conditional), closes, left) =
         (inner, after, choice nothing taken rest, test_then_else place at no_piece sequence conditional, closes, left)
-left_before place Then tokens (Taken ∷ phases) (final, accepts) before = absurd (cc)
+left_before place Then tokens (in_taken ∷ phases) (final, accepts) before = absurd (cc)
 left_before place Else tokens [] (final, accepts) before = absurd (cc)
-left_before place Else tokens (Testing ∷ phases) (final, accepts) before = absurd (cc)
-left_before place Else tokens (Taken ∷ phases) accepts before =
-    let (inner, after, t, conditional, closes, left) = before (Testing ∷ phases) accepts in
+left_before place Else tokens (in_test ∷ phases) (final, accepts) before = absurd (cc)
+left_before place Else tokens (in_taken ∷ phases) accepts before =
+    let (inner, after, t, conditional, closes, left) = before (in_test ∷ phases) accepts in
     (inner, after, inr (nothing, t, place, tokens, no_piece, conditional), closes, left)
 left_before place EndIf tokens [] (final, accepts) before = absurd (cc)
-left_before place EndIf tokens (Testing ∷ phases) accepts before =
+left_before place EndIf tokens (in_test ∷ phases) accepts before =
     (placed_token place EndIf ∷ tokens, tokens, nothing, test_alone no_piece, by_mark place, before phases accepts)
-left_before place EndIf tokens (Taken ∷ phases) accepts before =
+left_before place EndIf tokens (in_taken ∷ phases) accepts before =
     (placed_token place EndIf ∷ tokens, tokens, inl (nothing, no_piece), by_mark place, before phases accepts)
 
 all_left : (tokens : List Placed) (phases : List Phase) → Accepts phases tokens → IsLeft phases tokens

@@ -2,7 +2,6 @@
 use Rattle.std.proofs.Common.{◌≡◌, ℕ, suc, ◌+◌, ◌-◌, ◌<◌, ◌≤◌, true, false, ◌⊎◌, inl, inr, List, [], ◌∷◌, ◌++◌, length, refl, ap, sym, subst, ◌∙◌, arith}
 use Rattle.std.specs.Prelude.{Option, Some, None, is_some, MatchOption, ◌==◌}
 use Rattle.std.proofs.lemmas.Bool.Decides.{Decides-eqb}
-use Rattle.ti_param.specs.declared.acceptor.Phase.{Phase}
 use Rattle.ti_param.specs.declared.codes.Code.{Code}
 use Rattle.ti_param.specs.declared.codes.Token.{Token}
 use Rattle.ti_param.specs.declared.codes.Token.TheVariants.{Operation, If, Then, Else, EndIf}
@@ -10,7 +9,7 @@ use Rattle.ti_param.specs.declared.lexer.Placed.{Placed}
 use Rattle.ti_param.specs.Formats.{placed_token}
 use Rattle.ti_param.specs.Codes.{IsCode, simple_code, parameter_code, store_code, fetch_code, byte_code, number_code, print_code, simple_tokens}
 use Rattle.ti_param.specs.inside.Codes.{Front, code_of, token_after, letter_after}
-use Rattle.ti_param.specs.inside.Formats.{Scan, Unread, with_token, scan, phases_after, accepted, accepted_of, left_of, first_token, front_of, refusal}
+use Rattle.ti_param.specs.inside.Formats.{Phase, Scan, Unread, with_token, scan, phases_after, accepted, accepted_of, left_of, first_token, front_of, refusal}
 use Rattle.ti_param.proofs.Fronts.{found-row}
 use Rattle.ti_param.proofs.Reading.{code_so}
 use Rattle.ti_param.proofs.Scanning.{piece_of, piece-scan, piece-shorter, scan-nothing, stop-before-end, tokens-few}

@@ -1,7 +1,10 @@
 pub mod Accepting
+pub mod Alone
+pub mod Conditionals
 pub mod Ending
 pub mod Fronts
 pub mod OneTree
+pub mod Parameters
 pub mod Lexing
 pub mod Numbers
 pub mod Parsing

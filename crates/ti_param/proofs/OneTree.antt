@@ -5,7 +5,6 @@ use Rattle.std.proofs.Common.{sym, ◌∙◌, subst, arith, add-zero}
 use Rattle.std.specs.Prelude.{Option, Some, None, ◌==◌, Ok, Err}
 use Rattle.std.proofs.lemmas.List.{append-nil}
 use Rattle.std.proofs.lemmas.Bool.Decides.{Decides-eqb}
-use Rattle.ti_param.specs.declared.acceptor.Phase.{Phase}
 use Rattle.ti_param.specs.declared.codes.Token.{Token}
 use Rattle.ti_param.specs.declared.codes.Token.TheVariants.{Literal}
 use Rattle.ti_param.specs.declared.lexer.Placed.{Placed}
@@ -13,7 +12,7 @@ use Rattle.ti_param.specs.Codes.{IsCode}
 use Rattle.ti_param.specs.inside.Codes.{Front, token_after}
 use Rattle.ti_param.specs.Formats.{FormatTree, placed_token, IsCutIntoTokens, no_tokens, then_byte, then_code, AreTokensOf, IsTree, BeginsFormat, IsStuck}
 use Rattle.ti_param.specs.Formats.{HasOneTree}
-use Rattle.ti_param.specs.inside.Formats.{Scan, with_token, scan, scan_of, phases_after, accepted_of, refusal, stuck_place, tree_and_marks, tree_of}
+use Rattle.ti_param.specs.inside.Formats.{Phase, Scan, with_token, scan, scan_of, phases_after, accepted_of, refusal, stuck_place, tree_and_marks, tree_of}
 use Rattle.ti_param.specs.inside.Formats.{IsFormatComputed}
 use Rattle.ti_param.specs.Meaning.{MachineState, MachineOutcome, and_then, meaning}
 use Rattle.ti_param.proofs.Reading.{code_read, code_so}

@@ -3,4 +3,6 @@
 pub mod Codes
 pub mod Formats
 pub mod Expansion
+pub mod Machine
+pub mod Output
 pub mod Reader

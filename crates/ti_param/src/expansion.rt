@@ -10,6 +10,7 @@ use crate::codes::Token;
 use crate::errors::ParamError;
 use crate::lexer::{Lexer, Placed};
 use crate::machine::Machine;
+use crate::output::Output;
 use crate::values::{Statics, Value};
 use std::alloc::Global;
 use ti_text::limits::PARAMETERS_MAX;
@@ -42,9 +43,39 @@ pub fn expand(
     ensures memory { IsErrOf result ParamError.Memory → (t : FormatTree) × IsTree format.now t }
     ensures err { OnErr result (statics.new ≡ statics.old) }
 {
+    let mut after = *statics;
+    match expand_output(alloc, format, params, &mut after) {
+        Err(error) => Err(error),
+        Ok(output) => match output.in_memory() {
+            Err(_) => Err(ParamError::Memory),
+            Ok(bytes) => {
+                *statics = after;
+                Ok(bytes)
+            }
+        },
+    }
+}
+
+/// The bytes of a format for its parameters, as `expand` has them: up to 64 of them take no memory.
+///
+/// # Errors
+///
+/// Those of `expand`.
+pub fn expand_output(
+    alloc: Global,
+    format: &[u8],
+    params: &[Value<'_>; PARAMETERS_MAX],
+    statics: &mut Statics,
+) -> Result<Output, ParamError>
+    ensures ok { IfOk result (λ output. Expands format.now (map argument_of params.now) statics.old output statics.new) }
+    ensures bad_format { (place : ℕ) → IsErrOf result (ParamError.BadFormat place) ↔ IsStuck format.now place }
+    ensures stack_full { (place : ℕ) → IsErrOf result (ParamError.StackFull place) → Overflows format.now (map argument_of params.now) statics.old place }
+    ensures memory { IsErrOf result ParamError.Memory → (t : FormatTree) × IsTree format.now t }
+    ensures err { OnErr result (statics.new ≡ statics.old) }
+{
     let mut lexer = Lexer::new(format);
     let mut machine = Machine::new(alloc, params, statics);
-    let ran = run(&mut lexer, &mut machine, format.len().min(FIRST_ROOM));
+    let ran = run(&mut lexer, &mut machine);
     if let Some(place) = lexer.end() {
         return Err(ParamError::BadFormat(place));
     }
@@ -52,18 +83,14 @@ pub fn expand(
     Ok(machine.finish(statics))
 }
 
-// The most bytes for which room is made at once at the start: most strings of an entry give fewer.
-const FIRST_ROOM: usize = 64;
-
-// Runs the tokens that are left, after it made room for the given number of bytes.
+// Runs the tokens that are left.
 #[inline(always)]
-fn run(lexer: &mut Lexer<'_>, machine: &mut Machine<'_>, room: usize) -> Result<(), ParamError>
+fn run(lexer: &mut Lexer<'_>, machine: &mut Machine<'_>) -> Result<(), ParamError>
     requires { length (left_of lexer.old).tokens < 2 ^ 64 }
     ensures ran { (t : FormatTree) → AreTokensOf (left_of lexer.old).tokens t → HasOutcome result machine.new (meaning t machine.old) }
     ensures stop { (left_of lexer.new).stop ≡ (left_of lexer.old).stop }
     ensures fewer { length (left_of lexer.new).tokens ≤ length (left_of lexer.old).tokens }
 {
-    machine.make_room(room)?;
     while let Some(Placed { place, token }) = lexer.next_token() {
         match token {
             Token::Literal(byte) => machine.write(byte)?,

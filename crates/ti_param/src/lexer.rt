@@ -2,10 +2,9 @@
 ghost use Rattle.std.specs.Prelude.{◌≡◌, ◌^◌, ◌<◌, [], ◌∷◌, Some, MatchOption, IfNone, length};
 ghost use Rattle.ti_param.specs.inside.Formats.{accepted_of, front_of, left_of, scan_of};
 
-use crate::acceptor::{OPEN_MAX, Phase, advance};
+use crate::acceptor::Conditionals;
 use crate::codes::Token;
 use crate::reader::read_code;
-use arrayvec::ArrayVec;
 use std::marker::Model;
 
 /// A token, and where in the format it begins.
@@ -22,14 +21,11 @@ pub(crate) struct Lexer<'a> {
     // The length of the whole format.
     total: usize,
     rest: &'a [u8],
-    // The open conditionals, the innermost last.
-    phases: ArrayVec<Phase, OPEN_MAX>,
+    phases: Conditionals,
 }
 
 impl<'a> Model for Lexer<'a> {
-    ghost use Rattle.std.specs.Prelude.{◌-◌, ◌≤◌, length, reverse};
-    ghost use Rattle.arrayvec.specs.ArrayVec.{array_vec_len};
-    ghost use Rattle.ti_param.specs.Formats.{open_max};
+    ghost use Rattle.std.specs.Prelude.{◌-◌, ◌≤◌, length};
     ghost use Rattle.ti_param.specs.inside.Formats.{Unread};
 
     ghost Value = { Unread };
@@ -37,10 +33,10 @@ impl<'a> Model for Lexer<'a> {
     ghost view = { λ lexer. record {
       place = lexer.total - length lexer.rest.now;
       text = lexer.rest.now;
-      phases = reverse lexer.phases.items;
+      phases = lexer.phases;
     } };
 
-    ghost invariant = { λ lexer. (length lexer.rest.now ≤ lexer.total) × (array_vec_len lexer.phases ≤ open_max) };
+    ghost invariant = { λ lexer. length lexer.rest.now ≤ lexer.total };
 }
 
 impl<'a> Lexer<'a> {
@@ -52,7 +48,7 @@ impl<'a> Lexer<'a> {
         Lexer {
             total: format.len(),
             rest: format,
-            phases: ArrayVec::new(),
+            phases: Conditionals::new(),
         }
     }
 
@@ -91,7 +87,7 @@ impl<'a> Lexer<'a> {
         ensures stop { (left_of self.new).stop ≡ (left_of self.old).stop }
         ensures end { IfNone result (self.new ≡ self.old) }
     {
-        if !advance(&mut self.phases, &token) {
+        if !self.phases.advance(&token) {
             return None;
         }
         let place = self.total - self.rest.len();

@@ -3,8 +3,8 @@
 //!
 //! - `values`: what is given to a parameter string, and the static variables; `specs/Limits.antt`
 //!   says how many.
-//! - `expansion`: the bytes that a parameter string sends to the terminal; `errors`: why there are
-//!   none.
+//! - `expansion`: the bytes that a parameter string sends to the terminal; `output`: where they are;
+//!   `errors`: why there are none.
 //! - `codes`: the codes of a format; `reader`, `directives` and `decimals`: they read one; `lexer`:
 //!   a format as its tokens, up to the first that may not come where it is.
 //! - `acceptor`: whether a token may come in the conditionals that are open.
@@ -30,10 +30,12 @@ mod expansion;
 pub mod laws;
 mod lexer;
 mod machine;
+mod output;
 mod reader;
 mod values;
 
 pub use errors::ParamError;
-pub use expansion::expand;
+pub use expansion::{expand, expand_output};
+pub use output::Output;
 pub use ti_printing::{Line, PadError, pad, pad_owned};
 pub use values::{LETTERS, Statics, Value};

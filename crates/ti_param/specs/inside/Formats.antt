@@ -1,8 +1,6 @@
 -- The tree of a format and the place where it is stuck, computed from left to right; and the law
 -- that these are those of `Formats` (own).
-use Rattle.std.specs.Prelude.{◌≡◌, ℕ, zero, suc, ◌-◌, Bool, true, false, List, [], ◌∷◌, length, if◌then◌else◌, ◌==◌, nat_lt, Option, Some, None, ◌↔◌}
-use Rattle.ti_param.specs.declared.acceptor.Phase.{Phase}
-use Rattle.ti_param.specs.declared.acceptor.Phase.TheVariants.{Testing, Taken}
+use Rattle.std.specs.Prelude.{◌≡◌, ℕ, zero, suc, ◌-◌, ◌/◌, ◌%◌, Bool, true, false, List, [], ◌∷◌, length, if◌then◌else◌, ◌==◌, nat_lt, Option, Some, None, ◌↔◌}
 use Rattle.ti_param.specs.declared.codes.Token.{Token}
 use Rattle.ti_param.specs.declared.codes.Token.TheVariants.{Literal, Operation, If, Then, Else, EndIf}
 use Rattle.ti_param.specs.declared.lexer.Placed.{Placed}
@@ -41,18 +39,30 @@ scan zero place (b ∷ text) =
 abbrev pub scan_of : List ℕ → Scan
 scan_of format = scan 0 0 format
 
+-- what may come in an open conditional: the test, which a `%t` ends, or the part taken, which an
+-- `%e` ends
+pub data Phase : Type 0 where
+  in_test : Phase
+  in_taken : Phase
+
+-- what may come in each open conditional, the innermost first, by as many bits: the lowest for the
+-- innermost, 1 in a part taken
+unfoldable pub phases_of : (depth taken : ℕ) → List Phase
+phases_of zero taken = []
+phases_of (suc depth) taken = (if taken % 2 == 1 then in_taken else in_test) ∷ phases_of depth (taken / 2)
+
 -- The open conditionals after one more token, the innermost first, each with what may come in it: a
 -- `%t` in its test, an `%e` in the part taken. None if the token may not come there.
 abbrev pub phases_after : List Phase → Token → Option (List Phase)
 phases_after phases (Literal b) = Some phases
 phases_after phases (Operation c) = Some phases
-phases_after phases If = if nat_lt (length phases) open_max then Some (Testing ∷ phases) else None
+phases_after phases If = if nat_lt (length phases) open_max then Some (in_test ∷ phases) else None
 phases_after [] Then = None
-phases_after (Testing ∷ phases) Then = Some (Taken ∷ phases)
-phases_after (Taken ∷ phases) Then = None
+phases_after (in_test ∷ phases) Then = Some (in_taken ∷ phases)
+phases_after (in_taken ∷ phases) Then = None
 phases_after [] Else = None
-phases_after (Testing ∷ phases) Else = None
-phases_after (Taken ∷ phases) Else = Some (Testing ∷ phases)
+phases_after (in_test ∷ phases) Else = None
+phases_after (in_taken ∷ phases) Else = Some (in_test ∷ phases)
 phases_after [] EndIf = None
 phases_after (phase ∷ phases) EndIf = Some phases
 

@@ -7,15 +7,15 @@ use Rattle.ti_param.proofs.Running.{error-kept}
 use Rattle.ti_param.proofs.Wrapping.{is-zero, not-zero}
 use Rattle.ti_param.proofs.expansion.run.Goals as goal
 
-pub loop-place-preserved-in-Continue-branch-2 : goal.loop-place-preserved-in-Continue-branch-2
-loop-place-preserved-in-Continue-branch-2 c = record {
+pub loop-place-preserved-in-Continue-1 : goal.loop-place-preserved-in-Continue-1
+loop-place-preserved-in-Continue-1 c = record {
   left = literal-done _ _ _ _ _ _ c.in-Some.ensures.token c.in-Literal.is c.in_ok-write-in-Literal.ensures ∙ c.loop-place.invariant.left;
   stop = c.in-Some.ensures.stop ∙ c.loop-place.invariant.stop;
   fewer = omega (arith, ap length c.in-Some.ensures.token, c.loop-place.invariant.fewer);
 }
 
-pub loop-place-preserved-in-Continue-branch-3 : goal.loop-place-preserved-in-Continue-branch-3
-loop-place-preserved-in-Continue-branch-3 c = record {
+pub loop-place-preserved-in-Continue-branch-2 : goal.loop-place-preserved-in-Continue-branch-2
+loop-place-preserved-in-Continue-branch-2 c = record {
   left = operation-done _ _ _ _ _ _ c.in-Some.ensures.token c.in-Operation.is c.in_ok-perform-in-Operation.ensures ∙ c.loop-place.invariant.left;
   stop = c.in-Some.ensures.stop ∙ c.loop-place.invariant.stop;
   fewer = omega (arith, ap length c.in-Some.ensures.token, c.loop-place.invariant.fewer);
