@@ -1,13 +1,20 @@
 #!/usr/bin/env python3
-"""The tables of ti_caps that follow from the three lists of names in crates/ti_caps/src/tables.rt.
+"""The tables of ti_caps and ti_names that follow from the lists of words in their sources.
 
-    build/capability_tables.py --write    writes them into the sources of ti_caps
-    build/capability_tables.py --check    fails unless the sources have them as they follow
+    build/capability_tables.py --write    writes them into these sources
+    build/capability_tables.py --check    fails unless the sources have them as they follow, and the
+                                          variables of lsp_descriptions are those of ti_names
 
 BY_NAME is every capability in the order of the bytes of its name, by its number: booleans, numbers
 and strings are counted as one list. KEYS has the key of each of these names: its first eight bytes
 as one number. FLAGS_BY_NAME, NUMBERS_BY_NAME and TEXTS_BY_NAME are the indexes of one kind, in the
-order of the bytes of the names.
+order of the bytes of the names. These are of ti_caps, and follow from the lists of names in its
+tables.rt.
+
+In variable_tables.rt and code_tables.rt of ti_names, FLAG_KEYS, NUMBER_KEYS and TEXT_KEYS are the
+keys of the variables and codes of a kind in rising order: their bytes as the digits of a number to
+the base 257, modulo 2 ^ 32. FLAG_PLACES, NUMBER_PLACES and TEXT_PLACES have, in the same order, the
+index of the word of each key: the last one if two capabilities have the word.
 """
 
 import os
@@ -16,16 +23,18 @@ import sys
 
 from repository import TOP
 
-SOURCES = os.path.join(TOP, "crates", "ti_caps", "src")
+CRATES = os.path.join(TOP, "crates")
 KINDS = ["FLAGS", "NUMBERS", "TEXTS"]
 KEY_BYTES = 8
+# the lists of ti_names: their files, and what they have
+WORDS = {"variable_tables.rt": "VARIABLES", "code_tables.rt": "CODES"}
 # the width to which `rt fmt` fills the lines of a table of short items
 WIDTH = 99
 INDENT = "    "
 
 
-def read(file):
-    with open(os.path.join(SOURCES, file), encoding="utf-8") as source:
+def read(crate, file):
+    with open(os.path.join(CRATES, crate, "src", file), encoding="utf-8") as source:
         return source.read()
 
 
@@ -37,9 +46,9 @@ def table_at(text, name):
     return found.span(1)
 
 
-def names_of(kind):
-    text = read("tables.rt")
-    start, end = table_at(text, kind)
+def words_of(crate, file, table):
+    text = read(crate, file)
+    start, end = table_at(text, table)
     return re.findall(r'"([^"]*)"', text[start:end])
 
 
@@ -59,6 +68,10 @@ def one_a_line(items):
     return "".join(f"{INDENT}{item},\n" for item in items)
 
 
+def variables_of(kind):
+    return words_of("ti_names", "variable_tables.rt", f"{kind}_VARIABLES")
+
+
 def by_name(names):
     return sorted(range(len(names)), key=lambda index: names[index].encode())
 
@@ -67,32 +80,59 @@ def key_of(name):
     return int.from_bytes(name.encode()[:KEY_BYTES].ljust(KEY_BYTES, b"\0"), "big")
 
 
+def word_key(word):
+    key = 0
+    for byte in word.encode():
+        key = (key * 257 + byte) % 2**32
+    return key
+
+
+def derived_of_words():
+    """The derived tables of ti_names: the file, the name, and what is between the brackets."""
+    for file, words in WORDS.items():
+        for kind in ["FLAG", "NUMBER", "TEXT"]:
+            listed = words_of("ti_names", file, f"{kind}_{words}")
+            places = {word_key(word): place for place, word in enumerate(listed)}
+            keys = sorted(places)
+            yield file, f"{kind}_KEYS", filled(f"0x{key:08x}" for key in keys)
+            yield file, f"{kind}_PLACES", filled(str(places[key]) for key in keys)
+
+
 def derived():
-    """Each derived table: its file, its name, and what is between its brackets."""
-    lists = {kind: names_of(kind) for kind in KINDS}
+    """Each derived table: its crate, its file, its name, and what is between its brackets."""
+    lists = {kind: words_of("ti_caps", "tables.rt", kind) for kind in KINDS}
     names = [name for kind in KINDS for name in lists[kind]]
     order = by_name(names)
-    yield "tables.rt", "BY_NAME", filled(map(str, order))
-    yield "keys.rt", "KEYS", one_a_line(f"0x{key_of(names[number]):016x}" for number in order)
+    yield "ti_caps", "tables.rt", "BY_NAME", filled(map(str, order))
+    yield "ti_caps", "keys.rt", "KEYS", one_a_line(f"0x{key_of(names[number]):016x}" for number in order)
     for kind in KINDS:
-        yield "name_order.rt", f"{kind}_BY_NAME", filled(map(str, by_name(lists[kind])))
+        yield "ti_caps", "name_order.rt", f"{kind}_BY_NAME", filled(map(str, by_name(lists[kind])))
+    for file, name, items in derived_of_words():
+        yield "ti_names", file, name, items
+
+
+def described():
+    """The variables of the rows of lsp_descriptions, the first word of each."""
+    return re.findall(r'^    "([^"]*)",\s*"', read("lsp_descriptions", "descriptions.rt"), re.M)
 
 
 def main():
     if sys.argv[1:] not in (["--write"], ["--check"]):
         sys.exit(__doc__)
     differing = []
-    for file, name, items in derived():
-        text = read(file)
+    for crate, file, name, items in derived():
+        text = read(crate, file)
         start, end = table_at(text, name)
         if text[start:end] == items:
             continue
-        differing.append(f"{file}: {name}")
+        differing.append(f"{crate}, {file}: {name}")
         if sys.argv[1] == "--write":
-            with open(os.path.join(SOURCES, file), "w", encoding="utf-8") as source:
+            with open(os.path.join(CRATES, crate, "src", file), "w", encoding="utf-8") as source:
                 source.write(text[:start] + items + text[end:])
+    if described() != [word for kind in ["FLAG", "NUMBER", "TEXT"] for word in variables_of(kind)]:
+        sys.exit("the variables of lsp_descriptions are not those of ti_names")
     if sys.argv[1] == "--check" and differing:
-        sys.exit("not as they follow from the lists of names: " + ", ".join(differing))
+        sys.exit("not as they follow from the lists: " + ", ".join(differing))
 
 
 main()

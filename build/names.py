@@ -5,7 +5,7 @@
     build/names.py --check    fails unless the repository has it as it follows
 
 The names of capabilities are those of crates/ti_caps, and their variables, which its comments have,
-those of crates/lsp_descriptions.
+those of crates/ti_names.
 """
 
 import os

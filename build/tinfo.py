@@ -5,9 +5,8 @@
                                        directory above has libti.so.1, from `make library`
     build/tinfo.py --names FILE        writes only the tables of names, names.h
 
-The names of capabilities are those of crates/ti_caps, their variables those of
-crates/lsp_descriptions, and the codes of termcap those of tinfo/codes.txt. It uses the C compiler
-that CC names, or cc.
+The names of capabilities are those of crates/ti_caps, and their variables and codes of termcap
+those of crates/ti_names. It uses the C compiler that CC names, or cc.
 """
 
 import os
@@ -33,36 +32,29 @@ LINKED = [
     "-Wl,-z,text", "-Wl,-z,relro", "-Wl,-z,now", "-Wl,-z,noexecstack", "-Wl,--enable-new-dtags",
     "-Wl,-rpath,$ORIGIN/..",
 ]
-# the prefix of a kind's tables, its table of names, and those of its variables
-KINDS = {
-    "bool": ("FLAGS", ["FLAGS"]),
-    "num": ("NUMBERS", ["NUMBERS"]),
-    "str": ("TEXTS", [f"PART_{part}" for part in range(1, 7)]),
-}
+# the prefix of a kind's tables, and its word in the tables of the crates
+KINDS = {"bool": "FLAG", "num": "NUMBER", "str": "TEXT"}
 WIDTH = 100
+
+
+def words_of(table, *path):
+    """The words of a table of a crate."""
+    return re.findall(r'"([^"]*)"', re.search(rf"pub static {table}: [^=]*= \[(.*?)\];", text_of(*path), re.S)[1])
 
 
 def names_of(kind):
     """The names of a kind, in the order of the compiled entry."""
-    table = KINDS[kind][0]
-    text = text_of("crates", "ti_caps", "src", "tables.rt")
-    return re.findall(r'"([^"]*)"', re.search(rf"pub static {table}: [^=]*= \[(.*?)\];", text, re.S)[1])
+    return words_of(f"{KINDS[kind]}S", "crates", "ti_caps", "src", "tables.rt")
 
 
 def variables_of(kind):
-    """The variables of X/Open Curses of a kind: the first text of each row."""
-    text = text_of("crates", "lsp_descriptions", "src", "descriptions.rt")
-    found = []
-    for table in KINDS[kind][1]:
-        rows = re.search(rf"static {table}: [^=]*= descriptions! {{(.*?)}};", text, re.S)[1]
-        found += re.findall(r'"([^"]*)",\s*"[^"]*"(?:,\s*"[^"]*")?;', rows)
-    return found
+    """The variables of X/Open Curses of a kind, in that order."""
+    return words_of(f"{KINDS[kind]}_VARIABLES", "crates", "ti_names", "src", "variable_tables.rt")
 
 
-def codes():
-    """The names and codes of termcap, in the order of their file."""
-    lines = text_of("tinfo", "codes.txt").split("\n")
-    return [tuple(line.split(" ")) for line in lines if line and not line.startswith("#")]
+def codes_of(kind):
+    """The codes of termcap of a kind, in that order."""
+    return words_of(f"{KINDS[kind]}_CODES", "crates", "ti_names", "src", "code_tables.rt")
 
 
 def table(name, words):
@@ -78,38 +70,20 @@ def table(name, words):
 
 HEAD = """/* Written by build/tinfo.py. */
 #define EXPORTED __attribute__((visibility("default")))
-
-struct coded {
-    char code[3];
-    short index;
-};
 """
-
-
-def code_table(kind, coded):
-    """The text of a table of a kind's codes in their order; the last of two has the code."""
-    indexes = {code: index for index, (_, code) in enumerate(coded)}
-    rows = "".join(f'    {{ "{code}", {indexes[code]} }},\n' for code in sorted(indexes, key=str.encode))
-    return f"static const struct coded {kind}_by_code[] = {{\n{rows}}};\n"
 
 
 def names_header():
     """The text of names.h: the tables, and an index for each name."""
     parts = [HEAD]
-    left = codes()
     for kind in KINDS:
-        names, variables = names_of(kind), variables_of(kind)
-        coded, left = left[: len(names)], left[len(names) :]
-        if [name for name, _ in coded] != names or len(variables) != len(names):
-            raise ValueError(f"the tables of {kind} do not have the same capabilities")
-        parts.append(table(f"{kind}names", names))
-        parts.append(table(f"{kind}codes", [code for _, code in coded]))
-        parts.append(table(f"{kind}fnames", variables))
-        parts.append(code_table(kind, coded))
+        names = names_of(kind)
+        for suffix, words in ("names", names), ("codes", codes_of(kind)), ("fnames", variables_of(kind)):
+            if len(words) != len(names):
+                raise ValueError(f"{kind}{suffix} does not have the same capabilities")
+            parts.append(table(f"{kind}{suffix}", words))
         indexes = "".join(f"    {kind.upper()}_{name} = {index},\n" for index, name in enumerate(names))
         parts.append(f"enum {{\n{indexes}}};\n")
-    if left:
-        raise ValueError("there are more codes than capabilities")
     return "\n".join(parts)
 
 

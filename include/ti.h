@@ -85,6 +85,28 @@ bool ti_capability(const uint8_t *name, size_t size, struct ti_place *found);
  */
 bool ti_name(uint32_t kind, uint32_t index, struct ti_text *text);
 
+/*
+ * Looks up a capability by its variable in terminfo(5), such as "set_a_foreground", and stores it
+ * in *found. Returns false and leaves *found unchanged if no capability has exactly this variable.
+ */
+bool ti_capability_by_variable(const uint8_t *variable, size_t size, struct ti_place *found);
+
+/*
+ * Looks up a capability of a kind by its code in termcap, such as "AF", and stores it in *found:
+ * the last one, if two have the code. Returns false and leaves *found unchanged if none of the kind
+ * has exactly this code.
+ */
+bool ti_capability_by_code(uint32_t kind, const uint8_t *code, size_t size, struct ti_place *found);
+
+/*
+ * Stores the variable of the capability with this kind and index in *text, as ti_name stores its
+ * name.
+ */
+bool ti_variable_name(uint32_t kind, uint32_t index, struct ti_text *text);
+
+/* Stores the code in termcap of the capability with this kind and index in *text, likewise. */
+bool ti_termcap_code(uint32_t kind, uint32_t index, struct ti_text *text);
+
 /* ---- entries: term(5) */
 
 /* A compiled entry. The fields are private to the library. */

@@ -735,17 +735,11 @@ static bool is_same_user_code(const char *asked, const char *name) {
 
 static bool is_code(const char *asked) { return asked[0] && asked[1]; }
 
-static int compare_codes(const void *asked, const void *row) {
-    return memcmp(asked, ((const struct coded *)row)->code, 2);
+/* The index of a capability of the tables with this code, or -1. */
+static int code_index(const char *asked, uint32_t kind) {
+    struct ti_place place = { 0, 0 };
+    return ti_capability_by_code(kind, (const uint8_t *)asked, 2, &place) ? (int)place.index : -1;
 }
-
-/* The index of a code in a table of names.h, or -1. */
-static int code_index(const struct coded *rows, size_t count, const char *asked) {
-    const struct coded *found =
-        (const struct coded *)bsearch(asked, rows, count, sizeof *rows, compare_codes);
-    return found ? found->index : -1;
-}
-#define CODE_INDEX(rows, asked) code_index(rows, sizeof(rows) / sizeof(rows)[0], asked)
 
 /* The text after a delay `$<..>` and after what means 0 in a control sequence, if they are here. */
 static const char *after_delay(const char *at) {
@@ -864,21 +858,21 @@ EXPORTED int tgetent(char *buffer, const char *name) {
 
 EXPORTED int tgetflag(const char *code) {
     if (!cur_term || !is_code(code)) return 0;
-    int index = CODE_INDEX(bool_by_code, code);
+    int index = code_index(code, TI_FLAG);
     if (index < 0) index = user_flag(code, is_same_user_code);
     return index >= 0 && cur_term->type.Booleans[index];
 }
 
 EXPORTED int tgetnum(const char *code) {
     if (!cur_term || !is_code(code)) return -1;
-    int index = CODE_INDEX(num_by_code, code);
+    int index = code_index(code, TI_NUMBER);
     if (index < 0) index = user_number(code, is_same_user_code);
     return index < 0 ? -1 : cur_term->numbers[index];
 }
 
 EXPORTED char *tgetstr(const char *code, char **area) {
     if (!cur_term || !is_code(code)) return NULL;
-    int index = CODE_INDEX(str_by_code, code);
+    int index = code_index(code, TI_STRING);
     if (index < 0) index = user_string(code, is_same_user_code);
     char *text = index < 0 ? NULL : string_at(index);
     if (index == STR_sgr0 && text && cur_term->without_acs) text = cur_term->without_acs;

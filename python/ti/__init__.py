@@ -22,7 +22,10 @@ import os
 from collections.abc import Iterator, Mapping
 from typing import Optional, Union
 
-__all__ = ["BadEntry", "BadString", "Entry", "Error", "NoTerminal", "String"]
+__all__ = [
+    "BadEntry", "BadString", "Entry", "Error", "NoTerminal", "String", "name_of_code",
+    "name_of_variable",
+]
 
 FLAG, NUMBER, STRING = 0, 1, 2
 _ENTRY_MEMORY, _NO_TERMINAL, _READ_FAILED = 9, 10, 11
@@ -122,6 +125,8 @@ def _library() -> ctypes.CDLL:
     types = {
         "ti_capability": (ctypes.c_bool, [data, size, ctypes.POINTER(_Place)]),
         "ti_name": (ctypes.c_bool, [u32, u32, text]),
+        "ti_capability_by_variable": (ctypes.c_bool, [data, size, ctypes.POINTER(_Place)]),
+        "ti_capability_by_code": (ctypes.c_bool, [u32, data, size, ctypes.POINTER(_Place)]),
         "ti_entry_new": (u32, [data, size, ctypes.POINTER(entry)]),
         "ti_open": (u32, [data, ctypes.POINTER(entry)]),
         "ti_entry_free": (None, [entry]),
@@ -161,6 +166,24 @@ def _names_of(kind: int) -> list[str]:
 
 
 FLAG_NAMES, NUMBER_NAMES, STRING_NAMES = (_names_of(kind) for kind in (FLAG, NUMBER, STRING))
+
+
+def _name_at(place: _Place) -> str:
+    return (FLAG_NAMES, NUMBER_NAMES, STRING_NAMES)[place.kind][place.index]
+
+
+def name_of_variable(variable: str) -> Optional[str]:
+    """The name of the capability with a variable of terminfo(5): "cup" for "cursor_address"."""
+    place, key = _Place(), variable.encode()
+    is_found = _ti.ti_capability_by_variable(key, len(key), ctypes.byref(place))
+    return _name_at(place) if is_found else None
+
+
+def name_of_code(kind: int, code: str) -> Optional[str]:
+    """The name of the last capability of a kind with a code of termcap: "cup" for STRING, "cm"."""
+    place, key = _Place(), code.encode()
+    is_found = _ti.ti_capability_by_code(kind, key, len(key), ctypes.byref(place))
+    return _name_at(place) if is_found else None
 
 
 def _written(what: str, call) -> bytes:

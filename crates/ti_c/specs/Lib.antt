@@ -4,6 +4,7 @@ pub mod Delays
 pub mod Ends
 pub mod Entries
 pub mod Expanding
+pub mod OtherNames
 pub mod Padding
 pub mod Places
 pub mod UserDefined

@@ -16,8 +16,8 @@ pub struct Place {
     pub index: u32,
 }
 
-// The number of a kind.
-fn kind_number(kind: Kind) -> u32
+/// The number of a kind.
+pub fn kind_number(kind: Kind) -> u32
     ensures { result ≡ spec.kind_number kind }
 {
     match kind {
@@ -27,8 +27,8 @@ fn kind_number(kind: Kind) -> u32
     }
 }
 
-// The kind of a number.
-fn kind_numbered(number: u32) -> Option<Kind>
+/// The kind of a number.
+pub fn kind_numbered(number: u32) -> Option<Kind>
     ensures { result ≡ spec.kind_numbered number }
 {
     match number {

@@ -7,7 +7,7 @@ ghost use Rattle.ti_c.specs.Expanding.{arguments_of, given_argument, IsExpanded,
 
 use crate::answers::{BAD_FORMAT, NO_MEMORY, NO_ROOM, OK, Outcome, STACK_FULL, write_to};
 use std::alloc::Global;
-use ti_param::{LETTERS, ParamError, Statics, Value, expand};
+use ti_param::{LETTERS, ParamError, Statics, Value, expand_output};
 use ti_text::limits::PARAMETERS_MAX;
 
 /// A parameter: a number if `kind` is 0, else a string.
@@ -71,18 +71,24 @@ pub extern "C" fn ti_expand(
     ensures out_kept { result.status ≢ OK → out.new ≡ out.old }
 {
     let mut statics = Statics::of_values(variables.values);
-    match expand(alloc, format, &arguments(params), &mut statics) {
-        Ok(output) => {
-            let size = output.len();
-            if !write_to(output.as_slice(), out) {
-                return Outcome {
-                    status: NO_ROOM,
-                    size,
-                };
+    match expand_output(alloc, format, &arguments(params), &mut statics) {
+        Ok(mut output) => match output.bytes() {
+            Err(_) => Outcome {
+                status: NO_MEMORY,
+                size: 0,
+            },
+            Ok(bytes) => {
+                let size = bytes.len();
+                if !write_to(bytes, out) {
+                    return Outcome {
+                        status: NO_ROOM,
+                        size,
+                    };
+                }
+                variables.values = statics.values();
+                Outcome { status: OK, size }
             }
-            variables.values = statics.values();
-            Outcome { status: OK, size }
-        }
+        },
         Err(ParamError::BadFormat(place)) => Outcome {
             status: BAD_FORMAT,
             size: place,

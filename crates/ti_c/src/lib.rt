@@ -2,6 +2,7 @@
 //! function and states its contract again, in terms of what C gives and sees.
 //!
 //! - `capabilities`: a capability by its name, and its name
+//! - `other_names`: a capability by its variable or by its code in termcap, and both of it
 //! - `entry`: a compiled entry as C holds it; `entries`: reads one where its bytes are or as a
 //!   copy, and its values
 //! - `extension`: user-defined capabilities as C holds them; `user_defined`: reads them from an
@@ -25,6 +26,7 @@ mod entry;
 mod expanding;
 mod extension;
 pub mod laws;
+mod other_names;
 mod padding;
 mod places;
 mod user_defined;
@@ -39,6 +41,9 @@ pub use entries::{
 pub use entry::Entry;
 pub use expanding::{Parameter, Variables, ti_expand};
 pub use extension::EntryExtension;
+pub use other_names::{
+    ti_capability_by_code, ti_capability_by_variable, ti_termcap_code, ti_variable_name,
+};
 pub use padding::{TerminalLine, ti_line, ti_pad};
 pub use places::{ti_path, ti_places, ti_system_directories};
 pub use user_defined::{
