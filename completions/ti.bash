@@ -1,5 +1,5 @@
-# Completion for bash of ti, and of the everyday tools ti-tic, ti-infocmp and ti-tput: options,
-# terminal names from the places of entries, capability names, and files.
+# Completion for bash of ti, and of the everyday tools ti-tic, ti-infocmp, ti-tput and ti-fmt:
+# options, terminal names from the places of entries, capability names, and files.
 
 # The capabilities of terminfo(5), booleans, numbers and strings, in the order of the tables.
 _ti_capabilities='
@@ -169,6 +169,14 @@ _ti_tput() {
     fi
 }
 
+_ti_fmt() {
+    if [[ $current == -* ]]; then
+        _ti_options --check -w
+    elif [[ $previous != -w ]]; then
+        _ti_files -f
+    fi
+}
+
 _ti_session() {
     [[ $current != -* ]] || _ti_words -h --help
 }
@@ -189,6 +197,7 @@ _ti() {
     esac
     case $tool in
         tic | infocmp | tput | session) "_ti_$tool" ;;
+        fmt) [[ -z $everyday ]] || _ti_fmt ;;
         help) ((COMP_CWORD > 2)) || _ti_words tic infocmp tput session ;;
     esac
     # a name may be in several places
@@ -204,4 +213,4 @@ _ti() {
     fi
 }
 
-complete -F _ti ti ti-tic ti-infocmp ti-tput
+complete -F _ti ti ti-tic ti-infocmp ti-tput ti-fmt

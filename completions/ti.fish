@@ -1,5 +1,5 @@
-# Completion for fish of ti, and of the everyday tools ti-tic, ti-infocmp and ti-tput: options,
-# terminal names from the places of entries, capability names, and files.
+# Completion for fish of ti, and of the everyday tools ti-tic, ti-infocmp, ti-tput and ti-fmt:
+# options, terminal names from the places of entries, capability names, and files.
 
 # The capabilities of terminfo(5), booleans, numbers and strings, in the order of the tables.
 function __ti_capabilities
@@ -179,35 +179,38 @@ complete -c ti -n '__ti_is tput' -o S -d 'Read commands from standard input, one
 
 complete -c ti -n '__ti_is session' -f
 
-for command in ti-tic ti-infocmp ti-tput
+for command in ti-tic ti-infocmp ti-tput ti-fmt
     complete -c $command -s h -l help -d 'Print help'
     complete -c $command -s V -l version -d 'Print version'
 end
 
 complete -c ti-tic -s c -d 'Check only: report, and write no file'
-complete -c ti-tic -s s -d 'Say how many entries were written, and where'
-complete -c ti-tic -s x -d 'Take user-defined capabilities'
-complete -c ti-tic -s e -x -d 'Write only blocks with one of these names, between commas'
+complete -c ti-tic -s s -d 'Print how many entries were written, and where'
+complete -c ti-tic -s x -d 'Compile user-defined capabilities'
+complete -c ti-tic -s e -x -d 'Write only blocks with one of these comma-separated names'
 complete -c ti-tic -s o -x -a '(__fish_complete_directories)' -d 'Write below this directory'
 
 complete -c ti-infocmp -f -a '(__ti_infocmp_names)'
 complete -c ti-infocmp -n __ti_types_path -F
-complete -c ti-infocmp -s x -d 'Take user-defined capabilities'
+complete -c ti-infocmp -s x -d 'Include user-defined capabilities'
 complete -c ti-infocmp -s I -d 'List each entry'
 complete -c ti-infocmp -s d -d 'Compare the first with each of the others: what differs'
 complete -c ti-infocmp -s c -d 'Compare the first with each of the others: what both have'
 complete -c ti-infocmp -s n -d 'Compare the first with each of the others: what neither has'
-complete -c ti-infocmp -s u -d 'List the first so that it uses the others'
-complete -c ti-infocmp -s 1 -d 'Give each item a line of its own'
+complete -c ti-infocmp -s u -d 'List the first relative to the others'
+complete -c ti-infocmp -s 1 -d 'List each item on its own line'
 complete -c ti-infocmp -s w -x -d 'Columns of a line, from 20 to 4096'
 complete -c ti-infocmp -s s -x -a 'd i' -d 'Sort by place in the entry (d) or by name (i)'
-complete -c ti-infocmp -s D -d 'Print the directories in which entries are looked for'
-complete -c ti-infocmp -s A -x -a '(__fish_complete_directories)' -d 'Look for the first name only there'
-complete -c ti-infocmp -s B -x -a '(__fish_complete_directories)' -d 'Look for the other names only there'
+complete -c ti-infocmp -s D -d 'Print the directories that are searched for entries'
+complete -c ti-infocmp -s A -x -a '(__fish_complete_directories)' -d 'Search only there for the first name'
+complete -c ti-infocmp -s B -x -a '(__fish_complete_directories)' -d 'Search only there for the other names'
 
 complete -c ti-tput -f
 complete -c ti-tput -n __ti_wants_capability -f -a 'longname init reset (__ti_capabilities)'
-complete -c ti-tput -s x -d 'Keep the lines above the screen at clear, as ever'
+complete -c ti-tput -s x -d 'Do not clear the scrollback at clear (the default)'
 complete -c ti-tput -s T -x -a '(__ti_terminals)' -d 'The terminal'
 complete -c ti-tput -l rate -x -d 'Pad for a line of this many bits per second'
 complete -c ti-tput -s S -d 'Read commands from standard input, one per line'
+
+complete -c ti-fmt -l check -d 'Print the names of files that would change, and write none'
+complete -c ti-fmt -s w -x -d 'Columns of a line, from 20 to 4096'

@@ -27,12 +27,14 @@ unfolding tool_app
 is_tool_simple orders tool.Tic = refl
 is_tool_simple orders tool.Infocmp = refl
 is_tool_simple orders tool.Tput = refl
+is_tool_simple orders tool.Fmt = refl
 
 is_tool_free : (orders : Choices) (t : Tool) → is_simple_and_free (tool_app orders t) ≡ true
 unfolding tool_app
 is_tool_free orders tool.Tic = refl
 is_tool_free orders tool.Infocmp = refl
 is_tool_free orders tool.Tput = refl
+is_tool_free orders tool.Fmt = refl
 
 pub asked-matches : (t : Tool) (app : App) (words : List Text) (matches : ArgMatches) (orders : Choices) → app ≡ tool_app orders t
     → HasMatchesOf app words matches → asked_by t (matched_rows matches) ≡ asked_of t (tool_app orders t) words

@@ -12,6 +12,7 @@ use Rattle.clap.specs.declared.error.kind.ErrorKind.TheVariants.{DisplayHelp, Di
 use Rattle.tools_commands.specs.Mistakes.{mistake_text}
 use Rattle.tools_commands.specs.declared.mistakes.Mistake.{Mistake}
 use Rattle.everyday_words.specs.Commands.{OfTool}
+use Rattle.everyday_words.specs.FmtWords.{fmt_asked}
 use Rattle.everyday_words.specs.InfocmpWords.{infocmp_asked}
 use Rattle.everyday_words.specs.Names.{shown_name}
 use Rattle.everyday_words.specs.Requests.{Wanted, wanted_of, wants_tic}
@@ -32,6 +33,7 @@ abbrev pub asked_by : Tool → List Row → Asked
 asked_by tool.Tic rows = Ok (wants_tic (tic_asked rows))
 asked_by tool.Infocmp rows = infocmp_asked rows
 asked_by tool.Tput rows = tput_asked rows
+asked_by tool.Fmt rows = fmt_asked rows
 
 -- what the words ask of a tool, by its command line
 abbrev pub asked_of : Tool → App → List Text → Asked

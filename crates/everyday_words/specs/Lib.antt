@@ -1,6 +1,7 @@
 -- The definitions that the contracts of this crate cite.
 pub mod Arguments
 pub mod Commands
+pub mod FmtWords
 pub mod InfocmpWords
 pub mod Names
 pub mod Requests

@@ -11,17 +11,19 @@ abbrev pub shown_name : Tool → List ℕ
 shown_name tool.Tic = codes "ti-tic"
 shown_name tool.Infocmp = codes "ti-infocmp"
 shown_name tool.Tput = codes "ti-tput"
+shown_name tool.Fmt = codes "ti-fmt"
 
 -- whether a name is one of two
 abbrev pub is_either : List ℕ → List ℕ → List ℕ → Bool
 is_either one other name = bytes_eq name one || bytes_eq name other
 
--- the tool of a name: its own, or that of the tool whose place it takes
+-- the tool of a name: its own, or that of the tool whose place it takes, if there is one
 abbrev pub named_tool : List ℕ → Option Tool
 named_tool name =
     if is_either (codes "ti-tic") (codes "tic") name then Some tool.Tic
     else if is_either (codes "ti-infocmp") (codes "infocmp") name then Some tool.Infocmp
     else if is_either (codes "ti-tput") (codes "tput") name then Some tool.Tput
+    else if bytes_eq name (codes "ti-fmt") then Some tool.Fmt
     else None
 
 -- the tool that is called by a word, which may be a path

@@ -4,6 +4,7 @@ use Rattle.std.specs.String.{string_bytes}
 use Rattle.clap.specs.Walk.{Text}
 use Rattle.ti_list.specs.declared.layout.Layout.{Layout}
 use Rattle.tools_commands.specs.declared.jobs.InfocmpMode.{InfocmpMode}
+use Rattle.everyday_words.specs.declared.requests.FmtRequest.{FmtRequest}
 use Rattle.everyday_words.specs.declared.requests.InfocmpRequest.{InfocmpRequest}
 use Rattle.everyday_words.specs.declared.requests.Request.{Request}
 use Rattle.everyday_words.specs.declared.requests.Request.TheVariants as request
@@ -39,12 +40,20 @@ pub record TputWanted : Type 0 where
   pub rate : ℕ
   pub words : List Text
 
+-- of `ti-fmt`: whether it only says which sources have another layout, how many columns a line has
+-- at most, and the files, none for standard input
+pub record FmtWanted : Type 0 where
+  pub check : Bool
+  pub width : ℕ
+  pub files : List Text
+
 -- what is asked of a tool
 pub data Wanted : Type 0 where
   wants_tic : TicWanted → Wanted
   wants_infocmp : InfocmpWanted → Wanted
   wants_directories : Wanted
   wants_tput : TputWanted → Wanted
+  wants_fmt : FmtWanted → Wanted
 
 -- ---- a request that holds its words in memory, as plain data
 
@@ -79,9 +88,14 @@ tput_seen r = record {
   words = map string_bytes r.words.items;
 }
 
+-- of `ti-fmt`
+abbrev pub fmt_seen : FmtRequest → FmtWanted
+fmt_seen r = record { check = r.check; width = r.width; files = map string_bytes r.files.items }
+
 -- of any tool
 abbrev pub wanted_of : Request → Wanted
 wanted_of (request.Tic r) = wants_tic (tic_seen r)
 wanted_of (request.Infocmp r) = wants_infocmp (infocmp_seen r)
 wanted_of request.Directories = wants_directories
 wanted_of (request.Tput r) = wants_tput (tput_seen r)
+wanted_of (request.Fmt r) = wants_fmt (fmt_seen r)

@@ -10,6 +10,7 @@ ghost use Rattle.everyday_words.specs.inside.Answers.{Answers, AnswersTaken};
 ghost use Rattle.everyday_words.specs.declared.arguments.Refusal.TheVariants.{Memory};
 
 use crate::commands::command;
+use crate::fmt_words::fmt_request;
 use crate::infocmp_words::infocmp_request;
 use crate::mistakes::NoRequest;
 use crate::names::Tool;
@@ -62,6 +63,7 @@ fn tool_request(alloc: Global, tool: Tool, matches: &ArgMatches<'_>) -> Result<R
         Tool::Tic => Ok(Request::Tic(tic_request(alloc, matches)?)),
         Tool::Infocmp => infocmp_request(alloc, matches),
         Tool::Tput => tput_request(alloc, matches),
+        Tool::Fmt => fmt_request(alloc, matches),
     }
 }
 

@@ -7,6 +7,7 @@ ghost use Rattle.tools_commands.specs.InfocmpWords.{IsOrders};
 ghost use Rattle.everyday_words.specs.Commands.{OfTool, everyday_app, tool_app};
 ghost use Rattle.everyday_words.specs.inside.Commands.{app_for, choices_of, with_argument};
 
+use crate::fmt_words::FMT;
 use crate::infocmp_words::INFOCMP;
 use crate::names::Tool;
 use crate::rules::Argument;
@@ -77,6 +78,7 @@ fn command_line(tool: Tool) -> CommandLine<'static>
         Tool::Tic => TIC,
         Tool::Infocmp => INFOCMP,
         Tool::Tput => TPUT,
+        Tool::Fmt => FMT,
     }
 }
 

@@ -20,11 +20,11 @@ use tools_commands::{InfocmpMode, Mistake};
 // The width of a listing's lines if none is given.
 const WIDTH: usize = 60;
 
-// The least width that may be asked for.
-const WIDTH_MIN: usize = 20;
+/// The least width that may be asked for.
+pub(crate) const WIDTH_MIN: usize = 20;
 
-// The greatest width that may be asked for.
-const WIDTH_MAX: usize = 4096;
+/// The greatest width that may be asked for.
+pub(crate) const WIDTH_MAX: usize = 4096;
 
 /// `ti-infocmp [-x] [-I|-d|-c|-n|-u] [-1] [-w N] [-s d|i] [-D] [-A DIR] [-B DIR] [NAME..]`.
 pub(crate) const INFOCMP: CommandLine<'static> = CommandLine {
@@ -34,7 +34,7 @@ pub(crate) const INFOCMP: CommandLine<'static> = CommandLine {
         Argument {
             id: "user",
             form: Form::Flag('x'),
-            help: "Take user-defined capabilities, such as Tc or Smulx",
+            help: "Include user-defined capabilities, such as Tc or Smulx",
         },
         Argument {
             id: "list",
@@ -59,12 +59,12 @@ pub(crate) const INFOCMP: CommandLine<'static> = CommandLine {
         Argument {
             id: "relative",
             form: Form::Flag('u'),
-            help: "List the first so that it uses the others",
+            help: "List the first relative to the others",
         },
         Argument {
             id: "one",
             form: Form::Flag('1'),
-            help: "Give each item a line of its own",
+            help: "List each item on its own line",
         },
         Argument {
             id: "width",
@@ -79,17 +79,17 @@ pub(crate) const INFOCMP: CommandLine<'static> = CommandLine {
         Argument {
             id: "directories",
             form: Form::Flag('D'),
-            help: "Print the directories in which entries are looked for",
+            help: "Print the directories that are searched for entries",
         },
         Argument {
             id: "first",
             form: Form::Value('A', "DIR"),
-            help: "Look for the first name only in DIR",
+            help: "Search only DIR for the first name",
         },
         Argument {
             id: "other",
             form: Form::Value('B', "DIR"),
-            help: "Look for the other names only in DIR",
+            help: "Search only DIR for the other names",
         },
         Argument {
             id: "name",
@@ -98,16 +98,16 @@ pub(crate) const INFOCMP: CommandLine<'static> = CommandLine {
         },
     ],
     notes: "\
-Without a mode, -d is taken if there are two names or more. In a mode that
-takes two names, the terminal's own stands for each that is not given.
-A name with a slash is the path of a compiled file. Others are looked for in
+Without a mode, -d is used if there are two names or more. In a mode that
+needs two names, $TERM is used for each that is missing.
+A name with a slash is the path of a compiled file. Others are searched for in
 $TERMINFO, ~/.terminfo, $TERMINFO_DIRS, /etc/terminfo, /lib/terminfo and
 /usr/share/terminfo, unless -A or -B names a directory.
 'ti-tic' compiles what '-I' and '-u' print back to the same entries.
 
 Exit status:
   0  all entries were read, and the text was written
-  1  an entry is not there or is bad, or a file or a stream failed
+  1  an entry is missing or bad, or a file or a stream failed
   2  bad usage, or no terminal is named
 
 Examples:
@@ -165,8 +165,8 @@ fn mode_of(choice: Choice, names: usize) -> Result<InfocmpMode, Mistake>
     }
 }
 
-// The width that a text says.
-fn width_in(text: &str) -> Option<usize>
+/// The width that a text says.
+pub(crate) fn width_in(text: &str) -> Option<usize>
     ensures { result ≡ width_for (Some text.now) }
 {
     match text.parse::<usize>() {

@@ -14,14 +14,15 @@
 //! - `requests`: what may be asked for (`Request`)
 //! - `arguments`: what the words ask for, or why they ask for nothing, and the message (`request`)
 //! - `commands`: the command line of each tool, for clap (`command`); `rules` has the kinds of
-//!   options, and `tic_words`, `infocmp_words` and `tput_words` the options of each tool, and what
-//!   they ask for
+//!   options, and `tic_words`, `infocmp_words`, `tput_words` and `fmt_words` the options of each
+//!   tool, and what they ask for
 //! - `matches`: what clap's matches say of an argument; `mistakes`: why words that clap takes ask for
 //!   nothing
 #![tactic(auto)]
 
 mod arguments;
 mod commands;
+mod fmt_words;
 mod infocmp_words;
 mod matches;
 mod mistakes;
@@ -34,6 +35,6 @@ mod tput_words;
 pub use arguments::{Refusal, request};
 pub use commands::{VERSION, command};
 pub use names::{Tool, called_tool, called_words};
-pub use requests::{InfocmpRequest, Request, TicRequest, TputRequest};
+pub use requests::{FmtRequest, InfocmpRequest, Request, TicRequest, TputRequest};
 pub use ti_list::{Layout, Order};
 pub use tools_commands::{InfocmpMode, Mistake};

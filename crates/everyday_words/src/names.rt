@@ -14,6 +14,8 @@ pub enum Tool {
     Infocmp,
     /// The tool that writes what drives a terminal.
     Tput,
+    /// The tool that gives sources their layout.
+    Fmt,
 }
 
 impl Tool {
@@ -25,6 +27,7 @@ impl Tool {
             Tool::Tic => "ti-tic",
             Tool::Infocmp => "ti-infocmp",
             Tool::Tput => "ti-tput",
+            Tool::Fmt => "ti-fmt",
         }
     }
 }
@@ -38,6 +41,7 @@ pub fn called_tool(word: &str) -> Option<Tool>
         "ti-tic" | "tic" => Some(Tool::Tic),
         "ti-infocmp" | "infocmp" => Some(Tool::Infocmp),
         "ti-tput" | "tput" => Some(Tool::Tput),
+        "ti-fmt" => Some(Tool::Fmt),
         _ => None,
     }
 }

@@ -9,7 +9,7 @@ pub struct TicRequest {
     pub check: bool,
     /// Say at the end how many entries were written, and where.
     pub summary: bool,
-    /// Take user-defined capabilities.
+    /// Compile user-defined capabilities.
     pub user_defined: bool,
     /// The names, between commas, of the blocks that are to be written; all, if none is given.
     pub only: Option<String>,
@@ -22,7 +22,7 @@ pub struct TicRequest {
 /// What is asked of `ti-infocmp`: to list, compare or relate entries.
 #[derive(Debug, PartialEq, Eq, Drop)]
 pub struct InfocmpRequest {
-    /// Take user-defined capabilities.
+    /// Include user-defined capabilities.
     pub user_defined: bool,
     /// What is printed.
     pub mode: InfocmpMode,
@@ -49,6 +49,17 @@ pub struct TputRequest {
     pub words: Vec<String>,
 }
 
+/// What is asked of `ti-fmt`: to give sources their layout.
+#[derive(Debug, PartialEq, Eq, Drop)]
+pub struct FmtRequest {
+    /// Only say which sources have another layout.
+    pub check: bool,
+    /// How many columns a line has at most.
+    pub width: usize,
+    /// The files of the sources; none for standard input.
+    pub files: Vec<String>,
+}
+
 /// What the words of a command line ask for.
 #[derive(Debug, PartialEq, Eq, Drop)]
 pub enum Request {
@@ -56,8 +67,10 @@ pub enum Request {
     Tic(TicRequest),
     /// To list, compare or relate entries.
     Infocmp(InfocmpRequest),
-    /// To print the directories in which entries are looked for.
+    /// To print the directories that are searched for entries.
     Directories,
     /// To write what drives a terminal.
     Tput(TputRequest),
+    /// To give sources their layout.
+    Fmt(FmtRequest),
 }

@@ -3,6 +3,7 @@ ghost use Rattle.std.specs.Prelude.{◌≡◌, false, Some};
 ghost use Rattle.clap.specs.declared.builder.texts.Texts.TheVariants.{One};
 ghost use Rattle.clap.specs.Words.{rule_of};
 ghost use Rattle.tools_commands.specs.Rules.{flag_rule, long_option_rule, operand_rule, operands_rule, option_rule};
+ghost use Rattle.everyday_words.specs.Commands.{long_flag_rule};
 ghost use Rattle.everyday_words.specs.inside.Rules.{ShowsValue, rule_for};
 
 use clap::builder::ValueParser;
@@ -14,6 +15,8 @@ use std::alloc::Global;
 pub enum Form<'a> {
     /// An option that is on or off, by its letter.
     Flag(char),
+    /// An option that is on or off, which has only a long name.
+    LongFlag,
     /// An option with one value.
     Value(char, &'a str),
     /// An option with a number from a least to a greatest.
@@ -47,6 +50,7 @@ impl<'a> Argument<'a> {
         let Argument { id, form, help } = *self;
         match form {
             Form::Flag(short) => flag(alloc, id, short, help),
+            Form::LongFlag => long_flag(alloc, id, help),
             Form::Value(short, value) => option(alloc, id, short, value, help),
             Form::Number(short, value, least, greatest) => {
                 let range = ValueParser::unsigned(least, greatest);
@@ -74,6 +78,18 @@ fn flag<'a>(alloc: Global, id: &'a str, short: char, help: &'a str) -> Arg<'a>
 {
     Arg::new(alloc, id)
         .short(short)
+        .action(ArgAction::SetTrue)
+        .help(help)
+}
+
+// An option that is on or off, which has only a long name.
+fn long_flag<'a>(alloc: Global, id: &'a str, help: &'a str) -> Arg<'a>
+    ensures rule { rule_of result ≡ long_flag_rule id.entry.now }
+    ensures local { result.global ≡ false }
+    ensures help { result.help ≡ Some help.entry }
+{
+    Arg::new(alloc, id)
+        .long(id)
         .action(ArgAction::SetTrue)
         .help(help)
 }

@@ -25,22 +25,22 @@ pub(crate) const TIC: CommandLine<'static> = CommandLine {
         Argument {
             id: "summary",
             form: Form::Flag('s'),
-            help: "Say how many entries were written, and where",
+            help: "Print how many entries were written, and where",
         },
         Argument {
             id: "user",
             form: Form::Flag('x'),
-            help: "Take user-defined capabilities, such as Tc or Smulx",
+            help: "Compile user-defined capabilities, such as Tc or Smulx",
         },
         Argument {
             id: "only",
             form: Form::Value('e', "NAMES"),
-            help: "Write only blocks with one of these names, between commas",
+            help: "Write only blocks with one of these comma-separated names",
         },
         Argument {
             id: "dir",
             form: Form::Value('o', "DIR"),
-            help: "Write below DIR [default: $TERMINFO, else as said below]",
+            help: "Write below DIR [default: $TERMINFO, else see below]",
         },
         Argument {
             id: "file",
@@ -49,16 +49,16 @@ pub(crate) const TIC: CommandLine<'static> = CommandLine {
         },
     ],
     notes: "\
-The report on the source goes to standard error, a line for each fault:
+Errors and warnings are printed on standard error, one per line:
   FILE:LINE:COLUMN: error: SUBJECT: SENTENCE [E3 BadNumber]
-A block without an error gets its files, even if another block has an error.
-A 'use=' that no block of the source satisfies is looked for among the entries
-of the directories that 'ti-infocmp -D' prints. Without -o and $TERMINFO, files
-go below /etc/terminfo, or below ~/.terminfo if that cannot be written.
+A block without an error is written even if another block has one.
+An entry that a 'use=' names and the source does not have is searched for in the
+directories that 'ti-infocmp -D' prints. Without -o and $TERMINFO, files are
+written below /etc/terminfo, or below ~/.terminfo if that is not writable.
 A name of -e that no block has is an error.
 
 Exit status:
-  0  the source has no error, but perhaps warnings
+  0  no errors, but there may be warnings
   1  the source has an error, or a file or a stream failed
   2  bad usage
 

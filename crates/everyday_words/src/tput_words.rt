@@ -22,12 +22,12 @@ const RATE_MAX: u64 = u32::MAX as u64;
 /// `ti-tput [-x] [-T TERM] [--rate N] [-S] [WORD..]`.
 pub(crate) const TPUT: CommandLine<'static> = CommandLine {
     name: "ti-tput",
-    about: "Write what drives a terminal: a capability of its entry.",
+    about: "Print a capability of a terminal, to set it up or to control it.",
     arguments: &[
         Argument {
             id: "keep",
             form: Form::Flag('x'),
-            help: "Keep the lines above the screen at 'clear', as ever",
+            help: "Do not clear the scrollback at 'clear' (the default)",
         },
         Argument {
             id: "term",
@@ -52,11 +52,11 @@ pub(crate) const TPUT: CommandLine<'static> = CommandLine {
     ],
     notes: "\
 The first WORD is a capability of terminfo(5), a user-defined one of the entry,
-longname, init or reset. The entry is looked for in the directories that
+longname, init or reset. The entry is searched for in the directories that
 'ti-infocmp -D' prints.
 
 Exit status:
-  0    what was asked for was written, or the boolean is there
+  0    the capability was printed, or the boolean is set
   1    the boolean or the string is absent
   2    bad usage, or no terminal is named
   3    the terminal is unknown, or its entry is bad or cannot be read

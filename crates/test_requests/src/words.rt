@@ -1,4 +1,5 @@
 //! Worked command lines, with answers from the manuals and by hand.
+mod fmt_words;
 mod infocmp_words;
 mod said;
 mod tput_words;
@@ -39,13 +40,15 @@ fn refusal(alloc: Global, tool: Tool, texts: &[&str]) -> Result<(bool, String), 
 }
 
 // Names by which the program may be called, and the tools.
-const CALLED: [(&str, Option<Tool>); 9] = [
+const CALLED: [(&str, Option<Tool>); 11] = [
     ("ti-tic", Some(Tool::Tic)),
     ("/usr/bin/tic", Some(Tool::Tic)),
     ("./ti-infocmp", Some(Tool::Infocmp)),
     ("infocmp", Some(Tool::Infocmp)),
     ("a/b/ti-tput", Some(Tool::Tput)),
     ("tput", Some(Tool::Tput)),
+    ("bin/ti-fmt", Some(Tool::Fmt)),
+    ("fmt", None),
     ("ti", None),
     ("ti-everyday", None),
     ("", None),

@@ -66,8 +66,11 @@ fn output<R: Clock + Files + AllocGlobal>(
     Ok(unnamed_output(rt.alloc(), environment, is_writable)?)
 }
 
-// The bytes of the source.
-fn source<R: Files + Input + AllocGlobal>(rt: &R, path: Option<&str>) -> Result<Vec<u8>, Stop> {
+/// The bytes of the file at `path`, or of standard input if there is none.
+///
+/// # Errors
+/// That it cannot be read, with what the system says; out of memory.
+pub fn source<R: Files + Input + AllocGlobal>(rt: &R, path: Option<&str>) -> Result<Vec<u8>, Stop> {
     match read_whole(rt, rt.alloc(), path) {
         Ok(source) => Ok(source),
         Err(error) if error.kind() == io::ErrorKind::OutOfMemory => Err(Stop::memory()),

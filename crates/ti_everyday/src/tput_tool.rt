@@ -5,13 +5,14 @@ use crate::output::print_bytes;
 use crate::stopping::Stop;
 use everyday_directories::read;
 use everyday_entries::{Failure, Found, Tool, capability_line, named_file};
-use everyday_tput::{Entry, tput, tput_lines};
+use everyday_tput::{Entry, needs_extension, tput, tput_lines};
 use everyday_words::TputRequest;
 use std::io;
 use std::rt::{Clock, Env, Files};
 use ti_caps::find;
-use tools_devices::Counted;
+use tools_devices::{Counted, ToolError};
 use tools_disk::DiskTree;
+use user_extension::ExtensionError;
 
 /// Writes to standard output what the words ask of a terminal, or what each line of standard input
 /// asks. The terminal is that of the request, else that of `TERM`. Returns the status of the
@@ -25,14 +26,52 @@ pub fn run<R: Clock + Env + Files + Input + Print + Eprint + AllocGlobal>(
 ) -> Result<u8, Stop> {
     let name = terminal_name(rt, request.term.as_deref())?;
     let file = entry_file(rt, name.as_str())?;
-    let entry = match read(file.bytes.as_slice()) {
-        Ok((view, extension)) => Entry { view, extension },
-        Err(why) => return Err(Stop::of(Failure::BadEntry(file.path, why))),
-    };
+    let words = words(rt, request)?;
     if request.lines {
-        return write_lines(rt, &entry, request.rate);
+        return write_lines(rt, &whole_entry(rt, &file)?, request.rate);
     }
-    write_command(rt, &entry, request)
+    let entry = entry(rt, &file, words.as_slice())?;
+    write_command(rt, &entry, words.as_slice(), request)
+}
+
+// The words of the command as bytes.
+fn words<'a, R: AllocGlobal>(rt: &R, request: &'a TputRequest) -> Result<Vec<&'a [u8]>, Stop> {
+    let mut words = Vec::new(rt.alloc());
+    for word in &request.words {
+        if words.push(word.as_bytes()).is_err() {
+            return Err(Stop::memory());
+        }
+    }
+    Ok(words)
+}
+
+// The entry of a file, with its user-defined capabilities only if the words may ask for one: there
+// are often as many as there are others.
+fn entry<'a, R: AllocGlobal>(rt: &R, file: &'a Found, words: &[&[u8]]) -> Result<Entry<'a>, Stop> {
+    if needs_extension(words) {
+        return whole_entry(rt, file);
+    }
+    match tools_devices::entry(file.bytes.as_slice()) {
+        Ok(view) => Ok(Entry::of_tables(view)),
+        Err(ToolError::BadEntry(why)) => Err(bad_entry(rt, file, ExtensionError::Entry(why))),
+        Err(error) => Err(Stop::of(Failure::Stopped(error))),
+    }
+}
+
+// The entry of a file, with its user-defined capabilities.
+fn whole_entry<'a, R: AllocGlobal>(rt: &R, file: &'a Found) -> Result<Entry<'a>, Stop> {
+    match read(file.bytes.as_slice()) {
+        Ok((view, extension)) => Ok(Entry { view, extension }),
+        Err(why) => Err(bad_entry(rt, file, why)),
+    }
+}
+
+// That a file is not an entry, and why.
+fn bad_entry<R: AllocGlobal>(rt: &R, file: &Found, why: ExtensionError) -> Stop {
+    match String::from_str(rt.alloc(), file.path.as_str()) {
+        Ok(path) => Stop::of(Failure::BadEntry(path, why)),
+        Err(_) => Stop::memory(),
+    }
 }
 
 // The name of the terminal: that of `-T`, else that of `TERM`.
@@ -74,15 +113,10 @@ fn write_lines<R: Input + Print + AllocGlobal>(
 fn write_command<R: Print + Eprint + AllocGlobal>(
     rt: &R,
     entry: &Entry<'_>,
+    words: &[&[u8]],
     request: &TputRequest,
 ) -> Result<u8, Stop> {
-    let mut words = Vec::new(rt.alloc());
-    for word in &request.words {
-        if words.push(word.as_bytes()).is_err() {
-            return Err(Stop::memory());
-        }
-    }
-    let outcome = match tput(rt.alloc(), entry, words.as_slice(), request.rate) {
+    let outcome = match tput(rt.alloc(), entry, words, request.rate) {
         Ok(outcome) => outcome,
         Err(error) => return Err(Stop::of(Failure::Stopped(error))),
     };

@@ -4,13 +4,15 @@ use Rattle.clap.specs.Walk.{Rule, Text}
 use Rattle.clap.specs.declared.builder.texts.Texts.{Texts}
 use Rattle.clap.specs.declared.builder.texts.Texts.TheVariants.{One}
 use Rattle.tools_commands.specs.Rules.{choice_rule, flag_rule, long_number_rule, number_rule, operand_rule, operands_rule, option_rule}
+use Rattle.everyday_words.specs.Commands.{long_flag_rule}
 use Rattle.everyday_words.specs.declared.rules.Argument.{Argument}
 use Rattle.everyday_words.specs.declared.rules.Form.{Form}
-use Rattle.everyday_words.specs.declared.rules.Form.TheVariants.{Choice, Flag, LongNumber, Number, Operand, Operands, Value}
+use Rattle.everyday_words.specs.declared.rules.Form.TheVariants.{Choice, Flag, LongFlag, LongNumber, Number, Operand, Operands, Value}
 
 -- an argument that is given so
 abbrev pub form_rule : Text → Form → Rule
 form_rule id (Flag short) = flag_rule id short
+form_rule id LongFlag = long_flag_rule id
 form_rule id (Value short value) = option_rule id short
 form_rule id (Number short value least greatest) = number_rule id short least greatest
 form_rule id (LongNumber value least greatest) = long_number_rule id least greatest

@@ -1,0 +1,2 @@
+pub mod Formatted
+pub mod Printed

@@ -1,0 +1,25 @@
+//! A source in its layout, if it has another.
+ghost use Rattle.std.specs.Prelude.{◌≡◌, ◌≢◌, IfOk, MatchOption};
+ghost use Rattle.lsp_format.specs.Layout.{formatted_text};
+
+use lsp_format::formatted;
+use std::alloc::{AllocError, Global};
+
+/// A source in its layout, if it has another.
+///
+/// # Errors
+/// Out of memory.
+pub(crate) fn changed_text(
+    alloc: Global,
+    width: usize,
+    source: &[u8],
+) -> Result<Option<Vec<u8>>, AllocError>
+    ensures { IfOk result (λ changed. MatchOption changed (formatted_text width source.now ≡ source.now)
+        (λ text. (text.items ≡ formatted_text width source.now) × (formatted_text width source.now ≢ source.now))) }
+{
+    let text = formatted(alloc, width, source)?;
+    if text.as_slice() == source {
+        return Ok(None);
+    }
+    Ok(Some(text))
+}

@@ -1,0 +1,77 @@
+//! What comes of files, and of standard input.
+ghost use Rattle.std.specs.Prelude.{IfOk, OnErr, map, true};
+ghost use Rattle.std.specs.String.{string_bytes};
+ghost use Rattle.everyday_fmt.specs.Fates.{StopsAmong, held};
+ghost use Rattle.everyday_fmt.specs.Tool.{ComesOfFiles, IsOutcomeOfInput, PrintsInput};
+ghost use Rattle.lsp_format.specs.Layout.{formatted_text};
+
+use crate::changes::changed_text;
+use crate::files::format_each;
+use crate::options::{FmtOptions, FmtOutcome};
+use crate::reasons::ReasonedTree;
+use crate::report::{error_lines, name_lines, status_of};
+use lsp_format::formatted;
+use std::alloc::{AllocError, Global};
+
+/// Gives each of these files its layout, in order, or, with `check`, finds out whether it has it. A
+/// file is read whole before anything is written, and is not written if it has its layout. A file
+/// that cannot be read or written is reported, and the others are still done.
+///
+/// # Errors
+/// Out of memory: the files up to some have their layouts, and of the others at most the next one
+/// has changed.
+pub fn format_files<T: ReasonedTree>(
+    alloc: Global,
+    tree: &mut T,
+    options: FmtOptions,
+    paths: &[String],
+) -> Result<FmtOutcome, AllocError>
+    ensures done { IfOk result (ComesOfFiles options (map string_bytes paths.now) (held T.files T.failures T.cause tree.old) (held T.files T.failures T.cause tree.new)) }
+    ensures refused { OnErr result (StopsAmong options (map string_bytes paths.now) (held T.files T.failures T.cause tree.old) (T.files tree.new)) }
+{
+    let done = format_each(alloc, tree, options, paths)?;
+    Ok(FmtOutcome {
+        output: name_lines(alloc, options.check, done.as_slice())?,
+        errors: error_lines(alloc, done.as_slice())?,
+        status: status_of(options.check, done.as_slice()),
+    })
+}
+
+// What comes of standard input that is only checked.
+fn checked_input(alloc: Global, width: usize, source: &[u8]) -> Result<FmtOutcome, AllocError>
+    ensures { IfOk result (PrintsInput true (formatted_text width source.now) source.now) }
+{
+    let mut output = Vec::new(alloc);
+    let mut status = 0;
+    if changed_text(alloc, width, source)?.is_some() {
+        output.extend_from_slice(b"<stdin>\n")?;
+        status = 1;
+    }
+    Ok(FmtOutcome {
+        output,
+        errors: Vec::new(alloc),
+        status,
+    })
+}
+
+/// What comes of standard input: the source in its layout, or, with `check`, the name `<stdin>` if
+/// it has another layout.
+///
+/// # Errors
+/// Out of memory.
+pub fn format_input(
+    alloc: Global,
+    options: FmtOptions,
+    source: &[u8],
+) -> Result<FmtOutcome, AllocError>
+    ensures { IfOk result (IsOutcomeOfInput options source.now) }
+{
+    if options.check {
+        return checked_input(alloc, options.width, source);
+    }
+    Ok(FmtOutcome {
+        output: formatted(alloc, options.width, source)?,
+        errors: Vec::new(alloc),
+        status: 0,
+    })
+}

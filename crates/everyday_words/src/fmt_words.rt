@@ -1,0 +1,110 @@
+//! What the words after `ti-fmt` are, for clap, and what they ask for.
+ghost use Rattle.std.specs.Prelude.{◌≡◌, codes, map};
+ghost use Rattle.clap.specs.Words.{first_of};
+ghost use Rattle.tools_commands.specs.Matches.{matched_rows};
+ghost use Rattle.everyday_words.specs.FmtWords.{columns_for, fmt_asked, fmt_with, is_dash};
+ghost use Rattle.everyday_words.specs.inside.Answers.{Answers};
+
+use crate::commands::CommandLine;
+use crate::infocmp_words::{WIDTH_MAX, WIDTH_MIN, width_in};
+use crate::matches::{is_on, texts, value, values};
+use crate::mistakes::NoRequest;
+use crate::requests::{FmtRequest, Request};
+use crate::rules::{Argument, Form};
+use clap::ArgMatches;
+use std::alloc::Global;
+use tools_commands::Mistake;
+
+// How many columns a line has at most, if it is not said.
+const COLUMNS: usize = 80;
+
+/// `ti-fmt [--check] [-w N] [FILE..|-]`.
+pub(crate) const FMT: CommandLine<'static> = CommandLine {
+    name: "ti-fmt",
+    about: "Give terminfo sources the layout of a listing.",
+    arguments: &[
+        Argument {
+            id: "check",
+            form: Form::LongFlag,
+            help: "Print the names of files that would change, and write none",
+        },
+        Argument {
+            id: "width",
+            form: Form::Number('w', "N", WIDTH_MIN as u64, WIDTH_MAX as u64),
+            help: "Lines of at most N columns, from 20 to 4096 [default: 80]",
+        },
+        Argument {
+            id: "files",
+            form: Form::Operands("FILE"),
+            help: "The sources, or - [default: standard input]",
+        },
+    ],
+    notes: "\
+The names of an entry get a line of their own. Items stay in their order, on
+lines that begin with a tab; booleans, numbers, strings and 'use=' begin lines.
+Comments and blank lines stay as they are. The source means what it meant.
+Each file that has another layout is replaced whole. Standard input is written
+to standard output.
+
+Exit status:
+  0  all sources were read, and have their layout
+  1  with --check, a source has another layout; or a file or a stream failed
+  2  bad usage
+
+Examples:
+  ti-fmt mine.ti
+  ti-fmt --check *.ti
+  ti-infocmp -x mine | ti-fmt -w 72",
+};
+
+// The columns of a line, as the options say; `None` if they say none that may be asked for.
+fn columns_of(matches: &ArgMatches<'_>) -> Option<usize>
+    ensures { result ≡ columns_for (first_of (codes "width") (matched_rows matches.now)) }
+{
+    match value(matches, "width") {
+        Some(text) => width_in(text),
+        None => Some(COLUMNS),
+    }
+}
+
+// Whether these are `-` alone, which stands for standard input.
+fn is_dash(paths: &[&str]) -> bool
+    ensures { result ≡ is_dash (map (λ path. path.now) paths.now) }
+{
+    match paths {
+        [path] => *path == "-",
+        _ => false,
+    }
+}
+
+// What these matches ask for with these paths.
+fn fmt_of(alloc: Global, matches: &ArgMatches<'_>, paths: &[&str]) -> Result<Request, NoRequest>
+    ensures { Answers (fmt_with (matched_rows matches.now) (map (λ path. path.now) paths.now)) result }
+{
+    let Some(width) = columns_of(matches) else {
+        return Err(NoRequest::Wrong(Mistake::NoCommandLine));
+    };
+    let files = if is_dash(paths) {
+        Vec::new(alloc)
+    } else {
+        texts(alloc, paths)?
+    };
+    Ok(Request::Fmt(FmtRequest {
+        check: is_on(matches, "check"),
+        width,
+        files,
+    }))
+}
+
+/// What these matches ask of `ti-fmt`.
+///
+/// # Errors
+/// `Memory` if memory ran out.
+pub(crate) fn fmt_request(alloc: Global, matches: &ArgMatches<'_>) -> Result<Request, NoRequest>
+    ensures { Answers (fmt_asked (matched_rows matches.now)) result }
+{
+    match values(matches, "files") {
+        Some(paths) => fmt_of(alloc, matches, paths),
+        None => fmt_of(alloc, matches, &[]),
+    }
+}
