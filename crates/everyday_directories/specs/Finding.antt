@@ -8,7 +8,7 @@ use Rattle.tools_devices.specs.Searching.{file_bytes_max}
 use Rattle.tools_devices.specs.Tree.{FileAt, Files, FindsFile}
 use Rattle.tools_devices.specs.declared.tool_error.ToolError.{ToolError}
 use Rattle.tools_devices.specs.declared.tool_error.ToolError.TheVariants.{NoTerminal, Memory}
-use Rattle.everyday_directories.specs.Paths.{paths_of}
+use Rattle.everyday_directories.specs.Paths.{letter_paths_of, paths_of}
 use Rattle.everyday_directories.specs.declared.finding.Found.{Found}
 
 -- how many bytes of a file are looked at: one more than an entry may have
@@ -64,3 +64,8 @@ first_at files (path ∷ paths) = option_or (option_map (λ bytes. (path, take f
 -- a search of which no read failed finds the first file
 abbrev pub FindsTheFirst : Type 0
 FindsTheFirst = (files : Files) (paths : List (List ℕ)) (file : Option FileAt) → Searches (Some files) paths 0 file → file ≡ first_at files paths
+
+-- a file that is found by the letter is the one that is found, in whichever of the directories it is
+abbrev pub LettersComeFirst : Type 0
+LettersComeFirst = (files : Files) (name : List ℕ) (directories : List (List ℕ)) (file : FileAt) → first_at files (letter_paths_of name directories) ≡ Some file
+    → first_at files (paths_of name directories) ≡ Some file

@@ -1,7 +1,6 @@
 -- The files that may have the entry of a name (term(5), "Storage location": directories are named by
 -- a letter, or, on systems whose file names have no case, by its code in hexadecimal).
-use Rattle.std.specs.Prelude.{ℕ, ◌+◌, ◌-◌, ◌/◌, ◌%◌, nat_lt, if◌then◌else◌, List, [], ◌∷◌, ◌++◌, slice_index}
-use Rattle.std.specs.List.{flat_map}
+use Rattle.std.specs.Prelude.{ℕ, ◌+◌, ◌-◌, ◌/◌, ◌%◌, nat_lt, if◌then◌else◌, List, [], ◌∷◌, ◌++◌, map, slice_index}
 use Rattle.ti_text.specs.Ascii as ascii
 use Rattle.tools_devices.specs.Paths.{path_of}
 
@@ -17,10 +16,15 @@ hex_of byte = hex_digit (byte / 16) ∷ hex_digit (byte % 16) ∷ []
 abbrev pub hexadecimal_path_of : List ℕ → List ℕ → List ℕ
 hexadecimal_path_of directory name = directory ++ ascii.slash ∷ hex_of (slice_index name 0) ++ ascii.slash ∷ name
 
--- the files below one directory, in order
-abbrev pub paths_below : List ℕ → List ℕ → List (List ℕ)
-paths_below name directory = path_of directory name ∷ hexadecimal_path_of directory name ∷ []
+-- the files below directories named by a letter, one below each of the directories
+abbrev pub letter_paths_of : List ℕ → List (List ℕ) → List (List ℕ)
+letter_paths_of name directories = map (λ directory. path_of directory name) directories
 
--- the files below each of the directories, in order
+-- the files below directories named in hexadecimal, likewise
+abbrev pub hexadecimal_paths_of : List ℕ → List (List ℕ) → List (List ℕ)
+hexadecimal_paths_of name directories = map (λ directory. hexadecimal_path_of directory name) directories
+
+-- the files that may have the entry, in order: by the letter in all directories, and only then in
+-- hexadecimal, so that what ncurses finds on Debian, where it reads none of these, is found first
 abbrev pub paths_of : List ℕ → List (List ℕ) → List (List ℕ)
-paths_of name directories = flat_map (paths_below name) directories
+paths_of name directories = letter_paths_of name directories ++ hexadecimal_paths_of name directories

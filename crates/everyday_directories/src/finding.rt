@@ -1,9 +1,11 @@
 //! The file of a terminal's entry.
-ghost use Rattle.std.specs.Prelude.{◌≡◌, IfOk, OnErr, map, option_map};
+ghost use Rattle.std.specs.Prelude.{◌≡◌, ◌<◌, All, IfOk, OnErr, length, map, option_map};
 ghost use Rattle.std.specs.String.{string_bytes};
+ghost use Rattle.ti_text.specs.Ascii as ascii;
+ghost use Rattle.everyday_directories.specs.Paths.{paths_of};
 ghost use Rattle.everyday_directories.specs.Finding.{Finds, FindsEntry, HasFailed, file_of};
 
-use crate::paths::entry_paths;
+use crate::paths::{hexadecimal_paths, letter_paths};
 use std::alloc::{AllocError, Global};
 use ti_source::is_lookup_name;
 use tools_devices::{ToolError, Tree, TreeFault};
@@ -45,8 +47,31 @@ fn search<T: Tree>(
     Ok(None)
 }
 
-/// The file of a terminal's entry: the first at the paths of [`crate::entry_paths`] that there is.
-/// A path is passed over if there is no file, or if the tree fails to read it, as for a directory
+// The first of the files of a name that there is: by its letter in all directories, and only then in
+// hexadecimal.
+fn search_all<T: Tree>(
+    alloc: Global,
+    tree: &mut T,
+    name: &[u8],
+    directories: &[String],
+) -> Result<Option<Found>, AllocError>
+    requires some { 0 < length name.now }
+    requires ascii { All (λ byte. byte < ascii.size) name.now }
+    ensures found { IfOk result (λ found. Finds (T.files tree.old) (paths_of name.now (map string_bytes directories.now))
+        (T.failures tree.old) (T.failures tree.new) (option_map file_of found)) }
+    ensures kept { T.files tree.new ≡ T.files tree.old }
+    ensures failed { OnErr result (HasFailed (T.failures tree.old) (T.failures tree.new)) }
+{
+    let letters = letter_paths(alloc, name, directories)?;
+    if let Some(found) = search(alloc, tree, letters.as_slice())? {
+        return Ok(Some(found));
+    }
+    let others = hexadecimal_paths(alloc, name, directories)?;
+    search(alloc, tree, others.as_slice())
+}
+
+/// The file of a terminal's entry: the first that there is at the paths of
+/// [`crate::letter_paths`], or else at those of [`crate::hexadecimal_paths`]. A path is passed over if there is no file, or if the tree fails to read it, as for a directory
 /// that may not be searched.
 ///
 /// # Errors
@@ -66,10 +91,7 @@ pub fn find<T: Tree>(
     if !is_lookup_name(name) {
         return Err(ToolError::NoTerminal);
     }
-    let Ok(paths) = entry_paths(alloc, name, directories) else {
-        return Err(ToolError::Memory);
-    };
-    match search(alloc, tree, paths.as_slice()) {
+    match search_all(alloc, tree, name, directories) {
         Ok(Some(found)) => Ok(found),
         Ok(None) => Err(ToolError::NoTerminal),
         Err(_) => Err(ToolError::Memory),

@@ -11,10 +11,12 @@
 //! - `environment`: the variables that say where entries are (`Environment`)
 //! - `directories`: the directories in which an entry is looked for, in order (`entry_directories`)
 //! - `outputs`: the directory into which entries are written (`named_output`, `unnamed_output`)
-//! - `paths`: the files that may have the entry of a name (`entry_paths`)
+//! - `paths`: the files that may have the entry of a name, below directories named by a letter
+//!   (`letter_paths`) and in hexadecimal (`hexadecimal_paths`)
 //! - `finding`: the first of them that there is (`find`, which gives a `Found`)
 //! - `reading`: the entry that its bytes are, with its user-defined capabilities (`read`)
-//! - `laws`: each directory is listed once, and a search without a failure finds the first file
+//! - `laws`: each directory is listed once, a search without a failure finds the first file, by the
+//!   letter if there is one, and what is user-defined changes nothing else of an entry
 #![tactic(auto)]
 
 mod directories;
@@ -29,5 +31,5 @@ pub use directories::entry_directories;
 pub use environment::Environment;
 pub use finding::{Found, find};
 pub use outputs::{SYSTEM_OUTPUT, named_output, unnamed_output};
-pub use paths::entry_paths;
+pub use paths::{hexadecimal_paths, letter_paths};
 pub use reading::read;

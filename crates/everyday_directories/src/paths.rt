@@ -2,7 +2,7 @@
 ghost use Rattle.std.specs.Prelude.{◌≡◌, ◌<◌, ◌++◌, All, IfOk, OnOk, length, map};
 ghost use Rattle.std.specs.String.{string_bytes};
 ghost use Rattle.ti_text.specs.Ascii as ascii;
-ghost use Rattle.everyday_directories.specs.Paths.{hex_digit, hexadecimal_path_of, paths_below, paths_of};
+ghost use Rattle.everyday_directories.specs.Paths.{hex_digit, hexadecimal_path_of, hexadecimal_paths_of, letter_paths_of};
 
 use std::alloc::{AllocError, Global};
 use tools_devices::entry_path;
@@ -47,39 +47,44 @@ fn hexadecimal_path(alloc: Global, directory: &str, name: &[u8]) -> Result<Strin
     Ok(path)
 }
 
-// Adds the files below one directory.
-fn add_paths(
-    alloc: Global,
-    paths: &mut Vec<String>,
-    name: &[u8],
-    directory: &str,
-) -> Result<(), AllocError>
-    requires some { 0 < length name.now }
-    requires ascii { All (λ byte. byte < ascii.size) name.now }
-    ensures { OnOk result (map string_bytes paths.new.items ≡ map string_bytes paths.old.items ++ paths_below name.now directory.now) }
-{
-    paths.push(entry_path(alloc, directory, name)?)?;
-    paths.push(hexadecimal_path(alloc, directory, name)?)?;
-    Ok(())
-}
-
-/// The files that may have the entry of a name, in order: below each directory `D` first `D/c/n`
-/// and then `D/h/n`, if `n` is the name, `c` its first byte, and `h` that byte in hexadecimal.
+/// The files that may have the entry of a name, below directories named by a letter: `D/c/n` below
+/// each directory `D`, in order, if `n` is the name and `c` its first byte.
 ///
 /// # Errors
 /// `AllocError` if memory ran out.
-pub fn entry_paths(
+pub fn letter_paths(
     alloc: Global,
     name: &[u8],
     directories: &[String],
 ) -> Result<Vec<String>, AllocError>
     requires some { 0 < length name.now }
     requires ascii { All (λ byte. byte < ascii.size) name.now }
-    ensures { IfOk result (λ paths. map string_bytes paths.items ≡ paths_of name.now (map string_bytes directories.now)) }
+    ensures { IfOk result (λ paths. map string_bytes paths.items ≡ letter_paths_of name.now (map string_bytes directories.now)) }
 {
     let mut paths = Vec::new(alloc);
     for directory in directories {
-        add_paths(alloc, &mut paths, name, directory.as_str())?;
+        paths.push(entry_path(alloc, directory.as_str(), name)?)?;
+    }
+    Ok(paths)
+}
+
+/// The files that may have the entry of a name, below directories named in hexadecimal: `D/h/n`
+/// below each directory `D`, in order, if `n` is the name and `h` its first byte in hexadecimal.
+///
+/// # Errors
+/// `AllocError` if memory ran out.
+pub fn hexadecimal_paths(
+    alloc: Global,
+    name: &[u8],
+    directories: &[String],
+) -> Result<Vec<String>, AllocError>
+    requires some { 0 < length name.now }
+    requires ascii { All (λ byte. byte < ascii.size) name.now }
+    ensures { IfOk result (λ paths. map string_bytes paths.items ≡ hexadecimal_paths_of name.now (map string_bytes directories.now)) }
+{
+    let mut paths = Vec::new(alloc);
+    for directory in directories {
+        paths.push(hexadecimal_path(alloc, directory.as_str(), name)?)?;
     }
     Ok(paths)
 }

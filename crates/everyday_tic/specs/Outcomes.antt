@@ -15,7 +15,8 @@ use Rattle.user_values.specs.Limit.{IsOverLimitAt, name_count, name_limit}
 use Rattle.everyday_tic.specs.Entries.{AreStatesBy, entry_count, first_files}
 use Rattle.everyday_tic.specs.Messages.{problem_line, unknown_lines}
 use Rattle.everyday_report.specs.Report.{At, fault_lines, has_error, said}
-use Rattle.everyday_report.specs.Sentences.{block_too_long, too_many_blocks, too_many_names}
+use Rattle.everyday_report.specs.Sentences.{too_many_names}
+use Rattle.lsp_spans.specs.Sentences.{block_too_long, too_many_blocks}
 use Rattle.everyday_sources.specs.Source.{plain_source}
 use Rattle.everyday_sources.specs.Used.{ProblemSeen, TakesUsed}
 use Rattle.everyday_tic.specs.declared.options.TicOptions.{TicOptions}

@@ -1,5 +1,5 @@
 -- What `ti-tic` writes (tic(1)): what is said, the files, and at `-s` how many entries they are of.
-use Rattle.std.specs.Prelude.{◌≡◌, ◌⊎◌, ℕ, Bool, List, [], ◌∷◌, ◌++◌, codes, Option, Some, slice_get, Result, Ok, Err, if◌then◌else◌}
+use Rattle.std.specs.Prelude.{◌≡◌, ◌⊎◌, ℕ, Bool, List, [], ◌∷◌, ◌++◌, ◌&&◌, not, codes, Option, Some, slice_get, Result, Ok, Err, if◌then◌else◌}
 use Rattle.std.specs.Fmt.{decimal}
 use Rattle.std.specs.List.{concat}
 use Rattle.std.specs.String.{string_bytes}
@@ -18,6 +18,10 @@ summary entries directory = concat (decimal entries ∷ codes " entries written 
 -- the line of `-s`, if it is asked for
 abbrev pub summary_if : Bool → ℕ → List ℕ → List ℕ
 summary_if asked entries directory = if asked then summary entries directory else []
+
+-- whether the line of `-s` is said: not if the source is only checked, as ncurses's `tic` does (tried)
+abbrev pub says_summary : Asked → Bool → Bool
+says_summary asked summarizes = summarizes && not asked.check
 
 -- The report of what comes of a source is said, then its files are written in order, and then the
 -- line of `-s` is said. It stops where a device fails: at the report no file is written; at a file
@@ -40,4 +44,4 @@ abbrev pub Runs : Asked → Bool → List (List ℕ) → List ℕ → List ℕ �
 Runs asked summarizes directories file source before after failures said now result =
     ((result ≡ Err Memory) × (after ≡ before) × (now ≡ said))
     ⊎ ((made : Made) × (between : ℕ) × ComesOfPlain asked before directories file (plain_source source) failures between made
-    × WritesOut summarizes asked.directory made before after said now result)
+    × WritesOut (says_summary asked summarizes) asked.directory made before after said now result)

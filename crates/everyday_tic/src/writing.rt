@@ -129,7 +129,8 @@ pub fn write<T: Tree, W: Write>(
 }
 
 /// Compiles a source by [`tic`] and writes what comes of it by [`write`]. Nothing is written before
-/// all of the source was read. Returns the status.
+/// all of the source was read, and nothing is said about entries if it is only checked. Returns the
+/// status.
 ///
 /// # Errors
 /// As [`write`]; `Memory` also if nothing was compiled, and then nothing is written.
@@ -147,7 +148,17 @@ pub fn run<T: Tree, W: Write>(
         (T.failures tree.old) (observation W.contents errors.old) (observation W.contents errors.new) result }
 {
     match tic(alloc, tree, directories, file, source, options) {
-        Ok(outcome) => write(alloc, tree, errors, &outcome, options.directory, summarizes),
+        Ok(outcome) => {
+            let says_summary = summarizes && !options.check;
+            write(
+                alloc,
+                tree,
+                errors,
+                &outcome,
+                options.directory,
+                says_summary,
+            )
+        }
         Err(_) => Err(TicStop::Memory),
     }
 }

@@ -1,4 +1,4 @@
 -- Lemmas of this crate.
 pub mod Answered
 pub mod Lines
-pub mod Sent
+pub mod WithoutExtension

@@ -1,6 +1,6 @@
 -- The result of a `tput` command for an entry with user-defined capabilities (tput(1),
 -- user_caps(5)).
-use Rattle.std.specs.Prelude.{◌≡◌, ℕ, ◌<◌, ◌≤◌, ◌||◌, Bool, if◌then◌else◌, Option, Some, None, is_some, Result, Ok, Err, ℤ}
+use Rattle.std.specs.Prelude.{◌≡◌, ℕ, ◌<◌, ◌≤◌, ◌||◌, Bool, false, not, if◌then◌else◌, Option, Some, None, is_some, Result, Ok, Err, ℤ}
 use Rattle.std.specs.Prelude.{List, [], ◌∷◌, length, codes, bytes_eq}
 use Rattle.ti_text.specs.Limits.{parameters_max}
 use Rattle.ti_caps.specs.Tables.{capability_named}
@@ -27,6 +27,10 @@ pub record FullEntry : Type 0 where
 abbrev pub full_entry : declared.Entry → FullEntry
 full_entry e = record { entry = entry_seen e.view; rows = read_rows e.extension }
 
+-- an entry without user-defined capabilities
+abbrev pub without_extension : Entry → FullEntry
+without_extension entry = record { entry = entry; rows = [] }
+
 -- whether `tput` has an answer of its own for a name
 abbrev pub is_own_name : List ℕ → Bool
 is_own_name cap = bytes_eq cap (codes "longname") || bytes_eq cap (codes "init") || bytes_eq cap (codes "reset")
@@ -40,6 +44,12 @@ defined e cap = if is_own_name cap || is_some (capability_named cap) then None e
 abbrev pub defined_first : FullEntry → List (List ℕ) → Option Content
 defined_first e [] = None
 defined_first e (cap ∷ words) = defined e cap
+
+-- whether the answer to a command may depend on what is user-defined: its name is in no table, and
+-- `tput` has no answer of its own for it
+abbrev pub needs_extension : List (List ℕ) → Bool
+needs_extension [] = false
+needs_extension (cap ∷ words) = not (is_own_name cap || is_some (capability_named cap))
 
 -- what is answered of a user-defined capability, by what the entry has of it: nothing is written of
 -- a boolean; a number is written with a newline; a string as one of the tables is
@@ -71,3 +81,11 @@ AnswersCommand e rate statics words (Ok outcome) = (after : List ℤ) × Answers
 AnswersCommand e rate statics words (Err Usage) = Answers e rate statics words None
 AnswersCommand e rate statics words (Err Memory) = IsCommand words
 AnswersCommand e rate statics words (Err _) = ⊥
+
+-- ---- laws
+
+-- If it may not, the answer is the same whatever user-defined capabilities the entry has.
+abbrev pub TablesNeedNoExtension : Type 0
+TablesNeedNoExtension =
+    (e other : FullEntry) (rate : ℕ) (statics : List ℤ) (words : List (List ℕ)) (result : Result TputOutcome ToolError) → e.entry ≡ other.entry
+    → needs_extension words ≡ false → AnswersCommand e rate statics words result → AnswersCommand other rate statics words result

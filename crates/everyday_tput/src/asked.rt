@@ -1,6 +1,6 @@
 //! What a name asks of an entry.
-ghost use Rattle.std.specs.Prelude.{◌≡◌};
-ghost use Rattle.everyday_tput.specs.Answers.{full_entry, is_own_name};
+ghost use Rattle.std.specs.Prelude.{◌≡◌, map};
+ghost use Rattle.everyday_tput.specs.Answers.{full_entry, is_own_name, needs_extension};
 ghost use Rattle.everyday_tput.specs.inside.Asked.{IsAsked, IsTableText};
 
 use crate::entry::Entry;
@@ -56,5 +56,16 @@ pub fn what_is_asked<'a>(entry: &Entry<'a>, cap: &[u8]) -> Asked<'a>
         Some(Content::Text(text)) => Asked::Text(text),
         Some(Content::Cancelled) => Asked::Other,
         None => Asked::Other,
+    }
+}
+
+/// Whether the answer to a command may depend on the user-defined capabilities of an entry: its
+/// first word is in no table, and is neither `longname`, `init` nor `reset`.
+pub fn needs_extension(words: &[&[u8]]) -> bool
+    ensures { result ≡ needs_extension (map (λ word. word.now) words.now) }
+{
+    match words.first() {
+        Some(cap) => !is_own_name(cap) && find(cap).is_none(),
+        None => false,
     }
 }

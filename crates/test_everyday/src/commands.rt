@@ -1,6 +1,6 @@
 //! Worked commands of `tput` with user-defined capabilities.
 use everyday_directories::read;
-use everyday_tput::{Entry, tput, tput_lines};
+use everyday_tput::{Entry, needs_extension, tput, tput_lines};
 use std::alloc::Global;
 use std::process::Abort;
 use std::test::Fail;
@@ -52,6 +52,32 @@ fn user_defined_names_are_answered(rt: HostRuntime) -> Result<(), Fail> {
     for (words, written, status) in COMMANDS {
         expect_outcome(&rt, rt.alloc(), &entry, words, written, status)?;
     }
+    Ok(())
+}
+
+// Words, and whether what they ask for may be user-defined.
+static ASKED: [(&[&[u8]], bool); 6] = [
+    (&[b"Tc"], true),
+    (&[b"nosuch", b"1"], true),
+    (&[b"cols"], false),
+    (&[b"setaf", b"4"], false),
+    (&[b"longname"], false),
+    (&[], false),
+];
+
+#[test]
+fn names_of_the_tables_need_no_extension(rt: HostRuntime) -> Result<(), Fail> {
+    for (words, needs) in ASKED.iter() {
+        assert!(&rt; needs_extension(*words) == *needs, "{words:?}");
+    }
+    Ok(())
+}
+
+#[test]
+fn an_entry_of_the_tables_alone(rt: HostRuntime) -> Result<(), Fail> {
+    let entry = Entry::of_tables(entry()?.view);
+    expect_outcome(&rt, rt.alloc(), &entry, &[b"cols"], b"-1\n", 0)?;
+    expect_outcome(&rt, rt.alloc(), &entry, &[b"Tc"], b"", 4)?;
     Ok(())
 }
 

@@ -1,5 +1,7 @@
 //! Worked searches for an entry.
-use everyday_directories::{Environment, entry_directories, entry_paths, find, read};
+use everyday_directories::{
+    Environment, entry_directories, find, hexadecimal_paths, letter_paths, read,
+};
 use std::alloc::{AllocError, Global};
 use std::process::Abort;
 use ti_layout::ReadError;
@@ -81,12 +83,21 @@ fn directories_by_the_environment(rt: HostRuntime) -> Result<(), AllocError> {
 }
 
 #[test]
-fn the_files_of_a_name(rt: HostRuntime) -> Result<(), AllocError> {
+fn files_below_letters(rt: HostRuntime) -> Result<(), AllocError> {
     let alloc = rt.alloc();
     let directories = strings(alloc, &["/a", "/b"])?;
-    let all = entry_paths(alloc, b"xterm", directories.as_slice())?;
-    let want = ["/a/x/xterm", "/a/78/xterm", "/b/x/xterm", "/b/78/xterm"];
-    let expected = strings(alloc, &want)?;
+    let all = letter_paths(alloc, b"xterm", directories.as_slice())?;
+    let expected = strings(alloc, &["/a/x/xterm", "/b/x/xterm"])?;
+    assert!(&rt; all == expected);
+    Ok(())
+}
+
+#[test]
+fn files_in_hexadecimal(rt: HostRuntime) -> Result<(), AllocError> {
+    let alloc = rt.alloc();
+    let directories = strings(alloc, &["/a", "/b"])?;
+    let all = hexadecimal_paths(alloc, b"xterm", directories.as_slice())?;
+    let expected = strings(alloc, &["/a/78/xterm", "/b/78/xterm"])?;
     assert!(&rt; all == expected);
     Ok(())
 }
@@ -129,12 +140,16 @@ fn the_first_file_is_found(rt: HostRuntime) -> Result<(), ToolError> {
         "/a/6d/mine",
         "/a/b/both",
         "/a/62/both",
+        "/a/6c/later",
+        "/lib/terminfo/l/later",
     ];
     let mut tree = tree_of(alloc, &paths)?;
     let found = Ok("/lib/terminfo/x/xterm");
     expect_found(&rt, alloc, &mut tree, "xterm", found)?;
     expect_found(&rt, alloc, &mut tree, "mine", Ok("/a/6d/mine"))?;
     expect_found(&rt, alloc, &mut tree, "both", Ok("/a/b/both"))?;
+    let letter = Ok("/lib/terminfo/l/later");
+    expect_found(&rt, alloc, &mut tree, "later", letter)?;
     for name in ["nosuch", "no/name", ""] {
         expect_found(&rt, alloc, &mut tree, name, Err(ToolError::NoTerminal))?;
     }

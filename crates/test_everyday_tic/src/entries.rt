@@ -112,21 +112,21 @@ const ROWS: [Row; 10] = [
         source: b"a,U8#1,use=base,\n",
         path: "out/a/a",
         listing: "a,\n\tcols#80,\n",
-        report: "x.ti:1:3: warning: U8: No capability has this name, so it is ignored. Upper and lower case differ, and a comma in a string is written \\,. [W1 UnknownCapability]\n",
+        report: "x.ti:1:3: warning: U8: Unknown capability, so it is ignored. Names are case-sensitive, and a comma in a string is written \\,. [W1 UnknownCapability]\n",
     },
     Row {
         user_defined: false,
         source: b"a,use=bad,\nb,am,\n",
         path: "out/b/b",
         listing: "b,\n\tam,\n",
-        report: "ti-tic: lib/b/bad: bad entry (Short)\nx.ti:1:3: error: bad: No block and no installed entry has this name. Correct it, or put the block in. [E6 MissingUse]\n",
+        report: "ti-tic: lib/b/bad: bad entry (Short)\nx.ti:1:3: error: bad: No block and no installed entry has this name. Correct it, or add the block. [E6 MissingUse]\n",
     },
     Row {
         user_defined: false,
         source: b"a,use=wrong,\n",
         path: "out/a/a",
         listing: "",
-        report: "ti-tic: lib/w/wrong: the entry has other names\nx.ti:1:3: error: wrong: No block and no installed entry has this name. Correct it, or put the block in. [E6 MissingUse]\n",
+        report: "ti-tic: lib/w/wrong: the entry has other names\nx.ti:1:3: error: wrong: No block and no installed entry has this name. Correct it, or add the block. [E6 MissingUse]\n",
     },
     Row {
         user_defined: false,
@@ -140,7 +140,7 @@ const ROWS: [Row; 10] = [
         source: b"a,am,\n\tcols#80, lines#24, bel=^G\\q,\n",
         path: "out/a/a",
         listing: "a,\n\tam,\n\tcols#80, lines#24,\n\tbel=^Gq,\n",
-        report: "x.ti:2:21: warning: bel: This backslash does not begin an escape. Leave it out, or double it. [W3 UnknownEscape]\n",
+        report: "x.ti:2:21: warning: bel: Unknown escape sequence. Remove the backslash, or double it. [W3 UnknownEscape]\n",
     },
 ];
 

@@ -9,7 +9,7 @@ const SOURCE: &[u8] = b"a|b|two names,am,\nc,cols#x,\n";
 
 // What is reported about it before its files are written.
 const SAID: &[u8] =
-    b"x.ti:2:3: error: cols: This is not a number. Write it in decimal, in octal after 0, or in hexadecimal after 0x. [E3 BadNumber]\n";
+    b"x.ti:2:3: error: cols: Invalid number. Write it in decimal, in octal after 0, or in hexadecimal after 0x. [E3 BadNumber]\n";
 
 // A writer that takes nothing.
 #[derive(Drop)]
@@ -26,7 +26,7 @@ impl Write for Closed {
 }
 
 const REPORT: &[u8] =
-    b"x.ti:2:3: error: cols: This is not a number. Write it in decimal, in octal after 0, or in hexadecimal after 0x. [E3 BadNumber]\n1 entries written to out\n";
+    b"x.ti:2:3: error: cols: Invalid number. Write it in decimal, in octal after 0, or in hexadecimal after 0x. [E3 BadNumber]\n1 entries written to out\n";
 
 #[test]
 fn all_is_written(rt: HostRuntime) -> Result<(), AllocError> {
@@ -49,6 +49,29 @@ fn all_is_written(rt: HostRuntime) -> Result<(), AllocError> {
     assert!(&rt; tree.file("out/a/a").is_some());
     assert!(&rt; tree.file("out/b/b").is_some());
     assert!(&rt; tree.file("out/c/c").is_none());
+    Ok(())
+}
+
+#[test]
+fn a_check_says_nothing_of_entries(rt: HostRuntime) -> Result<(), AllocError> {
+    let alloc = rt.alloc();
+    let mut tree = MemTree::new(alloc);
+    let mut errors = Counted::new(Vec::new(alloc));
+    let mut options = options(false, None);
+    options.check = true;
+    let status = run(
+        alloc,
+        &mut tree,
+        &mut errors,
+        &[],
+        "x.ti",
+        SOURCE,
+        &options,
+        true,
+    );
+    assert!(&rt; status == Ok(1));
+    assert!(&rt; errors.into_inner().as_slice() == SAID);
+    assert!(&rt; tree.file("out/a/a").is_none());
     Ok(())
 }
 

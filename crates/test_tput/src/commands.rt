@@ -2,6 +2,7 @@
 mod lines;
 mod parameters;
 mod places;
+mod strings;
 
 use std::alloc::{AllocError, Global};
 use std::process::Abort;

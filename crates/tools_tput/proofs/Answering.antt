@@ -62,6 +62,13 @@ sends : (line : Line) (text : List ℕ) (before after : List ℤ) (o : Option (L
 sends line text before after None asks = refused asks
 sends line text before after (Some bytes) is = sent is
 
+-- of a string that was made so
+pub sends_made : (line : Line) (text : List ℕ) (before after : List ℤ) (o : Option (List ℕ)) → o ≡ padded_text line text
+    → Sends line text before after (sent_reply o before after)
+sends_made line text before after o is =
+    subst (λ (p : Option (List ℕ)). Sends line text before after (sent_reply p before after)) (sym is)
+    (sends line text before after (padded_text line text) (padded_so line text))
+
 sends_computed : (line : Line) (text : List ℕ) (before after : List ℤ) (answer : Reply) → Sends line text before after answer →
     answer ≡ sent_reply (padded_text line text) before after
 sends_computed line text before after _ (sent {bytes} is) = ap (λ o. sent_reply o before after) (padded_text-some line text bytes is.padded is.few)
@@ -95,7 +102,7 @@ expansion_so text arguments statics = by_stuck (stuck_place text) refl
     by_stuck None e = ran e (meaning (tree_of text) (start arguments statics)) refl
     by_stuck (Some place) e = ((is_computed text).stuck place).1 e
 
-string_so : (line : Line) (cap : List ℕ) (words : List (List ℕ)) (statics : List ℤ) (text : List ℕ) →
+pub string_so : (line : Line) (cap : List ℕ) (words : List (List ℕ)) (statics : List ℤ) (text : List ℕ) →
     AnswersString line cap words statics text (string_reply line cap words statics text)
 string_so line cap [] statics text = as_it_stands (sends line text statics statics (padded_text line text) (padded_so line text))
 string_so line cap (word ∷ words) statics text =
@@ -107,7 +114,7 @@ string_so line cap (word ∷ words) statics text =
     of_expansion (bad_format place) h = by_fault h
     of_expansion (stack_full place) h = by_overflow h
 
-string_computed : (line : Line) (cap : List ℕ) (words : List (List ℕ)) (statics : List ℤ) (text : List ℕ) (answer : Reply) →
+pub string_computed : (line : Line) (cap : List ℕ) (words : List (List ℕ)) (statics : List ℤ) (text : List ℕ) (answer : Reply) →
     AnswersString line cap words statics text answer → answer ≡ string_reply line cap words statics text
 string_computed line cap [] statics text answer (as_it_stands s) = sends_computed line text statics statics answer s
 string_computed line cap (word ∷ words) statics text answer (by_expansion {after = after} {output = output} h s) =

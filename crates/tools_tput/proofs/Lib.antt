@@ -9,3 +9,4 @@ pub mod Terminals
 pub mod Answering
 pub mod Ending
 pub mod Expanded
+pub mod Sent

@@ -18,5 +18,5 @@ mod words;
 pub use commands::tput;
 pub use entries::terminal_line;
 pub use parameters::parameters_of;
-pub use replies::TputOutcome;
+pub use replies::{TputOutcome, answer_string};
 pub use streaming::tput_lines;

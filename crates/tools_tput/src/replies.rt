@@ -1,10 +1,8 @@
 //! The answer to a command: bytes for the terminal, and an exit status.
-ghost use Rattle.std.specs.Prelude.{◌≡◌, ℕ, ℤ, List, [], IfOk, OnErr, MatchResult, Some, map};
-ghost use Rattle.ti_param.specs.Meaning.{argument_of};
-ghost use Rattle.ti_param.specs.inside.Expansion.{EndsWith, expanded, format_expansion};
+ghost use Rattle.std.specs.Prelude.{◌≡◌, ℕ, ℤ, List, [], IfOk, OnErr, Some, map};
 ghost use Rattle.ti_layout.specs.View.{entry_seen, view_contents};
 ghost use Rattle.tools_tput.specs.Entries.{line_at_rate};
-ghost use Rattle.tools_tput.specs.Results.{init_strings, long_name, number_text};
+ghost use Rattle.tools_tput.specs.Results.{AnswersString, init_strings, long_name, number_text};
 ghost use Rattle.tools_tput.specs.inside.Results.{content_reply, named_reply};
 ghost use Rattle.tools_tput.specs.Results.{reply, reset_strings};
 ghost use Rattle.tools_tput.specs.inside.Results.{padded_texts, padded_text, sent_reply, string_reply};
@@ -17,8 +15,7 @@ use memchr::memrchr;
 use std::alloc::{AllocError, Global};
 use ti_caps::{Cap, Kind, find};
 use ti_layout::View;
-use ti_param::{Line, PadError, ParamError, Statics, Value, expand, pad, pad_owned};
-use ti_text::limits::PARAMETERS_MAX;
+use ti_param::{Line, PadError, ParamError, Statics, expand, pad, pad_owned};
 
 /// The exit status of a capability that is unknown, or whose string is bad.
 pub const BAD_COMMAND: u8 = 4;
@@ -75,21 +72,6 @@ fn pad_each(
     Ok(Some(bytes))
 }
 
-// A string expanded with these parameters.
-fn expand_words(
-    alloc: Global,
-    text: &[u8],
-    params: &[Value<'_>; PARAMETERS_MAX],
-    statics: &mut Statics,
-) -> Result<Vec<u8>, ParamError>
-    ensures computed { MatchResult result
-        (λ output. format_expansion text.now (map argument_of params.now) statics.old ≡ expanded output.items statics.new)
-        (λ error. EndsWith error (format_expansion text.now (map argument_of params.now) statics.old)) }
-    ensures err { OnErr result (statics.new ≡ statics.old) }
-{
-    expand(alloc, text, params, statics)
-}
-
 // A string as it is written if there is no word, else expanded with the words; `None` if it is bad.
 fn string(
     alloc: Global,
@@ -107,16 +89,17 @@ fn string(
         return pad_once(alloc, text, line);
     }
     let mut after = *statics;
-    match expand_words(alloc, text, &parameters_of(cap, words), &mut after) {
+    match expand(alloc, text, &parameters_of(cap, words), &mut after) {
         Ok(output) => {
-            let bytes = pad_output(alloc, output, line)?;
-            if bytes.is_some() {
+            let made = pad_output(alloc, output, line)?;
+            if made.is_some() {
                 *statics = after;
             }
-            Ok(bytes)
+            Ok(made)
         }
+        Err(ParamError::BadFormat(_)) => Ok(None),
+        Err(ParamError::StackFull(_)) => Ok(None),
         Err(ParamError::Memory) => Err(AllocError),
-        Err(_) => Ok(None),
     }
 }
 
@@ -131,6 +114,26 @@ fn outcome_of(alloc: Global, made: Option<Vec<u8>>) -> TputOutcome
             status: BAD_COMMAND,
         },
     }
+}
+
+/// The result of a string: it is written as it is if there is no word, else expanded with the words.
+///
+/// # Errors
+/// `AllocError` if memory ran out.
+pub fn answer_string(
+    alloc: Global,
+    cap: &[u8],
+    words: &[&[u8]],
+    text: &[u8],
+    line: &Line,
+    statics: &mut Statics,
+) -> Result<TputOutcome, AllocError>
+    ensures answer { IfOk result (λ outcome. AnswersString line.now cap.now (map (λ word. word.now) words.now) statics.old text.now
+        (reply_of outcome statics.new)) }
+    ensures err { OnErr result (statics.new ≡ statics.old) }
+{
+    let made = string(alloc, cap, words, text, line, statics)?;
+    Ok(outcome_of(alloc, made))
 }
 
 // Nothing is written.

@@ -62,8 +62,8 @@ returns-in-Ok c =
                 (let out : w.number_outcome-answered.result ≡ Ok c.in-Ok.outcome = search rules in
                 of_defined w.in-Number.ensures few (rw w.statics-is (rw out at (w.number_outcome-answered.ensures c.args.statics.now))))
             | in-Text w ↦
-                (let out : w.answer_text-answered.result ≡ Ok c.in-Ok.outcome = search rules in
+                (let out : w.answer_string-answered.result ≡ Ok c.in-Ok.outcome = search rules in
                 text_either e c.args.rate c.args.statics.now c.in-Some.cap.now.now params _ (reply_of c.in-Ok.outcome now) w.in-Text.ensures few
-                (rw w.statics-is (rw (out, line) at w.answer_text-answered.ensures.answer)))
+                (rw w.statics-is (rw (out, line) at w.answer_string-answered.ensures.answer)))
           ]);
     }

@@ -1,28 +1,16 @@
 -- What is sent for a string.
-use Rattle.std.proofs.Common.{◌≡◌, ℕ, ◌<◌, Bool, true, false, List, [], ◌∷◌, length, Option, Some, None, Result, Ok, Err, IfOk, refl, sym, ap, subst, ap, arith}
+use Rattle.std.proofs.Common.{◌≡◌, ℕ, ◌<◌, true, false, List, [], ◌∷◌, length, Option, Some, None, refl, arith}
 use Rattle.std.specs.Prelude.{is_some, ℤ}
 use Rattle.std.specs.Global.{Vec}
-use Rattle.std.proofs.lemmas.Result.{IfOk-weaker}
 use Rattle.ti_param.specs.Expansion.{Expands, Overflows}
 use Rattle.ti_param.specs.Formats.{IsStuck}
 use Rattle.ti_printing.specs.declared.padding.Line.{Line}
 use Rattle.tools_tput.specs.Parameters.{parameters}
-use Rattle.tools_tput.specs.Results.{AnswersString, Reply, Sends, as_it_stands, bad_reply, by_expansion, by_fault, by_overflow}
+use Rattle.tools_tput.specs.Results.{AnswersString, Reply, Sends, bad_reply, by_expansion, by_fault, by_overflow}
 use Rattle.tools_tput.specs.inside.Replies.{made_bytes}
 use Rattle.tools_tput.specs.inside.Results.{sent_reply}
 
 module _ (line : Line) (cap : List ℕ) (statics : List ℤ) (text : List ℕ) where
-  at_none : (words : List (List ℕ)) (answer : Reply) → length words ≡ 0 → Sends line text statics statics answer
-      → AnswersString line cap words statics text answer
-  at_none [] answer none sends = as_it_stands sends
-  at_none (word ∷ words) answer none sends = absurd (omega arith)
-
-  -- without a word
-  pub as_it_is : {E : Type 0} (r : Result (Option (Vec ℕ)) E) (words : List (List ℕ)) → length words ≡ 0
-      → IfOk r (λ made. Sends line text statics statics (sent_reply (made_bytes made) statics statics))
-      → IfOk r (λ made. AnswersString line cap words statics text (sent_reply (made_bytes made) statics statics))
-  as_it_is r words none sends = IfOk-weaker r _ _ (λ made is. at_none words _ none is) sends
-
   -- with words
   pub of_expansion : (words : List (List ℕ)) (output : List ℕ) (after : List ℤ) (answer : Reply) → 0 < length words
       → Expands text (parameters cap words) statics output after

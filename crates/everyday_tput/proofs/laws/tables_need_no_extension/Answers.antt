@@ -1,0 +1,5 @@
+use Rattle.everyday_tput.proofs.WithoutExtension.{tables_need_no_extension}
+use Rattle.everyday_tput.proofs.laws.tables_need_no_extension.Goals as goal
+
+pub returns : goal.returns
+returns c = tables_need_no_extension
