@@ -20,7 +20,7 @@ PAGE = os.path.join(TOP, "docs", "ARCHITECTURE.md")
 PICTURE = re.compile(r"```mermaid\n.*?```\n", re.S)
 # The parts of the group `ti_`; a crate that is in none of them is a box of its own.
 PARTS = {
-    "sources": ("ti_text", "ti_caps", "ti_spelling", "ti_source"),
+    "sources": ("ti_text", "ti_caps", "ti_names", "ti_spelling", "ti_source"),
     "entries": ("ti_layout", "ti_compiled"),
     "formats": ("ti_printing", "ti_param"),
     "base_": ("ti_base",),

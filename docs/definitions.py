@@ -244,7 +244,13 @@ def page():
             out.append("")
     out.append("## The file of each rule\n\n| Manual | Rule | File |\n|---|---|---|")
     out += [f"| {section} | {head} | `{path}` |" for section, head, path in rules]
-    return "\n".join(out).rstrip() + "\n"
+    return with_links("\n".join(out).rstrip()) + "\n"
+
+
+def with_links(text):
+    """The page with a link at each name of a manual page of the repository."""
+    link = lambda found: f"[{found[0]}](../man/{found[1]}.{found[2]})"
+    return re.sub(r"\b(ti(?:-\w+)?)\((\d)\)", link, text)
 
 
 def misplaced():

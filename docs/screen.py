@@ -24,7 +24,7 @@ from repository import TOP, program_of  # noqa: E402
 SERVER = program_of("ti_lsp")
 EDITORS = os.path.join(TOP, "editors")
 PICTURE = os.path.join(TOP, "docs", "editor.svg")
-TITLE = "Neovim with a terminfo source: its faults, what a capability is, and the fixes that ti-lsp offers"
+TITLE = "Neovim with a terminfo source: its errors and warnings, what a capability is, and the fixes that ti-lsp offers"
 COLUMNS, LINES = 100, 32
 SECONDS = 20
 SOURCE = r"""# a terminal with some mistakes in it
@@ -35,7 +35,7 @@ mine|my terminal,
 	bel=^G, clear=\E[H\E[2J, colour#8,
 	use=base, use=vt0,
 """
-# how many faults it has
+# how many errors and warnings it has
 FAULTS = 5
 # The errors and warnings are listed below the source, each with its whole message. The cursor goes
 # to such an item: its hover information is shown, and last the fixes that are offered.

@@ -10,7 +10,7 @@ from documents import INITIALIZE, body_of, framed, notification, run_fault
 from limits import LSP, SECONDS_MAX
 from registry import case
 
-NO_JSON = b'{"error":{"code":-32700,"message":"the body is not JSON or is too long"},"id":null,"jsonrpc":"2.0"}'
+NO_JSON = b'{"error":{"code":-32700,"message":"the body is not JSON, or is too long"},"id":null,"jsonrpc":"2.0"}'
 # of a server that has been sent little
 SMALL_MEMORY = 60_000_000
 
@@ -63,7 +63,7 @@ def long_body(take):
 def full_bodies(take):
     text = b'"' + b"a" * (67_108_864 - 2) + b'"'
     refused = NO_JSON.replace(b"-32700", b"-32600")
-    refused = refused.replace(b"the body is not JSON or is too long", b"no request is expected here")
+    refused = refused.replace(b"the body is not JSON, or is too long", b"invalid request")
     return ends(take, framed(text) + framed(b"[" * 67_108_864), framed(refused) + framed(NO_JSON), small=False)
 
 

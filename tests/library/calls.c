@@ -49,6 +49,52 @@ static void capabilities(void) {
     CHECK(is_text(text, "", 0));
 }
 
+static bool is_variable(const char *variable, uint32_t kind, uint32_t index) {
+    struct ti_place place = { 9, 9 };
+    struct ti_text text = TI_NOTHING;
+    return ti_capability_by_variable((const uint8_t *)variable, strlen(variable), &place) &&
+           place.kind == kind && place.index == index && ti_variable_name(kind, index, &text) &&
+           is_text(text, variable, strlen(variable));
+}
+
+static bool is_code(const char *code, uint32_t kind, uint32_t index) {
+    struct ti_place place = { 9, 9 };
+    struct ti_text text = TI_NOTHING;
+    return ti_capability_by_code(kind, (const uint8_t *)code, 2, &place) && place.kind == kind &&
+           place.index == index && ti_termcap_code(kind, index, &text) && is_text(text, code, 2);
+}
+
+static bool has_code(uint32_t kind, const char *code) {
+    struct ti_place place = { 7, 8 };
+    bool is_found = ti_capability_by_code(kind, (const uint8_t *)code, strlen(code), &place);
+    CHECK(is_found || (place.kind == 7 && place.index == 8));
+    return is_found;
+}
+
+/* The variables and the codes are those of terminfo(5). */
+static void other_names(void) {
+    CHECK(is_variable("auto_left_margin", TI_FLAG, 0));
+    CHECK(is_variable("max_colors", TI_NUMBER, 13));
+    CHECK(is_variable("cursor_address", TI_STRING, 10));
+    CHECK(is_variable("box_chars_1", TI_STRING, 413));
+    CHECK(is_code("am", TI_FLAG, 1) && is_code("Co", TI_NUMBER, 13) && is_code("cm", TI_STRING, 10));
+    CHECK(is_code("MT", TI_FLAG, 40) && is_code("MT", TI_STRING, 369));
+    CHECK(is_code("ma", TI_NUMBER, 11) && is_code("ma", TI_STRING, 399));
+    /* smgl has it too */
+    CHECK(is_code("ML", TI_STRING, 368));
+    static const char *const unknown[] = { "", "cup", "cursor_addres", "cursor_address ", "cm" };
+    struct ti_place place = { 7, 8 };
+    for (int i = 0; i < 5; i++)
+        CHECK(!ti_capability_by_variable((const uint8_t *)unknown[i], strlen(unknown[i]), &place));
+    CHECK(place.kind == 7 && place.index == 8);
+    CHECK(!has_code(TI_FLAG, "cm") && !has_code(TI_STRING, "Co") && !has_code(TI_STRING, ""));
+    CHECK(!has_code(TI_STRING, "c") && !has_code(TI_STRING, "cm ") && !has_code(3, "cm"));
+    struct ti_text text = TI_NOTHING;
+    CHECK(!ti_variable_name(TI_FLAG, TI_FLAGS, &text) && !ti_variable_name(3, 0, &text));
+    CHECK(!ti_termcap_code(TI_STRING, TI_STRINGS, &text) && !ti_termcap_code(3, 0, &text));
+    CHECK(is_text(text, "", 0));
+}
+
 /* ---- reading */
 
 static uint8_t bytes[8192];
@@ -525,6 +571,7 @@ static void empties(void) {
 int main(void) {
     CHECK(TI_VERSION_NUMBER == 10000 * TI_VERSION_MAJOR + 100 * TI_VERSION_MINOR + TI_VERSION_PATCH);
     capabilities();
+    other_names();
     refusals();
     values();
     expansion();

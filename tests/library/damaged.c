@@ -1,6 +1,9 @@
 /*
  * Damaged entries: each byte of an entry set to other values, and the entry cut at each size. Each
- * is read in a block of just its size, and whatever it says is looked at. Run it under a sanitizer.
+ * is read in a block of just its size, and whatever it says is looked at, its user-defined
+ * capabilities too. Run it under a sanitizer.
+ *
+ *     damaged FILE..    also damages these compiled entries, which have user-defined capabilities
  */
 #include "test.h"
 
@@ -10,7 +13,7 @@ static void look_at(struct ti_text text) {
     for (size_t i = 0; i < text.size; i++) seen += text.bytes[i];
 }
 
-static void look_through(const struct ti_entry *entry) {
+static bool look_through(const struct ti_entry *entry) {
     static uint8_t out[70000];
     struct ti_text text = TI_NOTHING;
     struct ti_variables variables = { { 0 } };
@@ -28,45 +31,78 @@ static void look_through(const struct ti_entry *entry) {
         seen += ti_expand(text.bytes, text.size, params, 2, &variables, out, sizeof out).size;
         seen += ti_pad(text.bytes, text.size, 24, &line, out, sizeof out).size;
     }
+    return true;
 }
 
-/* Reads bytes in a block of just their size. Gives whether they are an entry. */
-static bool reads(const uint8_t *bytes, size_t size) {
+/* Looks at each user-defined capability, by index and by name. Gives whether they can be read. */
+static bool look_beyond(const struct ti_entry *entry) {
+    struct ti_extension extension = TI_EXTENSION_EMPTY;
+    uint32_t refusal = ti_extension_read(entry, &extension);
+    CHECK(refusal == 0 || refusal == TI_BAD_EXTENSION);
+    size_t count = ti_user_defined_count(&extension);
+    CHECK(refusal == 0 || count == 0);
+    for (size_t i = 0; i <= count; i++) {
+        struct ti_text name = TI_NOTHING;
+        struct ti_value value = TI_VALUE_EMPTY, named = TI_VALUE_EMPTY;
+        CHECK(ti_user_defined(&extension, i, &name, &value) == (i < count));
+        if (i == count) break;
+        look_at(name), look_at(value.text);
+        bool is_found = ti_user_defined_named(&extension, name.bytes, name.size, &named);
+        CHECK(is_found || !value.is_present);
+    }
+    return refusal == 0;
+}
+
+/* Reads bytes in a block of just their size, and looks through what they say. */
+static bool looks_through(const uint8_t *bytes, size_t size, bool (*look)(const struct ti_entry *)) {
     uint8_t *block = (uint8_t *)malloc(size ? size : 1);
     struct ti_entry entry = TI_ENTRY_EMPTY;
     if (!block) abort();
     memcpy(block, bytes, size);
     uint32_t refusal = ti_entry_read(block, size, &entry);
     CHECK(refusal <= TI_BAD_OFFSET);
-    if (!refusal) look_through(&entry);
+    bool is_read = !refusal && look(&entry);
     free(block);
-    return !refusal;
+    return is_read;
 }
 
-static size_t damage_each(uint8_t *bytes, size_t size) {
+/* Each byte set to other values. Some of what comes of it can be read, and some cannot. */
+static void damage_each(uint8_t *bytes, size_t size, bool (*look)(const struct ti_entry *)) {
     static const uint8_t values[] = { 0x00, 0x01, 0x7f, 0x80, 0xff };
     size_t read = 0;
     for (size_t at = 0; at < size; at++)
         for (int i = 0; i < 5; i++) {
             uint8_t before = bytes[at];
             bytes[at] = values[i];
-            read += reads(bytes, size);
+            read += looks_through(bytes, size, look);
             bytes[at] = before;
         }
-    return read;
+    CHECK(read > 0 && read < 5 * size);
 }
 
-int main(void) {
+/* A compiled entry with user-defined capabilities, damaged. */
+static void damage_file(const char *path) {
+    static uint8_t bytes[32768];
+    FILE *file = fopen(path, "rb");
+    if (!CHECK(file != NULL)) return;
+    size_t size = fread(bytes, 1, sizeof bytes, file);
+    fclose(file);
+    CHECK(looks_through(bytes, size, look_beyond));
+    damage_each(bytes, size, look_beyond);
+    for (size_t cut = 0; cut < size; cut++) looks_through(bytes, cut, look_beyond);
+}
+
+int main(int count, char **words) {
     static uint8_t bytes[8192];
     for (int wide = 0; wide < 2; wide++) {
         struct parts parts = dumb();
         parts.wide = wide;
         size_t size = put_entry(bytes, &parts);
-        size_t read = damage_each(bytes, size);
-        CHECK(read > 0 && read < 5 * size);
-        for (size_t cut = 0; cut < size; cut++) CHECK(!reads(bytes, cut));
-        CHECK(reads(bytes, size));
+        damage_each(bytes, size, look_through);
+        for (size_t cut = 0; cut < size; cut++) CHECK(!looks_through(bytes, cut, look_through));
+        CHECK(looks_through(bytes, size, look_through));
     }
+    for (int i = 1; i < count; i++) damage_file(words[i]);
     printf("%zu\n", seen);
     return close_checks();
 }

@@ -54,7 +54,8 @@ static bool opens(void) {
 }
 
 static bool expands(void) {
-    const char *format = "%p1%PA\033[%i%p1%d;%p2%dH";
+    /* over 64 bytes, since fewer take no memory */
+    const char *format = "%p1%PA\033[%i%p1%70d;%p2%dH";
     struct ti_parameter params[2] = { ti_number_given(4), ti_number_given(9) };
     struct ti_variables variables = { { 0 } };
     memset(out, 1, ROOM);

@@ -54,6 +54,21 @@ def faults_of(name):
                 yield f"{name}: {cap}{parameters}"
 
 
+def faults_of_names():
+    """What differs of the names by variables and by codes of termcap, those of terminfo(5)."""
+    variables = {"cursor_address": "cup", "max_colors": "colors", "auto_right_margin": "am", "cup": None}
+    for variable, name in variables.items():
+        if ti.name_of_variable(variable) != name:
+            yield f"{variable}: {ti.name_of_variable(variable)}"
+    codes = {
+        (ti.STRING, "cm"): "cup", (ti.NUMBER, "Co"): "colors", (ti.FLAG, "am"): "am", (ti.FLAG, "cm"): None,
+        (ti.FLAG, "MT"): "OTMT", (ti.STRING, "MT"): "smgtb", (ti.STRING, "ML"): "smglr",
+    }
+    for (kind, code), name in codes.items():
+        if ti.name_of_code(kind, code) != name:
+            yield f"{code}: {ti.name_of_code(kind, code)}"
+
+
 def compare(directory, name):
     """Compares one entry. Gives the status of the process: 2 if `curses` refuses the entry."""
     os.environ["TERMINFO"] = directory
@@ -75,6 +90,9 @@ def main():
     directory = os.path.abspath(sys.argv[1])
     names = sorted(os.path.basename(path) for path in glob.glob(os.path.join(directory, "?", "*")))
     counts = [0, 0, 0]
+    faults = list(faults_of_names())
+    for fault in faults:
+        print(fault)
     for name in names:
         child = os.fork()
         if child == 0:
@@ -83,7 +101,7 @@ def main():
         counts[min(os.waitstatus_to_exitcode(status) % 256, 2)] += 1
     print(f"{len(names)} entries, {counts[2]} refused by curses, {counts[1]} differ")
     # at most one in ten is of a generic or a hard-copy terminal
-    return 1 if counts[1] or not names or 10 * counts[2] > len(names) else 0
+    return 1 if faults or counts[1] or not names or 10 * counts[2] > len(names) else 0
 
 
 if __name__ == "__main__":

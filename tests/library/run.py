@@ -30,9 +30,11 @@ What is not installed is skipped, and said to be. The last line is
 
 import glob
 import hashlib
+import itertools
 import os
 import re
 import shutil
+import struct
 import subprocess
 import sys
 import tempfile
@@ -53,6 +55,8 @@ WARN = ["-Wall", "-Wextra", "-Wpedantic", "-Werror"]
 SANITIZE = ["-g", "-fsanitize=address,undefined", "-fno-sanitize-recover=all"]
 # how many processes compare the entries of the system
 AT_ONCE = 4
+# terminals in use whose entries have user-defined capabilities
+KNOWN_ENTRIES = ("xterm-256color", "tmux-256color", "kitty", "foot", "alacritty")
 
 
 def run(words, **more):
@@ -232,8 +236,30 @@ def check_memory(room):
     return faults
 
 
+def is_extended(path):
+    """Whether a file is a compiled entry with bytes after its string table (term(5), "Extended storage format")."""
+    with open(path, "rb") as file:
+        data = file.read()
+    if len(data) < 12 or int.from_bytes(data[:2], "little") not in (282, 542):
+        return False
+    names, flags, numbers, strings, table = struct.unpack("<5h", data[2:12])
+    after = 12 + names + flags
+    after += after % 2 + (4 if data[1] == 2 else 2) * numbers + 2 * strings + table
+    return len(data) >= after + after % 2 + 10
+
+
+def extended_entries(count):
+    """The paths of so many installed entries with user-defined capabilities, terminals in use first."""
+    found = {}
+    for directory in ENTRY_DIRECTORIES:
+        for name in files_below(directory):
+            found.setdefault(os.path.basename(name), os.path.join(directory, name))
+    known = [name for name in KNOWN_ENTRIES if name in found] + sorted(set(found) - set(KNOWN_ENTRIES))
+    return list(itertools.islice((found[name] for name in known if is_extended(found[name])), count))
+
+
 def check_damaged(room):
-    return room.faults([room.compile("damaged.c", *SANITIZE)])
+    return room.faults([room.compile("damaged.c", *SANITIZE), *extended_entries(5)])
 
 
 # What `ti tput` says on standard error of each refusal, and the answer of ti_open.

@@ -32,6 +32,8 @@ CANDIDATES = [
     ("ti-tic -", "-x", "-T"),
     ("ti-tic lan", "lantern.ti", "dumb.ti"),
     ("ti-tic -x -o out lan", "lantern.ti", "dumb.ti"),
+    ("ti-fmt -", "--check", "-x"),
+    ("ti-fmt --check lan", "lantern.ti", "dumb.ti"),
     ("ti-infocmp -", "-D", "-T"),
     ("ti-infocmp -x ho", "homely", "dumb"),
     ("ti-infocmp ./out/d/du", "./out/d/dumb", "lantern3"),

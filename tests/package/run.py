@@ -3,7 +3,7 @@
 
     tests/package/run.py [CHECK..]     the checks named, or all but `tarball-builds`
 
-tables       the tables of ti_caps that follow from its lists of names are as they follow
+tables       the tables of ti_caps and ti_names that follow from their lists are as they follow
 options      the options and commands of pages, help and completions are one set, and the
              capabilities that completions know are those of the program
 everyday-options

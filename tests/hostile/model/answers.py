@@ -366,7 +366,7 @@ def meaning_told(block, ordinal):
         if value is CANCEL or cap[0] == FLAG:
             return "cancelled" if value is CANCEL else "set"
         return f"{value}" if cap[0] == NUMBER else written(value).decode()
-    return "nothing, as the item is faulty"
+    return "nothing, since the item has an error"
 
 
 def item_told(text, meaning):

@@ -10,7 +10,7 @@ from .source import NAMES_MAX, WHITE, read, unescape
 from .texts import offset_of
 
 MOST = 3
-SIGNS = {FLAG: "Leave the sign out", NUMBER: "Write `#` before the number", TEXT: "Write `=` before the string"}
+SIGNS = {FLAG: "Remove the sign", NUMBER: "Write `#` before the number", TEXT: "Write `=` before the string"}
 
 
 def shown(text):
@@ -43,7 +43,7 @@ def nearest(name, others):
 
 
 def renamed(name, span, others):
-    return [(f"Replace `{shown(name)}` by `{shown(other)}`", span, shown(other)) for other in nearest(name, others)]
+    return [(f"Replace `{shown(name)}` with `{shown(other)}`", span, shown(other)) for other in nearest(name, others)]
 
 
 def parts_of(folded, start, end):
@@ -78,7 +78,7 @@ def spelled(folded, where, start, end, value):
     if len(value) > 1 and value.endswith(b"\r") and folded[name + 1 : end].endswith(b"\r"):
         end, value = end - 1, value[:-1]
     span = span_of(where, name + 1, end)
-    return [] if span is None else [("Spell the string as it is read", span, shown(written(value)))]
+    return [] if span is None else [("Rewrite the string as it is read", span, shown(written(value)))]
 
 
 def escaped(folded, where, start, end):

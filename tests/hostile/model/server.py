@@ -120,7 +120,7 @@ def with_change(text, change):
     return text[:at] + change["text"] + text[max(at, offset_of(text, *end)) :]
 
 
-def lost(uri):
+def unreadable(uri):
     """What is told of a message about a document that cannot be read."""
     which, close = ("a document", "the documents, and open them") if uri is None else (uri, "the document, and open it")
     return {"error": f"A message about {which} could not be read. Close {close} again."}
@@ -299,7 +299,7 @@ class Server:
         document = member(params, "textDocument")
         uri = member(document, "uri")
         if not isinstance(uri, str):
-            return [lost(None)]
+            return [unreadable(None)]
         if method == "textDocument/didClose":
             self.outdated.discard(uri)
             return [] if self.texts.pop(uri, None) is None else [{"uri": uri, "version": None, "shown": []}]
@@ -311,7 +311,7 @@ class Server:
         """What is published of a document that has this text now."""
         if not isinstance(text, str):
             self.outdated.add(uri)
-            return [lost(uri)]
+            return [unreadable(uri)]
         self.texts[uri], version = text, document.get("version")
         self.outdated.discard(uri)
         return [{"uri": uri, "version": version if is_small(version) else None, "shown": diagnostics_of(text)}]
@@ -320,7 +320,7 @@ class Server:
         """What is published of a document that is changed, if it is open."""
         if not isinstance(changes, list) or not all(map(is_change, changes)):
             self.outdated.add(uri)
-            return [lost(uri)]
+            return [unreadable(uri)]
         is_whole = any(change.get("range") is None for change in changes)
         if uri not in self.texts or (uri in self.outdated and not is_whole):
             return []

@@ -18,21 +18,21 @@ FAULTS = {
 }
 # what an editor tells of each fault
 ADVICE = {
-    "E1": "The line of names is not in order. Correct the name that is empty or has a space, a slash or a byte"
-          " that is not visible ASCII.",
-    "E2": "The names are over 127 bytes up to the first comma. Shorten them, or put in the comma that is missing.",
-    "E3": "This is not a number. Write it in decimal, in octal after 0, or in hexadecimal after 0x.",
+    "E1": "The line of names is invalid. Correct the name that is empty or has a space, a slash or a byte"
+          " that is not printable ASCII.",
+    "E2": "The names up to the first comma are over 127 bytes. Shorten them, or add the missing comma.",
+    "E3": "Invalid number. Write it in decimal, in octal after 0, or in hexadecimal after 0x.",
     "E4": "The number is over 2147483647. Write a smaller one.",
-    "E5": "The string cannot be read. Write octal escapes up to \\377, and \\^ for a caret that means itself.",
-    "E6": "No block has this name. Correct it, or put the block in: installed entries are not looked at.",
-    "E7": "This use leads back to its own block. Take one use of the circle out.",
-    "E8": "The block of this name has an error, or leads to one. Correct that block.",
-    "E9": "The entry is over 4096 bytes, or over 32768 with a number over 32767. Cancel what is not needed.",
-    "W1": "No capability has this name, so it is ignored. Upper and lower case differ, and a comma in a string is"
+    "E5": "Invalid string. Write octal escapes up to \\377, and \\^ for a literal caret.",
+    "E6": "No block has this name. Correct it, or add the block: installed entries are not searched.",
+    "E7": "This use leads back to its own block. Remove one use= of the cycle.",
+    "E8": "The block with this name has an error, or uses one that does. Correct that block.",
+    "E9": "The entry is over 4096 bytes, or over 32768 with a number over 32767. Cancel capabilities that are not needed.",
+    "W1": "Unknown capability, so it is ignored. Names are case-sensitive, and a comma in a string is"
           " written \\,.",
-    "W2": "The capability is of another kind, so it is ignored. Booleans have no sign, numbers #, and strings =.",
-    "W3": "This backslash does not begin an escape. Leave it out, or double it.",
-    "W4": "An earlier block has this name. Take it out of one of the two.",
+    "W2": "The capability is of another kind, so it is ignored. Booleans have no sign, numbers have #, and strings have =.",
+    "W3": "Unknown escape sequence. Remove the backslash, or double it.",
+    "W4": "An earlier block has this name. Remove it from one of the two.",
 }
 # the local faults for which a block has no entry
 BREAKING = ("E1", "E2", "E3", "E4", "E5")
