@@ -1,10 +1,11 @@
 //! The accepted items of a block, and what it says once its uses are expanded.
 use std::alloc::Global;
 use std::process::Abort;
+use std::rc::RcSlice;
 use ti_base::{Database, EditError};
 use ti_caps::find;
 use ti_layout::{Table, Value};
-use ti_source::{Item, What};
+use ti_source::{Code, Item, Local, What};
 
 // A database of these blocks.
 fn source_of(alloc: Global, texts: &[&[u8]]) -> Result<Database, EditError> {
@@ -99,5 +100,37 @@ fn an_item_is_told_as_it_is_read(rt: HostRuntime) -> Result<(), EditError> {
     let database = source_of(rt.alloc(), &[b"a,nosuch,\n\tcols@,\n".as_slice()])?;
     assert!(rt; 0 < database.len());
     assert!(rt; is_a_cancel(database.items(0)));
+    Ok(())
+}
+
+// Whether these faults are one: the unknown name `nosuch` of the first item, on line 2.
+fn is_an_unknown_name(faults: &[Local]) -> bool {
+    match faults.first() {
+        Some(fault) => {
+            faults.len() == 1
+                && fault.ordinal == 0
+                && fault.line == 2
+                && matches!(fault.code, Code::UnknownCapability)
+                && is_nosuch(&fault.detail)
+        },
+        None => false,
+    }
+}
+
+// Whether a fault names `nosuch`.
+fn is_nosuch(detail: &Option<RcSlice<u8>>) -> bool {
+    match detail {
+        Some(name) => name.as_slice() == b"nosuch".as_slice(),
+        None => false,
+    }
+}
+
+#[test]
+fn a_block_has_the_faults_of_its_own_text(rt: HostRuntime) -> Result<(), EditError> {
+    let blocks = [b"a,am,use=z,\n".as_slice(), b"a,\n\tnosuch,\n".as_slice()];
+    let database = source_of(rt.alloc(), &blocks)?;
+    assert!(rt; 1 < database.len());
+    assert!(rt; database.local_faults(0).is_empty());
+    assert!(rt; is_an_unknown_name(database.local_faults(1)));
     Ok(())
 }

@@ -1,7 +1,7 @@
 //! The edited source: its blocks under stable ids, with what was found out about each.
 ghost use Rattle.std.specs.Prelude.{◌≡◌, ◌<◌, ◌≤◌, [], length, map, slice_get, Some, option_map, vec_capacity, IfOk};
 ghost use Rattle.std.specs.Rc.{rc_slice_items};
-ghost use Rattle.ti_source.specs.Reading.{item_of};
+ghost use Rattle.ti_source.specs.Reading.{fault_of, item_of};
 ghost use Rattle.base_meaning.specs.Edits.{EditRun, change_of};
 ghost use Rattle.base_slots.specs.Settled.{table_of};
 
@@ -17,7 +17,7 @@ use std::alloc::{AllocError, Global};
 use std::marker::Model;
 use std::rc::RcSlice;
 use ti_layout::Table;
-use ti_source::Item;
+use ti_source::{Item, Local};
 
 // The values of a block, if it resolves.
 fn table_of(state: &State) -> Option<&Table>
@@ -125,6 +125,15 @@ impl Database {
         ensures { option_map (λ block. block.items) (slice_get (readings self.now) at) ≡ Some (map item_of result.now) }
     {
         &slot_of(&self.slots, at).block.items
+    }
+
+    /// The faults of a block that its own text gives: that of its names field, and then those of
+    /// its items in order. What other blocks give is not among them.
+    pub fn local_faults(&self, at: usize) -> &[Local]
+        requires { at < length self.now }
+        ensures { option_map (λ block. block.faults) (slice_get (readings self.now) at) ≡ Some (map fault_of result.now) }
+    {
+        &slot_of(&self.slots, at).block.faults
     }
 
     /// What a block says once its uses are expanded: of each capability what the leftmost mention
