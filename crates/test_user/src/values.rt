@@ -4,7 +4,7 @@ use std::fmt::Write;
 use std::test::Fail;
 use ti_base::Database;
 use ti_layout::Value;
-use user_values::{UserTable, user_values};
+use user_values::{UserTable, UserTables};
 
 // Bytes as characters.
 fn say_name(said: &mut String, name: &[u8]) -> Result<(), AllocError> {
@@ -102,13 +102,14 @@ fn the_leftmost_mention_decides(rt: HostRuntime) -> Result<(), Fail> {
         assert!(rt; false, "the source is refused");
         return Ok(());
     };
-    let tables = user_values(alloc, &database)?;
-    assert_eq!(rt; tables.len(), SOURCE.len());
-    for (at, (text, wanted)) in SOURCE.iter().enumerate() {
-        if at < tables.len() {
-            assert!(rt; says(alloc, &tables[at], *wanted)?, "{text}");
-        }
+    let mut tables = UserTables::of(alloc, &database)?;
+    let mut made = 0;
+    while let Some(at) = tables.make_next()? {
+        let (text, wanted) = SOURCE.get(at).ok_or(Fail)?;
+        assert!(rt; says(alloc, tables.table(at), *wanted)?, "{text}");
+        made += 1;
     }
+    assert_eq!(rt; made, SOURCE.len());
     Ok(())
 }
 

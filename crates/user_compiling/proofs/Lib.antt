@@ -5,3 +5,4 @@ pub mod States
 pub mod SourceFaults
 pub mod Profile
 pub mod Lines
+pub mod OneByOne

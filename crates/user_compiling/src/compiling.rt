@@ -9,7 +9,8 @@ ghost use Rattle.base_meaning.specs.ValueTables.{HasTable, IsTableOfMentions};
 ghost use Rattle.std.specs.Prelude.{false};
 ghost use Rattle.user_extension.specs.UserDefined.{rows_of as rows_seen};
 ghost use Rattle.user_values.specs.Limit.{name_count, name_limit, IsOverLimitAt};
-ghost use Rattle.user_values.specs.Tables.{said_at, AreUserTables, HasUserTable, IsUserTableOf};
+ghost use Rattle.user_values.specs.Tables.{said_at, HasUserTable, IsUserTableOf};
+ghost use Rattle.user_values.specs.Walking.{IsStartOf};
 ghost use Rattle.user_compiling.specs.Entries.{state_seen, state_with, AreStates, HasStateBy, IsStateOf};
 ghost use Rattle.user_compiling.specs.inside.States.{state_of_entry};
 
@@ -20,7 +21,7 @@ use ti_base::Database;
 use ti_layout::{Table, WriteError};
 use ti_source::names_field;
 use user_extension::{UserDefined, write};
-use user_values::{UserTable, ValuesError, user_values};
+use user_values::{UserTable, UserTables, ValuesError};
 
 // What becomes of a sound block that says this.
 fn write_block(
@@ -118,20 +119,31 @@ fn compile_block(
     }
 }
 
-// What becomes of each block, with what each says of user-defined names.
+// As many states as there are blocks, before any is found.
+fn no_states(alloc: Global, count: usize) -> Result<Vec<Compiled>, AllocError>
+    ensures { IfOk result (λ all. length all.items ≡ count) }
+{
+    let mut all = Vec::with_capacity(alloc, count)?;
+    for _at in 0..count {
+        all.push(Compiled::Unresolved)?;
+    }
+    Ok(all)
+}
+
+// What becomes of each block, each when the table of what it says of user-defined names is made.
 fn compile_all(
     alloc: Global,
     database: &Database,
-    tables: &[Option<UserTable>],
+    tables: &mut UserTables<'_>,
 ) -> Result<Vec<Compiled>, AllocError>
     requires one { All OneBlock database.now }
-    requires tables { AreUserTables database.now tables.now }
+    requires start { IsStartOf database.now tables.old }
     ensures { IfOk result (λ all. AreStates database.now (map state_seen all.items)) }
 {
-    let mut all = Vec::with_capacity(alloc, tables.len())?;
-    for (at, table) in tables.iter().enumerate() {
-        let state = compile_block(alloc, database, at, table)?;
-        all.push(state)?;
+    let mut all = no_states(alloc, database.len())?;
+    while let Some(at) = tables.make_next()? {
+        let state = compile_block(alloc, database, at, tables.table(at))?;
+        all[at] = state;
     }
     Ok(all)
 }
@@ -148,8 +160,8 @@ pub fn compile(alloc: Global, database: &Database) -> Result<Vec<Compiled>, Valu
     ensures too_many { (at : ℕ) → IsErrOf result (ValuesError.TooManyNames at) → IsOverLimitAt database.now at }
 {
     database.each_is_one_block();
-    match user_values(alloc, database) {
-        Ok(tables) => Ok(compile_all(alloc, database, &tables)?),
+    match UserTables::of(alloc, database) {
+        Ok(mut tables) => Ok(compile_all(alloc, database, &mut tables)?),
         Err(error) => Err(error),
     }
 }

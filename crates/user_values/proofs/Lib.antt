@@ -4,3 +4,4 @@ pub mod Resolving
 pub mod Making
 pub mod Ordering
 pub mod Naming
+pub mod Walking

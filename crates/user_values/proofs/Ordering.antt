@@ -17,17 +17,15 @@ use Rattle.user_items.specs.Parsing.{user_reading_of_text}
 use Rattle.user_values.specs.declared.table.UserTable.{UserTable}
 use Rattle.user_values.specs.Expansion.{UserMention, expand, expansion}
 use Rattle.user_values.specs.Tables.{said_at, IsUserTableOf, HasUserTable, AreUserTables}
-use Rattle.user_values.specs.Uses.{used_block, edge_of, row_of, rows_of}
+use Rattle.user_values.specs.Uses.{used_block, edge_of, row_of, rows_of, uses_of}
 use Rattle.user_values.specs.inside.Settling.{OwnerIsDone, OwnersAreDone}
+use Rattle.user_values.specs.inside.Walking.{AreLast, AreKept}
 use Rattle.user_values.proofs.Resolving.{found, mapped, text_read}
 use Rattle.user_values.proofs.Making.{some_from, UsesOwner, used_owner}
 
-abbrev pub graph_of : List (List ℕ) → Rows
-graph_of texts = rows_of texts (map user_reading_of_text texts)
-
 -- ---- edges are uses
 
-row_at : (texts : List (List ℕ)) (at : ℕ) → slice_get (graph_of texts) at ≡ option_map (λ b. row_of texts b.items)
+row_at : (texts : List (List ℕ)) (at : ℕ) → slice_get (uses_of texts) at ≡ option_map (λ b. row_of texts b.items)
     (option_map user_reading_of_text (slice_get texts at))
 row_at texts at =
     slice_get-map (λ (b : UserBlock). row_of texts b.items) (map user_reading_of_text texts) at
@@ -49,7 +47,7 @@ said_use : (texts : List (List ℕ)) (said : UserSaid) (to : ℕ) → used_block
 said_use texts (says name content) to e = absurd (none-some to e)
 said_use texts (imports name) to e = (name, refl, e)
 
-edge_is_use : (texts : List (List ℕ)) (from to : ℕ) → HasEdge (graph_of texts) from to → IsUse texts from to
+edge_is_use : (texts : List (List ℕ)) (from to : ℕ) → HasEdge (uses_of texts) from to → IsUse texts from to
 edge_is_use texts from to edge =
     let block = mapped (λ (b : UserBlock). row_of texts b.items) (option_map user_reading_of_text (slice_get texts from)) edge.row
     (sym (row_at texts from) ∙ edge.stands) in
@@ -61,7 +59,7 @@ edge_is_use texts from to edge =
     let use_of = said_use texts item.0.said to item.2 in
     record { text = text.0; k = edge.place; item = item.0; name = use_of.0; stands = text.1; here = item.1; used = use_of.1; owned = use_of.2 }
 
-use_is_edge : (texts : List (List ℕ)) (from to : ℕ) → IsUse texts from to → HasEdge (graph_of texts) from to
+use_is_edge : (texts : List (List ℕ)) (from to : ℕ) → IsUse texts from to → HasEdge (uses_of texts) from to
 use_is_edge texts from to u =
     let items = (user_reading_of_text u.text).items in
     record {
@@ -82,10 +80,10 @@ owner_within texts name at o = elim (owning (readings texts) name) [
       omega arith
 ]
 
-pub graph_length : (texts : List (List ℕ)) → length (graph_of texts) ≡ length texts
+pub graph_length : (texts : List (List ℕ)) → length (uses_of texts) ≡ length texts
 graph_length texts = length-map (map user_reading_of_text texts) (λ (b : UserBlock). row_of texts b.items) ∙ length-map texts user_reading_of_text
 
-pub graph_whole : (texts : List (List ℕ)) → IsGraph (graph_of texts)
+pub graph_whole : (texts : List (List ℕ)) → IsGraph (uses_of texts)
 graph_whole texts = λ from to edge.
     let u = edge_is_use texts from to edge in
     let l = owner_within texts u.name to u.owned in
@@ -100,7 +98,7 @@ pub record ExpandsAt (texts : List (List ℕ)) (depth at : ℕ) : Type 0 where
   pub stands : slice_get texts at ≡ Some text
   pub expands_to : expand texts depth text ≡ Some mentions
 
-along_edge : (texts : List (List ℕ)) (depth from to : ℕ) → ExpandsAt texts depth from → HasEdge (graph_of texts) from to → (below : ℕ) × (depth ≡ suc below)
+along_edge : (texts : List (List ℕ)) (depth from to : ℕ) → ExpandsAt texts depth from → HasEdge (uses_of texts) from to → (below : ℕ) × (depth ≡ suc below)
     × ExpandsAt texts below to
 along_edge texts depth from to e edge =
     let u = edge_is_use texts from to edge in
@@ -110,7 +108,7 @@ along_edge texts depth from to e edge =
     let at : o.at ≡ to = same_Some o.at to (sym o.owned ∙ u.owned) in
     (o.below, o.deeper, record { text = o.text; mentions = o.mentions; stands = ap (slice_get texts) (sym at) ∙ o.stands; expands_to = o.expands_to })
 
-along_way : (texts : List (List ℕ)) (depth from : ℕ) (way : List ℕ) (to : ℕ) → ExpandsAt texts depth from → IsWay (graph_of texts) from way to → (below : ℕ)
+along_way : (texts : List (List ℕ)) (depth from : ℕ) (way : List ℕ) (to : ℕ) → ExpandsAt texts depth from → IsWay (uses_of texts) from way to → (below : ℕ)
     × (below ≤ depth) × ExpandsAt texts below to
 along_way texts depth from [] to e w = (depth, omega arith, subst (ExpandsAt texts depth) w e)
 along_way texts depth from (next ∷ way) to e w =
@@ -120,8 +118,8 @@ along_way texts depth from (next ∷ way) to e w =
     let l = rest.1 in
     (rest.0, omega arith, rest.2)
 
-no_cycle : (texts : List (List ℕ)) (bound depth u w : ℕ) → depth < bound → ExpandsAt texts depth u → HasEdge (graph_of texts) u w
-    → Leads (graph_of texts) w u → ⊥
+no_cycle : (texts : List (List ℕ)) (bound depth u w : ℕ) → depth < bound → ExpandsAt texts depth u → HasEdge (uses_of texts) u w
+    → Leads (uses_of texts) w u → ⊥
 no_cycle texts zero depth u w l e edge back = omega arith
 no_cycle texts (suc bound) depth u w l e edge back =
     let one = along_edge texts depth u w e edge in
@@ -132,59 +130,12 @@ no_cycle texts (suc bound) depth u w l e edge back =
 
 -- ---- tables made along the closing order
 
--- those before one place of the order are made
-pub record AreMade (texts : List (List ℕ)) (order : List ℕ) (tables : List (Option UserTable)) (end : ℕ) : Type 0 where
-  pub as_many : length tables ≡ length texts
-  pub done : (j node : ℕ) (text : List ℕ) (table : Option UserTable) → j < end → slice_get order j ≡ Some node → slice_get texts node ≡ Some text
-      → slice_get tables node ≡ Some table
-      → HasUserTable texts text table
-
-pub none_made : (texts : List (List ℕ)) (order : List ℕ) (tables : List (Option UserTable)) → length tables ≡ length texts → AreMade texts order tables 0
-none_made texts order tables n = record { as_many = n; done = λ j node text table l. absurd (omega arith) }
-
-pub one_made : (texts : List (List ℕ)) (order : List ℕ) (tables : List (Option UserTable)) (end node : ℕ) (one : Option UserTable)
-    → AreMade texts order tables end → slice_get order end ≡ Some node → node < length tables
-    → ((text : List ℕ) → slice_get texts node ≡ Some text → HasUserTable texts text one) → AreMade texts order (set tables node one) (end + 1)
-one_made texts order tables end node one h o l right = record {
-  as_many = length-set tables node one ∙ h.as_many;
-  done = λ j other text table m e t s. elim (cases_eq other node) [
-    | inl same ↦
-        let here : slice_get (set tables node one) other ≡ Some one = rw same (stands tables node one l) in
-        subst (HasUserTable texts text) (same_Some one table (sym here ∙ s)) (right text (rw (← same) t))
-    | inr apart ↦
-        let before : j < end = earlier order end node j other o e apart m in
-        h.done j other text table before e t (sym (get-set_other tables node other one apart) ∙ s)
-  ];
-} where
-  stands : (tables : List (Option UserTable)) (node : ℕ) (one : Option UserTable) → node < length tables → slice_get (set tables node one) node ≡ Some one
-  stands tables node one l = let w = item_at tables node l in get-set_same tables node w.0 one w.1
-
-  earlier : (order : List ℕ) (end node j other : ℕ) → slice_get order end ≡ Some node → slice_get order j ≡ Some other → (other ≡ node → ⊥) → j < end + 1
-      → j < end
-  earlier order end node j other o e apart m =
-      elim (cases_eq j end) [
-        | inl same ↦ absurd (apart (same_Some other node (sym e ∙ (ap (slice_get order) same ∙ o))))
-        | inr other_place ↦ omega arith
-      ]
-
-pub all_made : (texts : List (List ℕ)) (component_of order : List ℕ) (tables : List (Option UserTable)) (end : ℕ)
-    → IsClosingOrder (graph_of texts) component_of order → length order ≤ end → AreMade texts order tables end → AreUserTables texts tables
-all_made texts component_of order tables end c past h = record {
-  as_many = h.as_many;
-  each = λ at text table t s.
-      (let n = graph_length texts in
-      let within = slice_get_within texts at text t in
-      let w = c.listed at (omega arith) in
-      let before = slice_get_within order w.0 at w.1 in
-      h.done w.0 at text table (omega arith) w.1 t s);
-}
-
 -- the owners of a block that resolves are made before it
-pub owners_made : (texts : List (List ℕ)) (component_of order : List ℕ) (tables : List (Option UserTable)) (end node : ℕ) (text : List ℕ)
-    → AreComponents (graph_of texts) component_of → IsClosingOrder (graph_of texts) component_of order
-    → AreMade texts order tables end → slice_get order end ≡ Some node → slice_get texts node ≡ Some text → IsSome (expansion texts text)
+pub owners_made : (texts : List (List ℕ)) (component_of order last : List ℕ) (tables : List (Option UserTable)) (end node : ℕ) (text : List ℕ)
+    → AreComponents (uses_of texts) component_of → IsClosingOrder (uses_of texts) component_of order → AreLast (uses_of texts) order last
+    → AreKept texts order last tables end → slice_get order end ≡ Some node → slice_get texts node ≡ Some text → IsSome (expansion texts text)
     → OwnersAreDone texts tables text
-owners_made texts component_of order tables end node text comps c h o t some = λ k item name s i.
+owners_made texts component_of order last tables end node text comps c past h o t some = λ k item name s i.
     let whole = some_from (expansion texts text) some in
     let u = used_owner texts (suc (length texts)) text whole.0 k item name whole.1 s i in
     let edge = use_is_edge texts node u.at (record { text = text; k = k; item = item; name = name; stands = t; here = s; used = i; owned = u.owned }) in
@@ -202,7 +153,8 @@ owners_made texts component_of order tables end node text comps c h o t some = �
           (record { text = text; mentions = whole.0; stands = t; expands_to = whole.1 }) edge both.1)
       | inr l ↦ l
     ] in
-    let right = h.done w.0 u.at u.text made.0 before w.1 u.stands made.1 in
+    let l = item_at last u.at (omega (arith, past.as_many)) in
+    let right = h.done w.0 u.at l.0 u.text made.0 before w.1 l.1 (past.past end node u.at l.0 o edge l.1) u.stands made.1 in
     owner_done texts tables name u.at u.text made.0 u.owned u.stands made.1 (found texts u.at u.below u.text u.mentions u.stands u.expands_to) right
   where
     owner_done : (texts : List (List ℕ)) (tables : List (Option UserTable)) (name : List ℕ) (at : ℕ) (text : List ℕ)

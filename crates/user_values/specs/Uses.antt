@@ -4,6 +4,7 @@ use Rattle.base_components.specs.Graph.{Rows}
 use Rattle.base_meaning.specs.Owner.{owner, readings}
 use Rattle.user_items.specs.Verdicts.{UserSaid, says, imports}
 use Rattle.user_items.specs.Reading.{ReadUserItem, UserBlock}
+use Rattle.user_items.specs.Parsing.{user_reading_of_text}
 
 -- the position of the block that an item uses
 abbrev pub used_block : List (List ℕ) → UserSaid → Option ℕ
@@ -19,3 +20,7 @@ row_of texts items = map (edge_of texts) items
 
 abbrev pub rows_of : List (List ℕ) → List UserBlock → Rows
 rows_of texts blocks = map (λ block. row_of texts block.items) blocks
+
+-- the graph of the uses of a source
+abbrev pub uses_of : List (List ℕ) → Rows
+uses_of texts = rows_of texts (map user_reading_of_text texts)

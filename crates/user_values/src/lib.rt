@@ -2,18 +2,21 @@
 //! uses are expanded.
 //!
 //! ```text
-//! let tables = user_values(alloc, &database)?;
+//! let mut tables = UserTables::of(alloc, &database)?;
+//! while let Some(at) = tables.make_next()? {
+//!     let table = tables.table(at);
+//! }
 //! ```
 //!
-//! Where the block at a position resolves, `tables` has its `UserTable` there: what the leftmost
-//! mention says of each user-defined name, its kind too, or that it is cancelled.
+//! Where the block at a position resolves, `table` is its `UserTable`: what the leftmost mention
+//! says of each user-defined name, its kind too, or that it is cancelled.
 //!
 //! - `limit`: how many user-defined names a source has (`NAME_LIMIT`); `names_found`: those that
 //!   were found; `fault`: why it has no values (`ValuesError`)
 //! - `table`: what a block says of each name (`UserTable`)
 //! - `graph`: which blocks use each other
-//! - `values`: the tables of all blocks (`user_values`), each made after those of the blocks that
-//!   it uses
+//! - `values`: the table of one block; `walk`: the tables of all blocks (`UserTables`), each made
+//!   after those of the blocks that it uses, and kept until the last block that uses it is made
 //! - `laws`: a block has values exactly where it resolves, and its table has them
 #![tactic(auto)]
 
@@ -24,8 +27,9 @@ mod limit;
 mod names_found;
 mod table;
 mod values;
+mod walk;
 
 pub use fault::ValuesError;
 pub use limit::NAME_LIMIT;
 pub use table::UserTable;
-pub use values::user_values;
+pub use walk::UserTables;

@@ -1,25 +1,20 @@
-//! The user-defined values of all blocks.
-ghost use Rattle.std.specs.Prelude.{◌≡◌, ◌<◌, ℕ, List, length, map, slice_get, Some, IfOk, OnOk, IsSome, IsErrOf, ◌≤◌};
+//! The table of a block, made after those of the blocks that it uses.
+ghost use Rattle.std.specs.Prelude.{◌≡◌, ◌<◌, ℕ, List, length, map, slice_get, Some, IfOk, OnOk, IsSome};
 ghost use Rattle.std.specs.Option.{option_or};
 ghost use Rattle.user_items.specs.Reading.{said_of, user_reading_of};
 ghost use Rattle.user_items.specs.Verdicts.{imports};
 ghost use Rattle.user_items.specs.Parsing.{user_reading_of_text};
 ghost use Rattle.user_values.specs.Expansion.{expansion};
-ghost use Rattle.user_values.specs.Limit.{name_count, name_limit, IsOverLimitAt};
-ghost use Rattle.user_values.specs.Tables.{said_at, HasUserTable, AreUserTables, AddsSaid, IsUserTableOf};
+ghost use Rattle.user_values.specs.Tables.{said_at, HasUserTable, AddsSaid, IsUserTableOf};
 ghost use Rattle.user_values.specs.inside.Settling.{OwnerIsDone, OwnersAreDone};
 
-use crate::fault::ValuesError;
-use crate::graph::graph_of_uses;
-use crate::limit::check_names;
 use crate::table::UserTable;
-use base_components::Components;
 use std::alloc::{AllocError, Global};
 use ti_base::Database;
 use user_items::{UserItems, UserWhat, user_items};
 
-// Each block as far as user-defined capabilities go.
-fn read_all(alloc: Global, database: &Database) -> Result<Vec<UserItems>, AllocError>
+/// Each block as far as user-defined capabilities go.
+pub(crate) fn read_all(alloc: Global, database: &Database) -> Result<Vec<UserItems>, AllocError>
     ensures { IfOk result (λ reads. map user_reading_of reads.items ≡ map user_reading_of_text database.now) }
 {
     let mut reads = Vec::with_capacity(alloc, database.len())?;
@@ -30,8 +25,8 @@ fn read_all(alloc: Global, database: &Database) -> Result<Vec<UserItems>, AllocE
     Ok(reads)
 }
 
-// No table for each of so many blocks.
-fn no_tables(alloc: Global, count: usize) -> Result<Vec<Option<UserTable>>, AllocError>
+/// No table for each of so many blocks.
+pub(crate) fn no_tables(alloc: Global, count: usize) -> Result<Vec<Option<UserTable>>, AllocError>
     ensures { IfOk result (λ tables. length tables.items ≡ count) }
 {
     let mut tables = Vec::with_capacity(alloc, count)?;
@@ -99,8 +94,8 @@ fn make_table(
     Ok(table)
 }
 
-// The table of a block, if it resolves.
-fn table_at(
+/// The table of a block, if it resolves.
+pub(crate) fn table_at(
     alloc: Global,
     database: &Database,
     tables: &[Option<UserTable>],
@@ -117,46 +112,4 @@ fn table_at(
     }
     let table = make_table(alloc, database, tables, reads, at)?;
     Ok(Some(table))
-}
-
-// The tables of all blocks, each made after those of the blocks that its block uses.
-fn tables_of(
-    alloc: Global,
-    database: &Database,
-    reads: &[UserItems],
-) -> Result<Vec<Option<UserTable>>, AllocError>
-    requires { map user_reading_of reads.now ≡ map user_reading_of_text database.now }
-    ensures { IfOk result (λ tables. AreUserTables database.now tables.items) }
-{
-    let uses = graph_of_uses(alloc, database, reads)?;
-    let components = Components::find(alloc, &uses)?;
-    let mut tables = no_tables(alloc, database.len())?;
-    for node in &components.order {
-        let table = table_at(alloc, database, &tables, reads, *node)?;
-        tables[*node] = table;
-    }
-    Ok(tables)
-}
-
-/// What each block of a source says of each user-defined name once its uses are expanded, of a name
-/// what the leftmost mention says; `None` for a block that does not resolve. Each table is made
-/// after those of the blocks that its block uses, in time linear, up to a logarithm, in what the
-/// blocks say and in the names of the tables.
-///
-/// # Errors
-/// `TooManyNames` for a source of more than 1,024 distinct user-defined names, with the position of
-/// the first block by which it has more; or `Memory`.
-pub fn user_values(
-    alloc: Global,
-    database: &Database,
-) -> Result<Vec<Option<UserTable>>, ValuesError>
-    ensures tables { IfOk result (λ tables. AreUserTables database.now tables.items) }
-    ensures few { OnOk result (name_count database.now (length database.now) ≤ name_limit) }
-    ensures too_many { (at : ℕ) → IsErrOf result (ValuesError.TooManyNames at) → IsOverLimitAt database.now at }
-{
-    let reads = read_all(alloc, database)?;
-    match check_names(alloc, &reads) {
-        Ok(()) => Ok(tables_of(alloc, database, &reads)?),
-        Err(error) => Err(error),
-    }
 }

@@ -1,25 +1,60 @@
-use Rattle.std.proofs.Common.{◌≡◌, ◌++◌, ◌∷◌, [], ◌+◌, ◌<◌, map, take, length, sym, ap, ◌∙◌, subst, arith, slice_get, List, ℕ}
-use Rattle.std.specs.List.{AllZip}
-use Rattle.std.proofs.lemmas.List.{map-append, take_all}
-use Rattle.ti_text.proofs.Lists.{item_at}
-use Rattle.base_meaning.specs.Compiled.{EntryState}
-use Rattle.user_compiling.specs.Entries.{state_seen, IsStateOf}
-use Rattle.user_compiling.proofs.States.{table_at, one_more_state, all_of_states}
+use Rattle.std.proofs.Common.{◌≡◌, ◌<◌, ◌∙◌, List, ℕ, Some, length, drop, set, refl, sym, ap, subst, arith, slice_get}
+use Rattle.user_values.specs.Walking.{TablesSeen, IsOrderOf, IsMadeLast, once_made}
+use Rattle.user_compiling.proofs.OneByOne.{AreFoundBefore, one_found, all_found, end_of, fewer_left}
 use Rattle.user_compiling.proofs.compiling.compile_all.Goals as goal
 
-pub compile_block-requires-clause-within : goal.compile_block-requires-clause-within
-compile_block-requires-clause-within c = omega (arith, c.loop-at-test.true, c.requires.tables.as_many)
+pub table-requires : goal.table-requires
+table-requires c =
+    let old = c.loop-all.tables in
+    let next = c.in_ok-at.ensures.next in
+    let listed : slice_get old.order old.made ≡ Some c.in-Some.at = sym next.next ∙ c.in-Some.is in
+    subst (λ s. IsMadeLast s c.in-Some.at) (sym (next.is ∙ ap (once_made old) c.in-Some.is)) (record { before = old.made; one_more = refl; here = listed })
 
-pub compile_block-requires-clause-user : goal.compile_block-requires-clause-user
-compile_block-requires-clause-user c = λ text stands. table_at c.args.database.now c.args.tables.now c.loop-at.at text c.index-tables-at.result
-    c.requires.tables stands c.loop-at-test.true c.index-tables-at.is
+pub loop-all-smaller-in_ok-state : goal.loop-all-smaller-in_ok-state
+loop-all-smaller-in_ok-state c =
+    let old = c.loop-all.tables in
+    let next = c.in_ok-at.ensures.next in
+    let listed : slice_get old.order old.made ≡ Some c.in-Some.at = sym next.next ∙ c.in-Some.is in
+    subst (λ (s : TablesSeen). length (drop s.made s.order) < length (drop old.made old.order)) (sym (next.is ∙ ap (once_made old) c.in-Some.is))
+    (fewer_left old.order old.made c.in-Some.at listed)
 
-pub loop-at-preserved : goal.loop-at-preserved
-loop-at-preserved c =
-    one_more_state c.args.database.now c.loop-at.at (map state_seen c.loop-at.all.items) (map state_seen c.push.new.self.items)
-    (state_seen c.in_ok-state.state) (omega (arith, c.loop-at-test.true, c.requires.tables.as_many)) c.loop-at.invariant c.in_ok-state.ensures
-    (ap (map state_seen) c.in_ok-push.ensures.items ∙ map-append state_seen c.loop-at.all.items _)
+pub loop-all-smaller : goal.loop-all-smaller
+loop-all-smaller c =
+    let old = c.loop-all.tables in
+    let next = c.in_ok-at.ensures.next in
+    let listed : slice_get old.order old.made ≡ Some c.in-Some.at = sym next.next ∙ c.in-Some.is in
+    subst (λ (s : TablesSeen). length (drop s.made s.order) < length (drop old.made old.order)) (sym (next.is ∙ ap (once_made old) c.in-Some.is))
+    (fewer_left old.order old.made c.in-Some.at listed)
+
+pub loop-all-preserved-in_ok-state : goal.loop-all-preserved-in_ok-state
+loop-all-preserved-in_ok-state c =
+    let db = c.args.database.now in
+    let old = c.loop-all.tables in
+    let all = c.loop-all.all.items in
+    let inv = c.loop-all.invariant in
+    let next = c.in_ok-at.ensures.next in
+    let listed : slice_get old.order old.made ≡ Some c.in-Some.at = sym next.next ∙ c.in-Some.is in
+    let below = inv.1.below old.made c.in-Some.at listed in
+    subst (λ (s : TablesSeen). (s.texts ≡ db) × IsOrderOf db s.order × AreFoundBefore db s.order (set all c.in-Some.at c.in_ok-state.state) s.made)
+    (sym (next.is ∙ ap (once_made old) c.in-Some.is))
+    (inv.0, inv.1, one_found db old.order all old.made c.in-Some.at c.in_ok-state.state inv.2 listed (omega (arith, inv.2.as_many, below)) c.in_ok-state.ensures)
+
+pub loop-all-preserved : goal.loop-all-preserved
+loop-all-preserved c =
+    let db = c.args.database.now in
+    let old = c.loop-all.tables in
+    let all = c.loop-all.all.items in
+    let inv = c.loop-all.invariant in
+    let next = c.in_ok-at.ensures.next in
+    let listed : slice_get old.order old.made ≡ Some c.in-Some.at = sym next.next ∙ c.in-Some.is in
+    let below = inv.1.below old.made c.in-Some.at listed in
+    subst (λ (s : TablesSeen). (s.texts ≡ db) × IsOrderOf db s.order × AreFoundBefore db s.order (set all c.in-Some.at c.in_ok-state.state) s.made)
+    (sym (next.is ∙ ap (once_made old) c.in-Some.is))
+    (inv.0, inv.1, one_found db old.order all old.made c.in-Some.at c.in_ok-state.state inv.2 listed (omega (arith, inv.2.as_many, below)) c.in_ok-state.ensures)
 
 pub returns : goal.returns
-returns c = all_of_states c.args.database.now c.loop-at.at (map state_seen c.loop-at.all.items)
-    (omega (arith, c.loop-at-test.false, c.requires.tables.as_many)) c.loop-at.invariant
+returns c =
+    let old = c.loop-all.tables in
+    let inv = c.loop-all.invariant in
+    let next = c.in_ok-at.ensures.next in
+    all_found c.args.database.now old.order c.loop-all.all.items old.made inv.1 (end_of old.order old.made (sym c.in_default.is ∙ next.next)) inv.2

@@ -1,7 +1,10 @@
-use Rattle.std.proofs.Common.{map, take}
-use Rattle.std.specs.List.{AllZip}
-use Rattle.user_compiling.specs.Entries.{state_seen, IsStateOf}
+use Rattle.std.proofs.Common.{◌≡◌, length, drop}
+use Rattle.user_values.specs.Walking.{IsOrderOf}
+use Rattle.user_compiling.proofs.OneByOne.{AreFoundBefore}
 use Rattle.user_compiling.proofs.compiling.compile_all.Given as goal
 
-abbrev pub invariant-loop-at : goal.invariant-loop-at
-invariant-loop-at l = AllZip (IsStateOf l.database) (take l.at l.database) (map state_seen l.all.items)
+abbrev pub invariant-loop-all : goal.invariant-loop-all
+invariant-loop-all l = (l.tables.texts ≡ l.database) × IsOrderOf l.database l.tables.order × AreFoundBefore l.database l.tables.order l.all.items l.tables.made
+
+abbrev pub decreases-loop-all : goal.decreases-loop-all
+decreases-loop-all l = length (drop l.tables.made l.tables.order)

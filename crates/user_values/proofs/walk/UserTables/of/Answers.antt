@@ -3,13 +3,8 @@ use Rattle.user_items.specs.declared.reading.UserItems.{UserItems}
 use Rattle.user_items.specs.Reading.{user_reading_of}
 use Rattle.user_values.specs.declared.fault.ValuesError.TheVariants.{TooManyNames}
 use Rattle.user_values.specs.Limit.{name_limit, distinct_after, names_in}
-use Rattle.user_values.proofs.Naming.{few_so_far, over_limit}
-use Rattle.user_values.proofs.values.user_values.Goals as goal
-
-pub returns-in-Ok-clause-few : goal.returns-in-Ok-clause-few
-returns-in-Ok-clause-few c =
-    few_so_far c.in_ok-reads.reads.items c.args.database.now c.in_ok-reads.ensures
-    (subst (λ (rs : List UserItems). length (distinct_after [] (names_in (map user_reading_of rs))) ≤ name_limit) c.deref.ensures.value c.in-Ok.ensures.few)
+use Rattle.user_values.proofs.Naming.{over_limit}
+use Rattle.user_values.proofs.walk.UserTables.of.Goals as goal
 
 pub returns-clause-too_many : goal.returns-clause-too_many
 returns-clause-too_many c = λ at e.
