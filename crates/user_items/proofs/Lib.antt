@@ -2,3 +2,4 @@ pub mod Readings
 pub mod Warnings
 pub mod Sound
 pub mod NameBytes
+pub mod UsesAlone

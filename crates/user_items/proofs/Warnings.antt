@@ -54,7 +54,7 @@ and_false : (a : Bool) → (a && false) ≡ false
 and_false true = refl
 and_false false = refl
 
-abbrev place : ℕ → ℕ → List ℕ → List NamedPlace
+abbrev pub place : ℕ → ℕ → List ℕ → List NamedPlace
 place o line name = record { ordinal = o; line = line; name = name } ∷ []
 
 -- no warning is of a name that is not user-defined
@@ -76,7 +76,7 @@ warned : (o line : ℕ) (name : List ℕ) → is_user_defined_name name ≡ true
     ≡ place o line name
 warned o line name u = rw u refl
 
-placed : (o line : ℕ) (name : List ℕ) (read : ReadClaim) (b : Bool) → b ≡ true → place o line name
+pub placed : (o line : ℕ) (name : List ℕ) (read : ReadClaim) (b : Bool) → b ≡ true → place o line name
     ≡ places_at o (judged_with line name (cond b (Some (defining_verdict name read)) None))
 placed o line name read true e = rw (all_define name read) refl
 placed o line name read false e = absurd (cc)

@@ -1,5 +1,5 @@
 //! Laws of the reading of user-defined capabilities. They compute nothing.
-ghost use Rattle.user_items.specs.Laws.{BlocksHaveOneUserReading, UserDefinedNamesHaveNoNul, WarningsAreOfDefiningItems};
+ghost use Rattle.user_items.specs.Laws.{BlocksHaveOneUserReading, BlocksWithoutWarningsHaveUsesAlone, UserDefinedNamesHaveNoNul, WarningsAreOfDefiningItems};
 ghost use Rattle.user_items.specs.Sound.{EachUserReadingIsSound};
 
 /// Each block has one reading, which `user_items` gives.
@@ -11,6 +11,12 @@ pub fn one_user_reading()
 /// and so is each item that does.
 pub fn warnings_are_of_defining_items()
     ensures { WarningsAreOfDefiningItems }
+{}
+
+/// A block in which reading finds no user-defined name unknown has no items that speak of
+/// user-defined capabilities but its uses, and no faults of theirs.
+pub fn blocks_without_warnings_have_uses_alone()
+    ensures { BlocksWithoutWarningsHaveUsesAlone }
 {}
 
 /// What is known of each block: its items say values that an entry can hold of user-defined names,

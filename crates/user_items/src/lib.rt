@@ -11,17 +11,20 @@
 //!
 //! - `names`: which names are user-defined (`is_user_defined_name`)
 //! - `reading`: the items of a block (`user_items`, which gives `UserItems`: each `UserItem` with
-//!   its `UserWhat`, each `UserFault` with its `UserCode`); `verdicts`: what comes of one
+//!   its `UserWhat`, each `UserFault` with its `UserCode`); `verdicts`: what comes of one; `known`:
+//!   those of a block that has been read (`known_user_items`)
 //! - `laws`: each block has one reading, what is read is sound, and how it stands to the faults of
 //!   the block
 //!
 //! An item of an unknown name that is not user-defined stays an unknown capability (W1).
 #![tactic(auto)]
 
+mod known;
 pub mod laws;
 mod names;
 mod reading;
 mod verdicts;
 
+pub use known::{is_user_warning, known_user_items};
 pub use names::is_user_defined_name;
 pub use reading::{UserCode, UserFault, UserItem, UserItems, UserWhat, user_items};
