@@ -1,5 +1,5 @@
 //! A string with parameters as the bytes for the terminal.
-ghost use Rattle.std.specs.Prelude.{◌≡◌, ◌≢◌, ◌<◌, ◌≤◌, ℕ, map};
+ghost use Rattle.std.specs.Prelude.{◌≡◌, ◌≢◌, ◌<◌, ◌≤◌, [], ℕ, map};
 ghost use Rattle.ti_param.specs.Expansion.{Overflows};
 ghost use Rattle.ti_param.specs.Formats.{FormatTree, IsTree, IsStuck};
 ghost use Rattle.ti_param.specs.Meaning.{argument_of};
@@ -37,15 +37,15 @@ fn value_of<'a>(param: &Parameter<'a>) -> Value<'a>
     }
 }
 
-// The nine parameters; each that is not given is the number 0.
-fn arguments<'a>(params: &[Parameter<'a>]) -> [Value<'a>; PARAMETERS_MAX]
-    ensures { map argument_of result ≡ arguments_of params.now }
+// Sets the first of the nine parameters, none of which is given yet, to those that are given. They
+// are set in place: to return all nine takes two copies, of some 35 instructions each.
+fn give_arguments<'a>(values: &mut [Value<'a>; PARAMETERS_MAX], params: &[Parameter<'a>])
+    requires { map argument_of values.old ≡ arguments_of [] }
+    ensures { map argument_of values.new ≡ arguments_of params.now }
 {
-    let mut values = [Value::Number(0); PARAMETERS_MAX];
     for place in 0..params.len().min(PARAMETERS_MAX) {
         values[place] = value_of(&params[place]);
     }
-    values
 }
 
 /// Expands a string with its parameters, of which those after the ninth are not looked at, and
@@ -70,8 +70,10 @@ pub extern "C" fn ti_expand(
     ensures variables_kept { result.status ≢ OK → variables.new ≡ variables.old }
     ensures out_kept { result.status ≢ OK → out.new ≡ out.old }
 {
+    let mut arguments = [Value::Number(0); PARAMETERS_MAX];
+    give_arguments(&mut arguments, params);
     let mut statics = Statics::of_values(variables.values);
-    match expand_output(alloc, format, &arguments(params), &mut statics) {
+    match expand_output(alloc, format, &arguments, &mut statics) {
         Ok(mut output) => match output.bytes() {
             Err(_) => Outcome {
                 status: NO_MEMORY,

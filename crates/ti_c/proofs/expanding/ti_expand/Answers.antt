@@ -1,6 +1,11 @@
 -- A format at which the machine is stuck is refused as such, and its place is the only one.
 use Rattle.std.proofs.Common.{refl}
+use Rattle.ti_c.specs.Expanding.{arguments_of}
 use Rattle.ti_c.proofs.expanding.ti_expand.Goals as goal
+
+pub give_arguments-requires : goal.give_arguments-requires
+unfolding arguments_of
+give_arguments-requires c = refl
 
 pub returns-then-not-write_to-clause-stuck : goal.returns-then-not-write_to-clause-stuck
 returns-then-not-write_to-clause-stuck c = λ place stuck. let e = (c.in-Ok.ensures.bad_format place).1 stuck in absurd cc

@@ -1,11 +1,11 @@
-use Rattle.std.proofs.Common.{◌≡◌, ◌≤◌, ◌<◌, ℕ, zero, suc, pos, inl, inr, List, length, map, get_or, option_map, unwrap_or, refl, sym, ap, ◌∙◌, arith}
+use Rattle.std.proofs.Common.{◌≡◌, ◌≤◌, ◌<◌, ℕ, zero, suc, pos, inl, inr, List, [], length, map, get_or, option_map, unwrap_or, refl, sym, ap, ◌∙◌, arith}
 use Rattle.std.proofs.lemmas.Bool.{cases_eq, cases_lt}
 use Rattle.std.proofs.lemmas.List.{ext_get_or, get_or-set_other, get_or-set_same, length-map, length-set, map-set}
 use Rattle.std.proofs.lemmas.Option.{slice_get-get_or, slice_get_past}
 use Rattle.ti_param.specs.Meaning.{FormatArgument, argument_of, number}
 use Rattle.ti_c.specs.Expanding.{argument_at, arguments_of, given_argument}
 use Rattle.ti_c.specs.declared.expanding.Parameter.{Parameter}
-use Rattle.ti_c.proofs.expanding.arguments.Goals as goal
+use Rattle.ti_c.proofs.expanding.give_arguments.Goals as goal
 
 -- each of the nine is the parameter at its place
 each : (params : List Parameter) (at : ℕ) → at < 9 → get_or (arguments_of params) at (number (pos 0)) ≡ argument_at params at
@@ -28,6 +28,16 @@ none params at past = ap (λ p. unwrap_or (option_map given_argument p) (number 
 -- what is given at a place
 there : (params : List Parameter) (at : ℕ) (d : Parameter) → at < length params → given_argument (get_or params at d) ≡ argument_at params at
 there params at d within = sym (ap (λ p. unwrap_or (option_map given_argument p) (number (pos 0))) (slice_get-get_or params at d within))
+
+pub loop-place-init : goal.loop-place-init
+unfolding arguments_of
+loop-place-init c =
+    let none_given : length (map argument_of c.args.values.now) ≡ 9 = ap length c.requires in
+    record {
+      nine = sym (length-map c.args.values.now argument_of) ∙ none_given;
+      given = λ at below. absurd (omega arith);
+      others = λ at from below. ap (λ (xs : List FormatArgument). get_or xs at (number (pos 0))) c.requires ∙ each [] at below ∙ none [] at (omega arith);
+    }
 
 pub loop-place-preserved : goal.loop-place-preserved
 loop-place-preserved c =

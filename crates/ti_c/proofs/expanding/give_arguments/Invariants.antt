@@ -1,7 +1,7 @@
 use Rattle.std.proofs.Common.{◌≡◌, ◌≤◌, ◌<◌, ℕ, pos, map, get_or, length}
 use Rattle.ti_param.specs.Meaning.{argument_of, number}
 use Rattle.ti_c.specs.Expanding.{argument_at}
-use Rattle.ti_c.proofs.expanding.arguments.Given as goal
+use Rattle.ti_c.proofs.expanding.give_arguments.Given as goal
 
 -- the first are those given, and the others are the number 0
 abbrev pub invariant-loop-place : goal.invariant-loop-place
