@@ -2,7 +2,6 @@
 -- are own.
 use Rattle.std.specs.Prelude.{ℕ, List, [], ◌∷◌, ◌++◌, Option, None, Some, codes}
 use Rattle.std.specs.Fmt.{decimal}
-use Rattle.std.specs.Option.{option_map_or}
 use Rattle.serde_json.specs.Data.{Data, null}
 use Rattle.ti_caps.specs.Tables.{Capability, name_of}
 use Rattle.lsp_messages.specs.Shapes.{hover_data}
@@ -14,86 +13,68 @@ use Rattle.lsp_features.specs.Hovers.{AboutSeen, HoverSeen, about_item, about_na
 use Rattle.lsp_features.specs.Meanings.{MeaningSeen, means_cancelled, means_nothing, means_number, means_set, means_text}
 use Rattle.lsp_descriptions.specs.Words.{detail_of, documentation_of}
 
--- how many bytes an entry takes
-abbrev pub size_told : ℕ → List ℕ
-size_told bytes = codes "an entry of " ++ decimal bytes ++ codes " bytes"
-
--- how many there are of the thing that a word names
-abbrev pub count_told : List ℕ → ℕ → List ℕ
-count_told word count = word ++ codes ": " ++ decimal count
-
--- how many numbers and strings it has
-abbrev pub others_told : Holding → List ℕ
-others_told holding = count_told (codes "numbers") holding.numbers ++ codes ", " ++ count_told (codes "strings") holding.texts
-
--- how many capabilities of each kind it has values of
-abbrev pub counts_told : Holding → List ℕ
-counts_told holding = count_told (codes "Booleans") holding.flags ++ codes ", " ++ others_told holding
+-- what an entry holds: its bytes, and how many values of each kind it has
+abbrev pub holding_sentence : Holding → List ℕ
+holding_sentence holding =
+    codes "an entry of " ++ (decimal holding.bytes
+    ++ (codes " bytes\nBooleans: " ++ (decimal holding.flags
+    ++ (codes ", numbers: " ++ (decimal holding.numbers ++ (codes ", strings: " ++ decimal holding.texts))))))
 
 -- why there is no entry: the code of the first error that the report has of the block, and what the
 -- diagnostic says that is published for it
-abbrev pub cause_told : Shown → List ℕ
-cause_told cause = label_of_problem cause.problem ++ codes " " ++ cause.message
+abbrev pub cause_sentence : Shown → List ℕ
+cause_sentence cause = codes "no entry: " ++ label_of_problem cause.problem ++ codes " " ++ cause.message
 
 -- what an entry holds, or why there is none
-abbrev pub entry_told : EntrySeen → List ℕ
-entry_told entry_missing = codes "no block has this name"
-entry_told (entry_faulty cause) = codes "no entry" ++ option_map_or (λ (why : Shown). codes ": " ++ cause_told why) cause []
-entry_told (entry_held holding) = size_told holding.bytes ++ codes "\n" ++ counts_told holding
-
--- the name of a capability, and what it is
-abbrev pub head_told : Capability → List ℕ
-head_told c = name_of c ++ codes ": " ++ detail_of c
-
--- what is said about it, and the item as it is written
-abbrev pub item_told : Capability → List ℕ → List ℕ
-item_told c text = documentation_of c ++ codes "\nWritten: " ++ text
+abbrev pub entry_sentence : EntrySeen → List ℕ
+entry_sentence entry_missing = codes "no block has this name"
+entry_sentence (entry_faulty None) = codes "no entry"
+entry_sentence (entry_faulty (Some cause)) = cause_sentence cause
+entry_sentence (entry_held holding) = holding_sentence holding
 
 -- what an item means
-abbrev pub meaning_told : MeaningSeen → List ℕ
-meaning_told means_nothing = codes "nothing, since the item has an error"
-meaning_told means_set = codes "set"
-meaning_told (means_number number) = decimal number
-meaning_told (means_text text) = text
-meaning_told means_cancelled = codes "cancelled"
-
--- the item as it is read
-abbrev pub read_told : MeaningSeen → List ℕ
-read_told meaning = codes "Read" ++ codes ": " ++ meaning_told meaning
-
--- what is said about it, and the item as it is written and as it is read
-abbrev pub lines_told : Capability → List ℕ → MeaningSeen → List ℕ
-lines_told c text meaning = item_told c text ++ codes "\n" ++ read_told meaning
+abbrev pub meaning_text : MeaningSeen → List ℕ
+meaning_text means_nothing = codes "nothing, since the item has an error"
+meaning_text means_set = codes "set"
+meaning_text (means_number number) = decimal number
+meaning_text (means_text text) = text
+meaning_text means_cancelled = codes "cancelled"
 
 -- what a capability is, and the item as it is written and as it is read
-abbrev pub capability_told : Capability → List ℕ → MeaningSeen → List ℕ
-capability_told c text meaning = head_told c ++ codes "\n" ++ lines_told c text meaning
+abbrev pub capability_sentence : Capability → List ℕ → MeaningSeen → List ℕ
+capability_sentence c text meaning =
+    name_of c ++ (codes ": " ++ (detail_of c
+    ++ (codes "\n" ++ (documentation_of c ++ (codes "\nWritten: " ++ (text ++ (codes "\nRead: " ++ meaning_text meaning)))))))
 
 -- the names of capabilities, each after a comma
-abbrev pub more_told : List Capability → List ℕ
-more_told [] = []
-more_told (c ∷ cs) = codes ", " ++ name_of c ++ more_told cs
+abbrev pub later_names : List Capability → List ℕ
+later_names [] = []
+later_names (c ∷ cs) = codes ", " ++ name_of c ++ later_names cs
 
 -- the names of capabilities
-abbrev pub capabilities_told : List Capability → List ℕ
-capabilities_told [] = []
-capabilities_told (c ∷ cs) = name_of c ++ more_told cs
+abbrev pub capabilities_line : List Capability → List ℕ
+capabilities_line [] = []
+capabilities_line (c ∷ cs) = name_of c ++ later_names cs
 
 -- a line with a block, and the capabilities that it decides
-abbrev pub source_told : SourceSeen → List ℕ
-source_told source = codes "\nFrom " ++ source.name ++ codes ": " ++ capabilities_told source.capabilities
+abbrev pub source_line : SourceSeen → List ℕ
+source_line source = codes "\nFrom " ++ source.name ++ codes ": " ++ capabilities_line source.capabilities
 
 -- a line for each block
-abbrev pub sources_told : List SourceSeen → List ℕ
-sources_told [] = []
-sources_told (source ∷ sources) = source_told source ++ sources_told sources
+abbrev pub source_lines : List SourceSeen → List ℕ
+source_lines [] = []
+source_lines (source ∷ sources) = source_line source ++ source_lines sources
 
--- what a place is on
-abbrev pub about_told : AboutSeen → List ℕ
-about_told (about_item c text meaning) = capability_told c text meaning
-about_told (about_name name entry sources) = name ++ codes ": " ++ entry_told entry ++ sources_told sources
+-- what became of a name, and the blocks that decide what its owner's entry inherits
+abbrev pub name_sentence : List ℕ → EntrySeen → List SourceSeen → List ℕ
+name_sentence name entry sources = name ++ codes ": " ++ entry_sentence entry ++ source_lines sources
+
+-- what a position is on
+abbrev pub about_text : AboutSeen → List ℕ
+about_text (about_item c text meaning) = capability_sentence c text meaning
+about_text (about_name name entry sources) = name_sentence name entry sources
 
 -- what is shown ("Hover"), or null
 abbrev pub hover_shown : Option HoverSeen → Data
 hover_shown None = null
-hover_shown (Some told) = hover_data (about_told told.about) told.range
+hover_shown (Some hover) = hover_data (about_text hover.about) hover.range
