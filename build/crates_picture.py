@@ -22,7 +22,7 @@ PICTURE = re.compile(r"```mermaid\n.*?```\n", re.S)
 PARTS = {
     "sources": ("ti_text", "ti_caps", "ti_names", "ti_spelling", "ti_source"),
     "entries": ("ti_layout", "ti_compiled"),
-    "formats": ("ti_printing", "ti_param"),
+    "formats": ("ti_printing", "ti_formats", "ti_param"),
     "base_": ("ti_base",),
     "tools_": ("ti_list", "ti_tools"),
 }

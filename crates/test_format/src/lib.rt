@@ -3,6 +3,7 @@
 //!
 //! - `delays`: strings cut at a delay
 //! - `expansion`: parameter strings
+//! - `formats`: parameter strings as their tokens
 //! - `padding`: strings with delays
 //! - `printf`: forms
 #![tactic(auto)]
@@ -11,6 +12,8 @@
 mod delays;
 #[cfg(test)]
 mod expansion;
+#[cfg(test)]
+mod formats;
 #[cfg(test)]
 mod padding;
 #[cfg(test)]

@@ -1,7 +1,7 @@
 //! A string with parameters as the bytes for the terminal.
 ghost use Rattle.std.specs.Prelude.{◌≡◌, ◌≢◌, ◌<◌, ◌≤◌, [], ℕ, map};
 ghost use Rattle.ti_param.specs.Expansion.{Overflows};
-ghost use Rattle.ti_param.specs.Formats.{FormatTree, IsTree, IsStuck};
+ghost use Rattle.ti_formats.specs.Formats.{FormatTree, IsTree, IsStuck};
 ghost use Rattle.ti_param.specs.Meaning.{argument_of};
 ghost use Rattle.ti_c.specs.Expanding.{arguments_of, given_argument, IsExpanded, IsTooLong};
 

@@ -13,8 +13,8 @@ use Rattle.ti_printing.specs.declared.printf.Conversion.TheVariants.{Decimal, Oc
 use Rattle.ti_printing.specs.declared.printf.Directive.{Directive}
 use Rattle.ti_printing.specs.declared.printf.Flags.{Flags}
 use Rattle.ti_printing.specs.Printf.{at_least, form_bytes}
-use Rattle.ti_param.specs.Codes.{no_flags}
-use Rattle.ti_param.specs.inside.Codes.{plain_form}
+use Rattle.ti_formats.specs.Codes.{no_flags}
+use Rattle.ti_formats.specs.inside.Codes.{plain_form}
 use Rattle.ti_param.specs.inside.Output.{has_flags, is_alone, is_decimal}
 
 -- ---- the number

@@ -3,12 +3,12 @@ use Rattle.std.proofs.Common.{◌≡◌, ℕ, List, refl, ap, sym, ◌∙◌, su
 use Rattle.std.specs.Prelude.{Some, None, Result, Ok, Err, IsErrOf, ◌↔◌, ℤ}
 use Rattle.ti_param.specs.declared.errors.ParamError.{ParamError}
 use Rattle.ti_param.specs.declared.errors.ParamError.TheVariants.{BadFormat, StackFull, Memory}
-use Rattle.ti_param.specs.Formats.{FormatTree, IsTree, IsStuck}
-use Rattle.ti_param.specs.inside.Formats.{stuck_place, tree_of}
+use Rattle.ti_formats.specs.Formats.{FormatTree, IsTree, IsStuck}
+use Rattle.ti_formats.specs.inside.Formats.{stuck_place, tree_of}
 use Rattle.ti_param.specs.Meaning.{FormatArgument, MachineState, start, meaning}
 use Rattle.ti_param.specs.Expansion.{Expands, Overflows}
 use Rattle.ti_param.specs.inside.Expansion.{HasOutcome, IsStuckError}
-use Rattle.ti_param.proofs.OneTree.{is_computed}
+use Rattle.ti_formats.proofs.OneTree.{is_computed}
 
 -- the tree of a format that is not stuck
 whole : (format : List ℕ) → stuck_place format ≡ None → IsTree format (tree_of format)

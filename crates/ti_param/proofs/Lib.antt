@@ -1,15 +1,6 @@
-pub mod Accepting
 pub mod Alone
-pub mod Conditionals
 pub mod Ending
-pub mod Fronts
-pub mod OneTree
 pub mod Parameters
-pub mod Lexing
-pub mod Numbers
-pub mod Parsing
-pub mod Reading
 pub mod Running
-pub mod Scanning
 pub mod Steps
 pub mod Wrapping

@@ -1,14 +1,14 @@
 -- Running the tokens one after another does what the tree means.
 use Rattle.std.proofs.Common.{◌≡◌, ℕ, suc, Bool, true, false, cond, List, [], ◌∷◌, refl, ap, sym, ◌∙◌}
 use Rattle.std.specs.Prelude.{Option, Some, None, Ok, Err}
-use Rattle.ti_param.specs.declared.codes.Code.{Code}
-use Rattle.ti_param.specs.declared.codes.Token.TheVariants.{Literal, Operation, If, Then, Else, EndIf}
+use Rattle.ti_formats.specs.declared.codes.Code.{Code}
+use Rattle.ti_formats.specs.declared.codes.Token.TheVariants.{Literal, Operation, If, Then, Else, EndIf}
 use Rattle.ti_param.specs.declared.errors.ParamError.{ParamError}
 use Rattle.ti_param.specs.declared.errors.ParamError.TheVariants.{BadFormat, StackFull, Memory}
-use Rattle.ti_param.specs.declared.lexer.Placed.{Placed}
-use Rattle.ti_param.specs.Formats.{FormatTree, nothing, placed_token, Closes, by_mark, by_end, IsSequence, no_piece, byte_piece, code_piece}
-use Rattle.ti_param.specs.Formats.{conditional_piece, IsConditional, test_alone, test_then, test_then_else}
-use Rattle.ti_param.specs.inside.Formats.{level_after, after_part}
+use Rattle.ti_formats.specs.declared.codes.Placed.{Placed}
+use Rattle.ti_formats.specs.Formats.{FormatTree, nothing, placed_token, Closes, by_mark, by_end, IsSequence, no_piece, byte_piece, code_piece}
+use Rattle.ti_formats.specs.Formats.{conditional_piece, IsConditional, test_alone, test_then, test_then_else, AreTokensOf}
+use Rattle.ti_param.specs.inside.Skipping.{level_after, after_part}
 use Rattle.ti_param.specs.Meaning.{MachineState, MachineOutcome, and_then, with_output, without_top, top_number, is_zero, code_outcome, meaning}
 use Rattle.ti_param.specs.inside.Expansion.{HasOutcome}
 
@@ -214,3 +214,12 @@ pub error-kept : (e : ParamError) (a b : MachineState) (o whole : MachineOutcome
 error-kept (BadFormat place) a b o whole full ran = ran
 error-kept (StackFull place) a b o whole full ran = full place ran
 error-kept Memory a b o whole full ran = tt
+
+-- tokens that have a tree do what the tree means
+pub tokens_run : (tokens : List Placed) (t : FormatTree) → AreTokensOf tokens t → (s : MachineState) → executed None tokens s ≡ meaning t s
+unfolding executed
+tokens_run tokens t parses s = sequence_runs parses s ∙ ended (meaning t s)
+  where
+    ended : (o : MachineOutcome) → and_then o (executed None []) ≡ o
+    ended (Ok final) = refl
+    ended (Err place) = refl

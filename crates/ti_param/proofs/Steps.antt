@@ -1,10 +1,10 @@
 -- One token more, for a part that is skipped.
 use Rattle.std.proofs.Common.{◌≡◌, ℕ, zero, suc, ◌+◌, ◌≤◌, Bool, true, false, List, [], ◌∷◌, refl, arith}
 use Rattle.std.specs.Prelude.{Some, None}
-use Rattle.ti_param.specs.declared.codes.Token.{Token}
-use Rattle.ti_param.specs.declared.codes.Token.TheVariants.{Literal, Operation, If, Then, Else, EndIf}
-use Rattle.ti_param.specs.declared.lexer.Placed.{Placed}
-use Rattle.ti_param.specs.inside.Formats.{level_after, after_part}
+use Rattle.ti_formats.specs.declared.codes.Token.{Token}
+use Rattle.ti_formats.specs.declared.codes.Token.TheVariants.{Literal, Operation, If, Then, Else, EndIf}
+use Rattle.ti_formats.specs.declared.codes.Placed.{Placed}
+use Rattle.ti_param.specs.inside.Skipping.{level_after, after_part}
 
 pub after_part-go : (level next : ℕ) (to_else : Bool) (tokens rest : List Placed) (p : Placed) → tokens ≡ p ∷ rest →
     level_after level to_else p.token ≡ Some next → after_part level to_else tokens ≡ after_part next to_else rest

@@ -1,7 +1,7 @@
 -- What an expansion gives, by the tree of its format and the tree's meaning: terminfo(5),
 -- "Parameterized Strings".
 use Rattle.std.specs.Prelude.{◌≡◌, ℕ, List, ℤ, Ok, Err}
-use Rattle.ti_param.specs.Formats.{FormatTree, IsTree}
+use Rattle.ti_formats.specs.Formats.{FormatTree, IsTree}
 use Rattle.ti_param.specs.Meaning.{FormatArgument, MachineState, start, meaning}
 
 -- the format has a tree, which runs to this output and these static variables

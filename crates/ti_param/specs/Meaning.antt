@@ -6,18 +6,18 @@ use Rattle.std.specs.Prelude.{nat_lt, bit_and, bit_or, bit_xor, ℤ, pos, ◌+�
 use Rattle.std.specs.Ordering.{int_eq}
 use Rattle.std.specs.Int.{w32, cast_signed, cast_unsigned, int_wrap, int_rem_euclid}
 use Rattle.std.specs.Int.RustNames.{int_div, int_rem}
-use Rattle.ti_param.specs.declared.codes.Code.{Code}
-use Rattle.ti_param.specs.declared.codes.Code.TheVariants.{Percent, Character, Print, Parameter, Store, Fetch, Constant, Length, Binary, Not, Complement}
-use Rattle.ti_param.specs.declared.codes.Code.TheVariants.{Increment}
-use Rattle.ti_param.specs.declared.codes.Operator.{Operator}
-use Rattle.ti_param.specs.declared.codes.Operator.TheVariants.{Add, Subtract, Multiply, Divide, Remainder, BitAnd, BitOr, BitXor, Equal, Greater, Less, And, Or}
-use Rattle.ti_param.specs.declared.codes.Variable.{Variable}
-use Rattle.ti_param.specs.declared.codes.Variable.TheVariants.{Dynamic, Static}
+use Rattle.ti_formats.specs.declared.codes.Code.{Code}
+use Rattle.ti_formats.specs.declared.codes.Code.TheVariants.{Percent, Character, Print, Parameter, Store, Fetch, Constant, Length, Binary, Not, Complement}
+use Rattle.ti_formats.specs.declared.codes.Code.TheVariants.{Increment}
+use Rattle.ti_formats.specs.declared.codes.Operator.{Operator}
+use Rattle.ti_formats.specs.declared.codes.Operator.TheVariants.{Add, Subtract, Multiply, Divide, Remainder, BitAnd, BitOr, BitXor, Equal, Greater, Less, And, Or}
+use Rattle.ti_formats.specs.declared.codes.Variable.{Variable}
+use Rattle.ti_formats.specs.declared.codes.Variable.TheVariants.{Dynamic, Static}
 use Rattle.ti_printing.specs.declared.printf.Directive.{Directive}
 use Rattle.ti_param.specs.declared.values.Value.{Value}
 use Rattle.ti_param.specs.declared.values.Value.TheVariants.{Number, Text}
-use Rattle.ti_param.specs.Limits.{letter_count}
-use Rattle.ti_param.specs.Formats.{FormatTree, nothing, byte, code, group, choice}
+use Rattle.ti_formats.specs.Limits.{letter_count}
+use Rattle.ti_formats.specs.Formats.{FormatTree, nothing, byte, code, group, choice}
 use Rattle.ti_printing.specs.Printf.{form_bytes}
 use Rattle.ti_text.specs.Ascii as ascii
 

@@ -1,8 +1,6 @@
 -- Computed forms of what the other files define by relations, and words that only private functions
 -- and proofs use.
-pub mod Codes
-pub mod Formats
 pub mod Expansion
 pub mod Machine
 pub mod Output
-pub mod Reader
+pub mod Skipping

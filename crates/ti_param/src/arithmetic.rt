@@ -2,7 +2,7 @@
 ghost use Rattle.std.specs.Prelude.{◌≡◌, pos, length};
 ghost use Rattle.ti_param.specs.Meaning.{operation, complement, low_byte, truth, is_zero, in_32_bits};
 
-use crate::codes::Operator;
+use ti_formats::Operator;
 
 /// `x` and `y` under an operator. A division by 0 gives 0.
 pub(crate) fn operate(operator: Operator, x: i32, y: i32) -> i32

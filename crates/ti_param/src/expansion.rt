@@ -1,18 +1,17 @@
 //! The bytes that a parameter string sends to the terminal.
 ghost use Rattle.std.specs.Prelude.{◌≡◌, ℕ, ◌+◌, ◌^◌, ◌<◌, ◌≤◌, ◌↔◌, IfOk, OnErr, IsErrOf, map, length};
-ghost use Rattle.ti_param.specs.Formats.{FormatTree, AreTokensOf, IsTree, IsStuck};
-ghost use Rattle.ti_param.specs.inside.Formats.{after_part, left_of, level_after};
+ghost use Rattle.ti_formats.specs.Formats.{FormatTree, AreTokensOf, IsTree, IsStuck};
+ghost use Rattle.ti_param.specs.inside.Skipping.{after_part, level_after};
 ghost use Rattle.ti_param.specs.Meaning.{argument_of, meaning};
 ghost use Rattle.ti_param.specs.Expansion.{Expands, Overflows};
 ghost use Rattle.ti_param.specs.inside.Expansion.{HasOutcome};
 
-use crate::codes::Token;
 use crate::errors::ParamError;
-use crate::lexer::{Lexer, Placed};
 use crate::machine::Machine;
 use crate::output::Output;
 use crate::values::{Statics, Value};
 use std::alloc::Global;
+use ti_formats::{Lexer, Placed, Token};
 use ti_text::limits::PARAMETERS_MAX;
 
 /// The bytes of a format for its parameters: what the format's tree means.
@@ -86,10 +85,10 @@ pub fn expand_output(
 // Runs the tokens that are left.
 #[inline(always)]
 fn run(lexer: &mut Lexer<'_>, machine: &mut Machine<'_>) -> Result<(), ParamError>
-    requires { length (left_of lexer.old).tokens < 2 ^ 64 }
-    ensures ran { (t : FormatTree) → AreTokensOf (left_of lexer.old).tokens t → HasOutcome result machine.new (meaning t machine.old) }
-    ensures stop { (left_of lexer.new).stop ≡ (left_of lexer.old).stop }
-    ensures fewer { length (left_of lexer.new).tokens ≤ length (left_of lexer.old).tokens }
+    requires { length lexer.old.tokens < 2 ^ 64 }
+    ensures ran { (t : FormatTree) → AreTokensOf lexer.old.tokens t → HasOutcome result machine.new (meaning t machine.old) }
+    ensures stop { lexer.new.stop ≡ lexer.old.stop }
+    ensures fewer { length lexer.new.tokens ≤ length lexer.old.tokens }
 {
     while let Some(Placed { place, token }) = lexer.next_token() {
         match token {
@@ -112,10 +111,10 @@ fn run(lexer: &mut Lexer<'_>, machine: &mut Machine<'_>) -> Result<(), ParamErro
 // to the end of the tokens.
 #[inline(always)]
 fn skip(lexer: &mut Lexer<'_>, to_else: bool)
-    requires { length (left_of lexer.old).tokens < 2 ^ 64 }
-    ensures tokens { (left_of lexer.new).tokens ≡ after_part 0 to_else (left_of lexer.old).tokens }
-    ensures stop { (left_of lexer.new).stop ≡ (left_of lexer.old).stop }
-    ensures fewer { length (left_of lexer.new).tokens ≤ length (left_of lexer.old).tokens }
+    requires { length lexer.old.tokens < 2 ^ 64 }
+    ensures tokens { lexer.new.tokens ≡ after_part 0 to_else lexer.old.tokens }
+    ensures stop { lexer.new.stop ≡ lexer.old.stop }
+    ensures fewer { length lexer.new.tokens ≤ length lexer.old.tokens }
 {
     let mut level = 0;
     while let Some(Placed { token, .. }) = lexer.next_token() {

@@ -5,13 +5,13 @@ ghost use Rattle.ti_param.specs.inside.Expansion.{HasOutcome};
 ghost use Rattle.ti_param.specs.inside.Machine.{item_value};
 
 use crate::arithmetic::{bitwise_not, character, logical_not, operate, wrapped_length};
-use crate::codes::{Code, ParameterIndex, Variable};
 use crate::errors::ParamError;
 use crate::output::Output;
 use crate::values::{LETTERS, Statics, Value};
 use arrayvec::ArrayVec;
 use std::alloc::Global;
 use std::marker::Model;
+use ti_formats::{Code, ParameterIndex, Variable};
 use ti_printing::printf::Directive;
 use ti_text::limits::PARAMETERS_MAX;
 

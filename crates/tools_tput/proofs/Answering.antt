@@ -13,11 +13,11 @@ use Rattle.ti_caps.specs.declared.capability.Kind.TheVariants.{Flag, Number, Tex
 use Rattle.ti_layout.specs.Values.{Content, Contents}
 use Rattle.ti_layout.specs.View.{Entry, shown_text}
 use Rattle.ti_param.specs.Expansion.{Expands, Overflows}
-use Rattle.ti_param.specs.Formats.{IsStuck}
+use Rattle.ti_formats.specs.Formats.{IsStuck}
 use Rattle.ti_param.specs.Meaning.{FormatArgument, MachineOutcome, meaning, start}
 use Rattle.ti_param.specs.inside.Expansion.{Expansion, expanded, bad_format, stack_full, expansion_by, unless_stuck, format_expansion}
-use Rattle.ti_param.specs.inside.Formats.{stuck_place, tree_of}
-use Rattle.ti_param.proofs.OneTree.{is_computed}
+use Rattle.ti_formats.specs.inside.Formats.{stuck_place, tree_of}
+use Rattle.ti_formats.proofs.OneTree.{is_computed}
 use Rattle.ti_printing.specs.declared.padding.Line.{Line}
 use Rattle.ti_printing.specs.Padding.{AsksForTooMuch}
 use Rattle.ti_printing.specs.inside.Padding.{padding_of, with_pad_bytes}

@@ -5,11 +5,11 @@ use Rattle.std.specs.Global.{Vec}
 use Rattle.ti_param.specs.declared.errors.ParamError.{ParamError}
 use Rattle.ti_param.specs.declared.errors.ParamError.TheVariants.{BadFormat, StackFull, Memory}
 use Rattle.ti_param.specs.Expansion.{Expands, Overflows}
-use Rattle.ti_param.specs.Formats.{FormatTree, IsTree, IsStuck}
+use Rattle.ti_formats.specs.Formats.{FormatTree, IsTree, IsStuck}
 use Rattle.ti_param.specs.Meaning.{FormatArgument, MachineOutcome, meaning, start}
 use Rattle.ti_param.specs.inside.Expansion.{expanded, bad_format, stack_full, expansion_by, unless_stuck, format_expansion, EndsWith}
-use Rattle.ti_param.specs.inside.Formats.{tree_of}
-use Rattle.ti_param.proofs.OneTree.{is_computed}
+use Rattle.ti_formats.specs.inside.Formats.{tree_of}
+use Rattle.ti_formats.proofs.OneTree.{is_computed}
 
 module _ (format : List ℕ) (parameters : List FormatArgument) (before : List ℤ) where
   pub expands_computed : (output : List ℕ) (after : List ℤ) → Expands format parameters before output after →

@@ -3,7 +3,7 @@ use Rattle.std.proofs.Common.{◌≡◌, ℕ, ◌<◌, true, false, List, [], �
 use Rattle.std.specs.Prelude.{is_some, ℤ}
 use Rattle.std.specs.Global.{Vec}
 use Rattle.ti_param.specs.Expansion.{Expands, Overflows}
-use Rattle.ti_param.specs.Formats.{IsStuck}
+use Rattle.ti_formats.specs.Formats.{IsStuck}
 use Rattle.ti_printing.specs.declared.padding.Line.{Line}
 use Rattle.tools_tput.specs.Parameters.{parameters}
 use Rattle.tools_tput.specs.Results.{AnswersString, Reply, Sends, bad_reply, by_expansion, by_fault, by_overflow}

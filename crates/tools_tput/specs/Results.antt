@@ -6,7 +6,7 @@ use Rattle.std.specs.List.{after_last}
 use Rattle.ti_text.specs.Ascii as ascii
 use Rattle.ti_text.specs.Limits.{parameters_max}
 use Rattle.ti_param.specs.Expansion.{Expands, Overflows}
-use Rattle.ti_param.specs.Formats.{IsStuck}
+use Rattle.ti_formats.specs.Formats.{IsStuck}
 use Rattle.ti_printing.specs.declared.padding.Line.{Line}
 use Rattle.ti_printing.specs.Padding.{AsksForTooMuch, IsPadded}
 use Rattle.ti_caps.specs.Tables.{Capability, capability_named}

@@ -1,5 +1,5 @@
 -- The stack and the parameters as the machine holds them (own).
-use Rattle.std.specs.Prelude.{ℕ, List, [], ◌∷◌, map, drop, pos, slice_index_or}
+use Rattle.std.specs.Prelude.{List, ◌∷◌, map, drop, pos, slice_index_or}
 use Rattle.ti_param.specs.declared.machine.Item.{Item}
 use Rattle.ti_param.specs.declared.machine.Item.TheVariants.{Number, Text}
 use Rattle.ti_param.specs.declared.values.Value.{Value}

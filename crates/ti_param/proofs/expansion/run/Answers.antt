@@ -1,8 +1,7 @@
 use Rattle.std.proofs.Common.{◌≡◌, ap, sym, ◌∙◌, arith, length, true, false, inl, inr}
 use Rattle.std.proofs.lemmas.Result.{err_from_is_err_and}
 use Rattle.ti_param.specs.Meaning.{meaning, top_number, is_zero}
-use Rattle.ti_param.proofs.OneTree.{tokens_run}
-use Rattle.ti_param.proofs.Running.{literal-done, operation-done, operation-full, if-done, end-done, then-taken, then-after_part, else-after_part, run-end}
+use Rattle.ti_param.proofs.Running.{literal-done, operation-done, operation-full, if-done, end-done, then-taken, then-after_part, else-after_part, run-end, tokens_run}
 use Rattle.ti_param.proofs.Running.{error-kept}
 use Rattle.ti_param.proofs.Wrapping.{is-zero, not-zero}
 use Rattle.ti_param.proofs.expansion.run.Goals as goal

@@ -1,4 +1,4 @@
-use Rattle.std.proofs.Common.{◌≡◌, ◌++◌, OnOk, subst, arith, FitsSigned, w32}
+use Rattle.std.proofs.Common.{◌≡◌, ◌++◌, OnOk, subst, FitsSigned, w32}
 use Rattle.std.proofs.lemmas.Int.{to_z-of_z}
 use Rattle.ti_param.proofs.Alone.{alone_bytes, small_abs}
 use Rattle.ti_param.proofs.output.Output.print.Goals as goal

@@ -1,0 +1,9 @@
+pub mod Accepting
+pub mod Conditionals
+pub mod Fronts
+pub mod OneTree
+pub mod Lexing
+pub mod Numbers
+pub mod Parsing
+pub mod Reading
+pub mod Scanning

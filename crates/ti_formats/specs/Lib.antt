@@ -1,0 +1,5 @@
+pub mod Limits
+pub mod Codes
+pub mod Formats
+pub mod Reading
+pub mod inside

@@ -1,0 +1,5 @@
+-- Computed forms of what the other files define by relations, and words that only private functions
+-- and proofs use.
+pub mod Codes
+pub mod Formats
+pub mod Reader

@@ -1,5 +1,0 @@
-use Rattle.ti_param.proofs.OneTree.{one_reading}
-use Rattle.ti_param.proofs.acceptor.one_reading.Goals as goal
-
-pub returns : goal.returns
-returns c = one_reading
