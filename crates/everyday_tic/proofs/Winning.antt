@@ -12,9 +12,9 @@ use Rattle.ti_source.specs.Reading.{Reading}
 use Rattle.base_meaning.specs.Faults.{distinct}
 use Rattle.base_meaning.specs.Owner.{is_among, is_owner, owner, readings}
 use Rattle.everyday_sources.specs.Used.{OwnNamesWin}
-use Rattle.everyday_tic.specs.Entries.{names_at}
+use Rattle.tools_sources.specs.EntryFiles.{names_at}
 use Rattle.everyday_tic.specs.Laws.{OwnNamesAreWritten}
-use Rattle.everyday_tic.proofs.Filing.{all_distinct}
+use Rattle.tools_sources.proofs.Filing.{all_distinct}
 
 -- the names of the block at a position of these
 abbrev names_in : List Reading → ℕ → List (List ℕ)

@@ -1,14 +1,11 @@
 -- The files of the entries of a source (term(5), "Storage location"; tic(1)).
-use Rattle.std.specs.Prelude.{◌≡◌, ℕ, ◌==◌, Bool, true, false, not, List, [], ◌∷◌, map, length, count_by, Option, Some, None, option_and_then}
-use Rattle.std.specs.Prelude.{slice_get, if◌then◌else◌}
+use Rattle.std.specs.Prelude.{◌≡◌, ℕ, ◌==◌, Bool, true, false, not, List, [], length, count_by, Option, option_and_then, slice_get}
+use Rattle.std.specs.Prelude.{if◌then◌else◌}
 use Rattle.std.specs.List.{flat_map, range_with_len}
 use Rattle.std.specs.Option.{option_map_or}
-use Rattle.ti_source.specs.Reading.{Reading}
 use Rattle.base_meaning.specs.Compiled.{EntryState}
-use Rattle.base_meaning.specs.Owner.{readings}
-use Rattle.base_meaning.specs.OwnNames.{own_names}
-use Rattle.tools_devices.specs.Paths.{path_of}
 use Rattle.tools_devices.specs.Tree.{FileAt}
+use Rattle.tools_sources.specs.EntryFiles.{entry_files, names_at}
 use Rattle.user_compiling.specs.Entries.{AreStates, entry_in}
 use Rattle.user_compiling.specs.Laws.{profile_states}
 use Rattle.everyday_sources.specs.Selection.{is_chosen}
@@ -23,19 +20,10 @@ AreStatesBy false texts states = states ≡ profile_states texts
 abbrev pub entry_at : List EntryState → ℕ → Option (List ℕ)
 entry_at states at = option_and_then entry_in (slice_get states at)
 
--- the lookup names of the block at a position
-abbrev pub names_at : List (List ℕ) → ℕ → List (List ℕ)
-names_at texts at = option_map_or (λ (block : Reading). block.names) (slice_get (readings texts) at) []
-
--- the files of an entry: one for each of the names
-abbrev pub files_for : List ℕ → List (List ℕ) → Option (List ℕ) → List FileAt
-files_for directory names None = []
-files_for directory names (Some image) = map (λ name. (path_of directory name, image)) names
-
--- the files of the block at a position: if it is chosen, one for each lookup name that it owns
+-- the files of the block at a position, if it is chosen and has an entry
 abbrev pub block_files : List ℕ → Option (List ℕ) → List (List ℕ) → List EntryState → ℕ → List FileAt
 block_files directory asked texts states at =
-    if is_chosen asked (names_at texts at) then files_for directory (own_names (readings texts) at (names_at texts at)) (entry_at states at) else []
+    if is_chosen asked (names_at texts at) then option_map_or (entry_files directory texts at) (entry_at states at) [] else []
 
 -- the files of the first blocks, of that many
 abbrev pub first_files : List ℕ → Option (List ℕ) → List (List ℕ) → List EntryState → ℕ → List FileAt

@@ -2,7 +2,7 @@
 use Rattle.std.specs.Prelude.{◌≡◌, ◌<◌, ℕ, List, ◌++◌, length}
 use Rattle.base_meaning.specs.Owner.{readings}
 use Rattle.base_meaning.specs.OwnNames.{own_names}
-use Rattle.everyday_tic.specs.Entries.{names_at}
+use Rattle.tools_sources.specs.EntryFiles.{names_at}
 
 -- A block of a source has files by the same names with further blocks after the source as without
 -- them: an installed entry takes no name from it.

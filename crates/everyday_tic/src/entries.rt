@@ -1,22 +1,17 @@
 //! The files of the entries of a source.
-ghost use Rattle.std.specs.Prelude.{◌≡◌, ◌<◌, ◌≤◌, ◌+◌, ◌==◌, ◌++◌, ◌∷◌, [], ℕ, All, IfOk, OnOk, Some, if◌then◌else◌, length, map, not, option_map};
-ghost use Rattle.std.specs.Rc.{rc_slice_items};
-ghost use Rattle.base_meaning.specs.Owner.{is_owner, readings};
-ghost use Rattle.base_meaning.specs.OwnNames.{own_names};
-ghost use Rattle.tools_devices.specs.Paths.{path_of};
+ghost use Rattle.std.specs.Prelude.{◌≡◌, ◌<◌, ◌≤◌, ◌+◌, ◌==◌, ◌++◌, ℕ, IfOk, OnOk, if◌then◌else◌, length, map, not, option_map};
 ghost use Rattle.tools_devices.specs.Placing.{entries};
 ghost use Rattle.user_compiling.specs.Entries.{state_seen};
 ghost use Rattle.everyday_tic.specs.Entries as spec;
-ghost use Rattle.everyday_tic.specs.Entries.{block_files, entry_count, files_for, first_files};
+ghost use Rattle.everyday_tic.specs.Entries.{block_files, entry_count, first_files};
 ghost use Rattle.everyday_tic.specs.inside.States.{states_of};
-ghost use Rattle.everyday_tic.specs.inside.Names.{IsAsciiName};
 
 use crate::options::TicOptions;
 use everyday_sources::is_chosen;
 use std::alloc::{AllocError, Global};
-use std::rc::RcSlice;
-use ti_base::{Database, distinct_names};
-use tools_devices::{File, entry_path};
+use ti_base::Database;
+use tools_devices::File;
+use tools_sources::add_entry_files;
 use user_compiling::Compiled;
 
 /// The files of entries, and how many entries they are of.
@@ -26,57 +21,6 @@ pub(crate) struct EntryFiles {
     pub files: Vec<File>,
     /// How many entries they are of.
     pub entries: usize,
-}
-
-// Whether a name belongs to the block at a position.
-fn owns(database: &Database, name: &[u8], at: usize) -> bool
-    ensures { result ≡ is_owner (readings database.now) name.now at }
-{
-    match database.owner(name) {
-        Some(place) => place == at,
-        None => false,
-    }
-}
-
-// Adds the file of a name.
-fn push_file(
-    alloc: Global,
-    files: &mut Vec<File>,
-    directory: &str,
-    name: &[u8],
-    image: &[u8],
-) -> Result<(), AllocError>
-    requires { IsAsciiName name.now }
-    ensures { OnOk result (entries files.new.items ≡ entries files.old.items ++ (path_of directory.now name.now, image.now) ∷ []) }
-{
-    let path = entry_path(alloc, directory, name)?;
-    let bytes = Vec::from_slice(alloc, image)?;
-    files.push(File { path, bytes })?;
-    Ok(())
-}
-
-// Adds a file of an entry for each of these names that belongs to the block at a position.
-fn add_files(
-    alloc: Global,
-    files: &mut Vec<File>,
-    directory: &str,
-    names: &[RcSlice<u8>],
-    image: &[u8],
-    database: &Database,
-    at: usize,
-) -> Result<(), AllocError>
-    requires { All IsAsciiName (map rc_slice_items names.now) }
-    ensures { OnOk result (entries files.new.items ≡ entries files.old.items
-        ++ files_for directory.now (own_names (readings database.now) at (map rc_slice_items names.now)) (Some image.now)) }
-{
-    let once = distinct_names(alloc, names)?;
-    for name in &once {
-        let name = name.as_slice();
-        if owns(database, name, at) {
-            push_file(alloc, files, directory, name, image)?;
-        }
-    }
-    Ok(())
 }
 
 // The entry of the block at a position, as it was compiled with its user-defined capabilities.
@@ -121,8 +65,6 @@ fn add_block(
         ++ block_files options.now.directory.now (option_map (λ e. e.now) options.now.entries) database.now
         (states_of database.now (option_map (λ c. c.now) compiled.entry)) at) }
 {
-    // A law, with no code: each block is read, so its names are ASCII.
-    ti_source::laws::one_reading();
     let names = database.names(at);
     if !is_chosen(options.entries, names) {
         return Ok(());
@@ -130,7 +72,7 @@ fn add_block(
     let Some(image) = entry_at(database, compiled, at) else {
         return Ok(());
     };
-    add_files(alloc, files, options.directory, names, image, database, at)
+    add_entry_files(alloc, files, options.directory, database, at, image)
 }
 
 // 1 if there are more files than before, else 0.

@@ -1,3 +1,2 @@
 -- Words that only private functions and proofs use.
-pub mod EntryFiles
 pub mod Listings

@@ -1,3 +1,4 @@
 pub mod Ending
+pub mod Filing
 pub mod Inserting
 pub mod Refusing

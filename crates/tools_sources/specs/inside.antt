@@ -1,2 +1,3 @@
 -- Words that only private functions and proofs use.
 pub mod Loading
+pub mod Names

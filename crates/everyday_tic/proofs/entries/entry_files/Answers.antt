@@ -3,7 +3,8 @@ use Rattle.std.specs.Option.{option_map}
 use Rattle.tools_devices.specs.Placing.{entries}
 use Rattle.everyday_tic.specs.Entries.{block_files}
 use Rattle.everyday_tic.specs.inside.States.{states_of}
-use Rattle.everyday_tic.proofs.Filing.{files_more, one_more_block, one_more_counted}
+use Rattle.tools_sources.proofs.Filing.{one_more_block}
+use Rattle.everyday_tic.proofs.Filing.{files_more, one_more_counted}
 use Rattle.everyday_tic.proofs.entries.entry_files.Goals as goal
 
 pub loop-at-preserved : goal.loop-at-preserved

@@ -1,8 +1,8 @@
 use Rattle.std.proofs.Common.{map}
 use Rattle.std.specs.Rc.{rc_slice_items}
-use Rattle.ti_tools.specs.inside.EntryFiles.{IsAsciiName}
-use Rattle.ti_tools.proofs.Filing.{holds_once}
-use Rattle.ti_tools.proofs.entry_files.add_files.Goals as goal
+use Rattle.tools_sources.specs.inside.Names.{IsAsciiName}
+use Rattle.tools_sources.proofs.Filing.{holds_once}
+use Rattle.tools_sources.proofs.entry_files.add_owned.Goals as goal
 
 pub push_file-requires : goal.push_file-requires
 push_file-requires c =
