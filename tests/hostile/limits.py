@@ -14,6 +14,7 @@ from common import program_of  # noqa: E402
 PROGRAM = os.environ.get("TI_PROGRAM") or program_of("ti")
 PROBE = os.environ.get("TI_PROBE") or program_of("dev_probe")
 LSP = os.environ.get("TI_LSP") or program_of("ti_lsp")
+EVERYDAY = os.environ.get("TI_EVERYDAY") or program_of("ti_everyday")
 MEMORY_MAX = 2_000_000_000
 # of CPU time
 SECONDS_MAX = 120

@@ -23,6 +23,7 @@ import limits
 import randoms
 import server  # noqa: F401, adds its inputs
 import squares  # noqa: F401, adds its inputs
+import user_defined  # noqa: F401, adds its inputs
 
 # how many of each kind are made at random: short, and with --all. A session of `edits` has 20
 # edits, so these are 2,000; a run of `documents` too.
@@ -63,7 +64,7 @@ def main():
     words.add_argument("--seed", type=int, default=None)
     words.add_argument("--only", default="")
     words = words.parse_args()
-    for program in (limits.PROGRAM, limits.PROBE, limits.LSP):
+    for program in (limits.PROGRAM, limits.PROBE, limits.LSP, limits.EVERYDAY):
         if not os.access(program, os.X_OK):
             print(f"{program} is not built")
             print("hostile: 0 passed, 1 failed")
