@@ -1,10 +1,13 @@
 //! Blocks as they are read, with their faults.
 use std::alloc::{AllocError, Global};
 use std::fmt::Write;
+use std::rc::RcSlice;
 use std::test::Fail;
 use ti_layout::Value;
+use ti_source::{Code, is_block, parse};
 use user_items::{
-    UserCode, UserFault, UserItem, UserItems, UserWhat, is_user_defined_name, user_items,
+    UserCode, UserFault, UserItem, UserItems, UserWhat, is_user_defined_name, is_user_warning,
+    known_user_items, user_items,
 };
 
 // Bytes in hexadecimal.
@@ -89,8 +92,18 @@ fn reads(alloc: Global, block: &[u8], wanted: &str) -> Result<bool, AllocError> 
     Ok(reading(alloc, &read)?.as_str() == wanted)
 }
 
+// Whether the same is read of a block of which the items and faults are known.
+fn known_reads(alloc: Global, block: &[u8], wanted: &str) -> Result<bool, AllocError> {
+    if !is_block(block) {
+        return Ok(false);
+    }
+    let parsed = parse(alloc, block)?;
+    let read = known_user_items(alloc, block, &parsed.items, &parsed.faults)?;
+    Ok(reading(alloc, &read)?.as_str() == wanted)
+}
+
 // Blocks, and what is read of them.
-static BLOCKS: [(&'static str, &'static str); 9] = [
+static BLOCKS: [(&'static str, &'static str); 11] = [
     (
         "a|one,am,zed,Abc,cols#80,num#5,big#0x1ff,str=\\E[%p1%dm,aaa=x\\0y,bel=^G,zz@,empty=,\n",
         "1:1 zed;2:1 Abc;4:1 num#5;5:1 big#511;6:1 str=1b5b25703125646d;7:1 aaa=788079;9:1 zz@;10:1 empty=;",
@@ -115,12 +128,54 @@ static BLOCKS: [(&'static str, &'static str); 9] = [
         "0:1 Tc;1:1 Tc@;2:1 Tc#3;3:1 Tc=78;",
     ),
     ("j,.Tc,a%&*!9,ünd,\n", "1:1 a%&*!9;"),
+    (
+        "k|none,am,use=a,cols#80,\n\tuse=b,\n",
+        "1:1 use=a;3:2 use=b;",
+    ),
+    ("l,a b,use=a,bel=\\400,\n", "1:1 use=a;"),
 ];
 
 #[test]
 fn blocks_are_read(rt: HostRuntime) -> Result<(), Fail> {
     for (block, wanted) in &BLOCKS {
         assert!(rt; reads(rt.alloc(), block.as_bytes(), wanted)?, "{block}");
+    }
+    Ok(())
+}
+
+#[test]
+fn known_blocks_are_read_alike(rt: HostRuntime) -> Result<(), Fail> {
+    for (block, wanted) in &BLOCKS {
+        assert!(rt;
+            known_reads(rt.alloc(), block.as_bytes(), wanted)?,
+            "{block}"
+        );
+    }
+    Ok(())
+}
+
+// Faults, and whether they are of a user-defined name that is unknown to the tables.
+static WARNINGS: [(Code, Option<&'static str>, bool); 6] = [
+    (Code::UnknownCapability, Some("Tc"), true),
+    (Code::UnknownCapability, Some("kUP5"), true),
+    (Code::UnknownCapability, Some("a b"), false),
+    (Code::UnknownCapability, Some(""), false),
+    (Code::UnknownCapability, None, false),
+    (Code::UnknownEscape, Some("Tc"), false),
+];
+
+#[test]
+fn warnings_of_user_defined_names_are_known(rt: HostRuntime) -> Result<(), Fail> {
+    for (code, name, wanted) in &WARNINGS {
+        let detail = match name {
+            Some(name) => Some(RcSlice::from_slice(rt.alloc(), name.as_bytes())?),
+            None => None,
+        };
+        assert_eq!(rt;
+            is_user_warning(*code, &detail),
+            *wanted,
+            "{code:?} {name:?}"
+        );
     }
     Ok(())
 }

@@ -4,7 +4,7 @@ use std::fmt::Write;
 use std::test::Fail;
 use ti_base::Database;
 use ti_layout::Value;
-use user_values::{UserTable, UserTables};
+use user_values::{UserTable, UserTables, ValuesError};
 
 // Bytes as characters.
 fn say_name(said: &mut String, name: &[u8]) -> Result<(), AllocError> {
@@ -70,16 +70,16 @@ static SOURCE: [(&'static str, Option<&'static str>); 9] = [
     ("m,Tc,use=m,\n", None),
 ];
 
-// The source as a database, each block put in after the others.
-fn database_of(alloc: Global) -> Option<Database> {
+// A database of these blocks.
+fn database_of(alloc: Global, blocks: &[&str]) -> Result<Database, Fail> {
     let mut database = Database::new(alloc);
-    for (text, _) in &SOURCE {
+    for text in blocks {
         let at = database.len();
         if database.insert(at, text.as_bytes()).is_err() {
-            return None;
+            return Err(Fail::new("a block is refused"));
         }
     }
-    Some(database)
+    Ok(database)
 }
 
 // Whether a block says this.
@@ -98,18 +98,74 @@ fn says(
 #[test]
 fn the_leftmost_mention_decides(rt: HostRuntime) -> Result<(), Fail> {
     let alloc = rt.alloc();
-    let Some(database) = database_of(alloc) else {
-        assert!(rt; false, "the source is refused");
-        return Ok(());
-    };
+    let blocks = SOURCE.map(|(text, _)| text);
+    let database = database_of(alloc, &blocks)?;
     let mut tables = UserTables::of(alloc, &database)?;
-    let mut made = 0;
-    while let Some(at) = tables.make_next()? {
-        let (text, wanted) = SOURCE.get(at).ok_or(Fail)?;
+    for _block in &SOURCE {
+        let Some(at) = tables.make_next()? else {
+            return Err(Fail::new("a table is missing"));
+        };
+        let Some((text, wanted)) = SOURCE.get(at) else {
+            return Err(Fail::new("no block"));
+        };
         assert!(rt; says(alloc, tables.table(at), *wanted)?, "{text}");
-        made += 1;
     }
-    assert_eq!(rt; made, SOURCE.len());
+    assert!(rt; tables.make_next()?.is_none());
+    Ok(())
+}
+
+#[test]
+fn tables_are_made_after_those_of_used_blocks(rt: HostRuntime) -> Result<(), Fail> {
+    let alloc = rt.alloc();
+    let database = database_of(alloc, &["a,use=b,\n", "b,Tc,\n", "c,use=b,use=a,\n"])?;
+    let mut tables = UserTables::of(alloc, &database)?;
+    for wanted in [1, 0, 2] {
+        assert_eq!(rt; tables.make_next()?, Some(wanted));
+    }
+    assert_eq!(rt; tables.make_next()?, None);
+    assert_eq!(rt; tables.make_next()?, None);
+    Ok(())
+}
+
+#[test]
+fn the_table_made_last_is_there(rt: HostRuntime) -> Result<(), Fail> {
+    let alloc = rt.alloc();
+    let database = database_of(alloc, &["a,Tc,Su@,\n"])?;
+    let mut tables = UserTables::of(alloc, &database)?;
+    let Some(at) = tables.make_next()? else {
+        return Err(Fail::new("no table is made"));
+    };
+    assert!(rt; says(alloc, tables.table(at), Some("Su@;Tc;"))?);
+    Ok(())
+}
+
+// A block that defines so many names of three digits.
+fn many_names(alloc: Global, name: &str, letter: char, count: usize) -> Result<String, AllocError> {
+    let mut text = String::new(alloc);
+    write!(text, "{name},")?;
+    for number in 0..count {
+        write!(text, "{letter}{number},")?;
+    }
+    text.push_str("\n")?;
+    Ok(text)
+}
+
+// Whether a source of 1,024 names and these in one more block has too many.
+fn has_too_many(alloc: Global, more: &str) -> Result<bool, Fail> {
+    let first = many_names(alloc, "a", 'x', 1_000)?;
+    let second = many_names(alloc, "b", 'y', 24)?;
+    let database = database_of(alloc, &[first.as_str(), second.as_str(), more])?;
+    match UserTables::of(alloc, &database) {
+        Ok(_) => Ok(false),
+        Err(ValuesError::TooManyNames(2)) => Ok(true),
+        Err(_) => Err(Fail::new("no memory")),
+    }
+}
+
+#[test]
+fn a_source_has_at_most_1024_names(rt: HostRuntime) -> Result<(), Fail> {
+    assert!(rt; !has_too_many(rt.alloc(), "c,x0,y23,use=a,\n")?);
+    assert!(rt; has_too_many(rt.alloc(), "c,x0,y24,\n")?);
     Ok(())
 }
 

@@ -46,9 +46,9 @@ state_stays texts next text _ e f (does_resolve {state = state} h) = does_resolv
 })
 
 pub kept_tables : KeptTablesStayRight
-kept_tables = λ texts change tables at text table h are stands other e.
+kept_tables = λ texts change at table h other is text stands.
     let kept = untouched texts change at text h stands other in
-    table_stays texts (list_after texts change) text table kept.user_mentions (are.each (position_before change at) text table kept.stood e)
+    table_stays texts (list_after texts change) text table kept.user_mentions (is text kept.stood)
 
 pub kept_states : KeptStatesStayRight
 kept_states = λ texts change states at text state h all stands other e.

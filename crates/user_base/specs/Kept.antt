@@ -5,17 +5,17 @@ use Rattle.base_meaning.specs.Edits.{Change, IsInPlace, list_after}
 use Rattle.base_meaning.specs.Exchange.{exchange_of}
 use Rattle.base_meaning.specs.Dependents.{IsDependent}
 use Rattle.user_values.specs.declared.table.UserTable.{UserTable}
-use Rattle.user_values.specs.Tables.{AreUserTables, HasUserTable}
+use Rattle.user_values.specs.Tables.{IsTableAt}
 use Rattle.user_compiling.specs.Entries.{AreStates, IsStateOf}
 use Rattle.user_base.specs.Places.{position_before}
 
 -- the table that such a block had is its table after the edit
 abbrev pub KeptTablesStayRight : Type 0
 KeptTablesStayRight =
-    (texts : List (List ℕ)) (change : Change) (tables : List (Option UserTable)) (at : ℕ) (text : List ℕ) (table : Option UserTable)
-    → IsInPlace texts change → AreUserTables texts tables → slice_get (list_after texts change) at ≡ Some text
-    → ¬ (IsDependent (exchange_of texts change) at) → slice_get tables (position_before change at) ≡ Some table
-    → HasUserTable (list_after texts change) text table
+    (texts : List (List ℕ)) (change : Change) (at : ℕ) (table : Option UserTable)
+    → IsInPlace texts change → ¬ (IsDependent (exchange_of texts change) at)
+    → IsTableAt texts (position_before change at) table
+    → IsTableAt (list_after texts change) at table
 
 -- what became of such a block becomes of it after the edit
 abbrev pub KeptStatesStayRight : Type 0

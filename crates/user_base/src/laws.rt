@@ -8,7 +8,7 @@ pub fn untouched_blocks_say_the_same()
     ensures { UntouchedBlocksSayTheSame }
 {}
 
-/// The table that `user_values` gave of such a block is that which it gives after the edit.
+/// The table that such a block had is its table after the edit.
 pub fn kept_tables_stay_right()
     ensures { KeptTablesStayRight }
 {}

@@ -1,10 +1,10 @@
 -- Each warning is paired with what is wrong with its item.
 use Rattle.std.proofs.Common.{◌≡◌, ℕ, zero, suc, ◌+◌, ◌<◌, ◌≤◌, Bool, true, false, ◌&&◌, ◌||◌, cond, nat_eq, nat_lt, List, [], ◌∷◌, ◌++◌, map, filter, drop}
 use Rattle.std.proofs.Common.{length, get_or, Option, Some, None, refl, sym, ap, ◌∙◌, arith, inl, inr, append_assoc}
-use Rattle.std.specs.Prelude.{not, All}
+use Rattle.std.specs.Prelude.{not}
 use Rattle.std.specs.List.{flat_map, list_any}
 use Rattle.std.proofs.lemmas.Bool.{cases_Bool, false≢true}
-use Rattle.std.proofs.lemmas.List.{append-nil, map-append}
+use Rattle.std.proofs.lemmas.List.{map-append}
 use Rattle.std.proofs.lemmas.Option.{same_Some, none-some}
 use Rattle.ti_source.specs.declared.code.Code.{Code}
 use Rattle.ti_source.specs.declared.code.Code.TheVariants as code
@@ -12,24 +12,23 @@ use Rattle.ti_source.specs.Code.{is_of_header}
 use Rattle.ti_source.specs.Reading.{Reading, ReadFault, ReadItem}
 use Rattle.ti_source.specs.Parsing.{reading_of_text}
 use Rattle.ti_source.specs.Walking.{block_items}
-use Rattle.base_meaning.specs.Owner.{readings, owner_block}
+use Rattle.base_meaning.specs.Owner.{owner_block}
 use Rattle.base_meaning.specs.Expansion.{resolves}
 use Rattle.base_meaning.specs.Reaching.{used_name, leads_to}
-use Rattle.base_meaning.specs.Compiled.{EntryState}
-use Rattle.base_meaning.specs.Faults.{SourceFault, local_fault, local_faults, is_kept, name_fault, name_faults, is_owned_before, distinct, use_fault}
+use Rattle.base_meaning.specs.Faults.{SourceFault, local_fault, local_faults, is_kept, name_fault, name_faults, is_owned_before, distinct}
 use Rattle.base_meaning.specs.Faults.{fault_between, fault_of_use, fault_of_item, faults_before, faults_from, item_faults}
 use Rattle.base_meaning.specs.Laws.{fault_with_ordinal, numbered_faults, ItemFaultsAreInOrder}
 use Rattle.user_items.specs.Names.{is_user_defined_name}
 use Rattle.user_items.specs.Verdicts.{UserVerdict, user_accepted, user_odd, user_refused, says, imports}
-use Rattle.user_items.specs.Laws.{NamedPlace, WarningsAreOfDefiningItems, is_unknown, warning_of, user_warning, places_at, places_from}
-use Rattle.user_items.specs.Reading.{ReadUserFault, UserJudged, fault_with, faults_at, faults_from as user_faults_from, reading_by}
+use Rattle.user_items.specs.Laws.{NamedPlace, WarningsAreOfDefiningItems, is_local_warning, is_unknown, is_warning_with, warning_of, user_warning, places_at, places_from}
+use Rattle.user_items.specs.Reading.{ReadUserFault, UserJudged, fault_with, faults_at, faults_from as user_faults_from}
 use Rattle.user_items.specs.Parsing.{user_reading_of_text}
 use Rattle.user_items.specs.inside.Computed.{judged_of}
 use Rattle.user_items.specs.declared.reading.UserCode.{UserCode}
 use Rattle.user_items.specs.declared.reading.UserCode.TheVariants as user
-use Rattle.user_compiling.specs.Faults.{ExtendedSourceFault, of_profile, in_place, is_user_warning, is_warning_with, own_code, extended_fault}
+use Rattle.user_compiling.specs.Faults.{of_profile, in_place, is_user_warning, own_code, extended_fault}
 use Rattle.user_compiling.specs.Faults.{extended_item_faults}
-use Rattle.user_compiling.specs.inside.Pairs.{is_local_warning, warning_ordinals, code_here, pairs, head_code, tail_codes, replaced, front_faults}
+use Rattle.user_compiling.specs.inside.Pairs.{warning_ordinals, code_here, pairs, head_code, tail_codes, replaced, front_faults}
 
 -- ---- the ordinals of warnings are those of defining items
 

@@ -1,33 +1,25 @@
 -- What becomes of a block, by its table and its rows.
-use Rattle.std.proofs.Common.{◌≡◌, ◌≢◌, ◌↔◌, ℕ, ◌+◌, ◌<◌, ◌≤◌, zero, suc, Bool, true, false, cond, nat_lt, List, [], ◌∷◌, ◌++◌, map, length, take, get_or}
+use Rattle.std.proofs.Common.{◌≡◌, ◌≢◌, ℕ, ◌<◌, ◌≤◌, Bool, true, false, cond, nat_lt, List, [], ◌∷◌, length}
 use Rattle.std.proofs.Common.{Option, Some, None, is_some, option_and_then, slice_get, refl, sym, ap, ◌∙◌, subst, arith}
-use Rattle.std.specs.Prelude.{All}
-use Rattle.std.specs.List.{AllZip, Contains}
 use Rattle.std.proofs.lemmas.Bool.{lt-ltb, le-ltb, false≢true}
-use Rattle.std.proofs.lemmas.List.{take_all}
-use Rattle.std.proofs.lemmas.Option.{same_Some, none-some, get_or_from_slice_get}
 use Rattle.user_values.proofs.Resolving.{read_text}
-use Rattle.ti_text.proofs.Lists.{item_at, take_item}
-use Rattle.ti_text.specs.Texts.{HasNoNul}
 use Rattle.ti_source.specs.Reading.{Reading}
 use Rattle.ti_source.specs.Parsing.{reading_of_text}
 use Rattle.ti_layout.specs.Values.{Content, content_true, content_number, content_text, content_cancelled, Contents, Mention, contents}
 use Rattle.ti_layout.specs.Laws.{without_cancel, ShowSame}
-use Rattle.ti_layout.specs.Image.{image, image_limit}
+use Rattle.ti_layout.specs.Image.{image_limit}
 use Rattle.base_meaning.specs.Owner.{readings}
-use Rattle.base_meaning.specs.Expansion.{values, is_broken, expansion}
-use Rattle.base_meaning.specs.Compiled.{EntryState, unresolved, oversized, written, entry as entry_there, entry_of, image_of, is_too_large, compiled}
-use Rattle.base_meaning.specs.ValueTables.{HasTable, IsTableOfMentions}
-use Rattle.base_meaning.proofs.Imaging.{sound_of_expansion}
+use Rattle.base_meaning.specs.Expansion.{values, expansion}
+use Rattle.base_meaning.specs.Compiled.{EntryState, oversized, written, entry as entry_there, entry_of, image_of, is_too_large, compiled}
+use Rattle.base_meaning.specs.ValueTables.{IsTableOfMentions}
 use Rattle.user_extension.specs.declared.user_defined.UserDefined.{UserDefined}
 use Rattle.user_extension.specs.UserDefined.{Row, rows_of}
 use Rattle.user_extension.specs.Extension.{entry, entry_limit}
-use Rattle.user_values.specs.Expansion.{UserMention, first_said, expansion as user_expansion}
-use Rattle.user_values.specs.Tables.{IsUserTableOf, AreUserTables, HasUserTable}
-use Rattle.user_values.specs.declared.table.UserTable.{UserTable}
+use Rattle.user_values.specs.Expansion.{first_said, expansion as user_expansion}
+use Rattle.user_values.specs.Tables.{IsUserTableOf}
 use Rattle.user_values.specs.Laws.{ValuesAreWhereResolved}
 use Rattle.user_compiling.specs.Rows.{AreRowsOf}
-use Rattle.user_compiling.specs.Entries.{entry_with, state_with, HasStateBy, IsStateOf, does_not_resolve}
+use Rattle.user_compiling.specs.Entries.{entry_with, state_with, HasStateBy}
 use Rattle.user_compiling.specs.inside.States.{state_of_entry}
 use Rattle.user_compiling.proofs.RowLists.{rows_agree}
 use Rattle.user_compiling.proofs.Imaging.{entries_are_of_values, limits_are_of_values, entry_without}
@@ -127,40 +119,7 @@ none_without law texts text e = nothing (expansion (readings texts) (reading_of_
   nothing None f = refl
   nothing (Some x) f = absurd (false≢true (sym f))
 
--- ---- all blocks
-
-slice_get-from_get_or : {X : Type 0} (xs : List X) (i : ℕ) (x : X) → i < length xs → x ≡ get_or xs i x → slice_get xs i ≡ Some x
-slice_get-from_get_or [] i x l e = absurd (omega (arith, l))
-slice_get-from_get_or (y ∷ ys) zero x l e = ap (λ z. Some z) (sym e)
-slice_get-from_get_or (y ∷ ys) (suc i) x l e = slice_get-from_get_or ys i x (omega (arith, l)) e
-
--- the table at a place is that of the block
-pub table_at : (texts : List (List ℕ)) (tables : List (Option UserTable)) (at : ℕ) (text : List ℕ) (table : Option UserTable) → AreUserTables texts tables
-    → slice_get texts at ≡ Some text → at < length tables → table ≡ get_or tables at table
-    → HasUserTable texts text table
-table_at texts tables at text table are stands l e = are.each at text table stands (slice_get-from_get_or tables at table l e)
-
-zip_push : (texts xs : List (List ℕ)) (x : List ℕ) (ss : List EntryState) (s : EntryState) → AllZip (IsStateOf texts) xs ss → IsStateOf texts x s
-    → AllZip (IsStateOf texts) (xs ++ x ∷ []) (ss ++ s ∷ [])
-zip_push texts [] x [] s all h = (h, all)
-zip_push texts [] x (t ∷ ts) s all h = absurd all
-zip_push texts (y ∷ ys) x [] s all h = absurd all
-zip_push texts (y ∷ ys) x (t ∷ ts) s all h = (all.0, zip_push texts ys x ts s all.1 h)
-
--- one more block has its state
-pub one_more_state : (texts : List (List ℕ)) (at : ℕ) (old new : List EntryState) (state : EntryState) → at < length texts
-    → AllZip (IsStateOf texts) (take at texts) old → ((text : List ℕ) → slice_get texts at ≡ Some text → IsStateOf texts text state)
-    → new ≡ old ++ state ∷ [] → AllZip (IsStateOf texts) (take (at + 1) texts) new
-one_more_state texts at old new state l all h e =
-    let text = item_at texts at l in
-    let more : take (at + 1) texts ≡ take at texts ++ text.0 ∷ [] = take_item texts at text.0 l (sym (get_or_from_slice_get texts at text.0 text.0 text.1)) in
-    subst (AllZip (IsStateOf texts) (take (at + 1) texts)) (sym e)
-    (subst (λ (xs : List (List ℕ)). AllZip (IsStateOf texts) xs (old ++ state ∷ [])) (sym more)
-    (zip_push texts (take at texts) text.0 old state all (h text.0 text.1)))
-
-pub all_of_states : (texts : List (List ℕ)) (at : ℕ) (states : List EntryState) → length texts ≤ at → AllZip (IsStateOf texts) (take at texts) states
-    → AllZip (IsStateOf texts) texts states
-all_of_states texts at states l all = subst (λ (xs : List (List ℕ)). AllZip (IsStateOf texts) xs states) (take_all at texts l) all
+-- ---- rows
 
 pub no_rows_seen : (xs : List UserDefined) → length xs ≡ 0 → rows_of xs ≡ []
 no_rows_seen [] e = refl

@@ -1,7 +1,7 @@
 -- The faults of a source whose user-defined capabilities are kept (own): those of the profile, each
 -- warning of an unknown name that an item defines exchanged for what is wrong with that item, if
 -- something is, and the fault of the entry by the entry with its extension.
-use Rattle.std.specs.Prelude.{ℕ, suc, Bool, true, false, ◌&&◌, nat_eq, if◌then◌else◌, List, [], ◌∷◌, ◌++◌, map, filter, Option, Some, None}
+use Rattle.std.specs.Prelude.{ℕ, suc, Bool, true, false, nat_eq, if◌then◌else◌, List, [], ◌∷◌, ◌++◌, map, filter, Option, Some, None}
 use Rattle.std.specs.List.{flat_map}
 use Rattle.std.specs.Rc.{rc_slice_items}
 use Rattle.ti_source.specs.declared.code.Code.{Code}
@@ -13,8 +13,7 @@ use Rattle.base_meaning.specs.Owner.{readings}
 use Rattle.base_meaning.specs.Compiled.{EntryState}
 use Rattle.base_meaning.specs.Faults.{SourceFault, fault_seen as profile_fault_seen, is_kept, local_faults, name_faults, entry_faults}
 use Rattle.base_meaning.specs.Laws.{numbered_faults}
-use Rattle.user_items.specs.Names.{is_user_defined_name}
-use Rattle.user_items.specs.Laws.{is_unknown}
+use Rattle.user_items.specs.Laws.{is_warning_with}
 use Rattle.user_items.specs.Reading.{ReadUserFault}
 use Rattle.user_items.specs.Parsing.{user_reading_of_text}
 use Rattle.user_items.specs.declared.reading.UserCode.{UserCode}
@@ -34,12 +33,7 @@ fault_seen (fault.BadUserDefined block line name) = bad_user_defined block line 
 
 -- ---- the warnings of the profile that go
 
--- whether a fault with this code and detail is the warning of an unknown name that is user-defined
-abbrev pub is_warning_with : Code → Option (List ℕ) → Bool
-is_warning_with c None = false
-is_warning_with c (Some name) = is_unknown c && is_user_defined_name name
-
--- whether a fault of the profile is such a warning
+-- whether a fault of the profile is the warning of an unknown name that is user-defined
 abbrev pub is_user_warning : SourceFault → Bool
 is_user_warning f = is_warning_with f.code f.detail
 

@@ -18,7 +18,7 @@ ghost use Rattle.user_compiling.specs.inside.Pairs.{pairs, warning_ordinals, rep
 
 use crate::compiled::Compiled;
 use crate::fault::ExtendedFault;
-use crate::own_codes::{is_warning, own_codes};
+use crate::own_codes::own_codes;
 use base_meaning::Fault;
 use std::alloc::{AllocError, Global};
 use std::rc::RcSlice;
@@ -30,7 +30,7 @@ use user_items::UserCode;
 fn is_user_warning(fault: &Fault) -> bool
     ensures { result ≡ is_user_warning (profile_fault_seen fault.now) }
 {
-    is_warning(fault.code, &fault.detail)
+    user_items::is_user_warning(fault.code, &fault.detail)
 }
 
 // Whether one of the faults is such a warning.

@@ -9,7 +9,7 @@ ghost use Rattle.base_meaning.specs.ValueTables.{HasTable, IsTableOfMentions};
 ghost use Rattle.std.specs.Prelude.{false};
 ghost use Rattle.user_extension.specs.UserDefined.{rows_of as rows_seen};
 ghost use Rattle.user_values.specs.Limit.{name_count, name_limit, IsOverLimitAt};
-ghost use Rattle.user_values.specs.Tables.{said_at, HasUserTable, IsUserTableOf};
+ghost use Rattle.user_values.specs.Tables.{said_at, IsTableAt, IsUserTableOf};
 ghost use Rattle.user_values.specs.Walking.{IsStartOf};
 ghost use Rattle.user_compiling.specs.Entries.{state_seen, state_with, AreStates, HasStateBy, IsStateOf};
 ghost use Rattle.user_compiling.specs.inside.States.{state_of_entry};
@@ -109,7 +109,7 @@ fn compile_block(
 ) -> Result<Compiled, AllocError>
     requires within { at < length database.now }
     requires one { All OneBlock database.now }
-    requires user { (text : List ℕ) → slice_get database.now at ≡ Some text → HasUserTable database.now text user.now }
+    requires user { IsTableAt database.now at user.now }
     ensures { IfOk result (λ state. (text : List ℕ) → slice_get database.now at ≡ Some text → IsStateOf database.now text (state_seen state)) }
 {
     user_values::laws::values_are_where_resolved();

@@ -1,9 +1,6 @@
 //! What is wrong with the items of a block that define user-defined names.
-ghost use Rattle.std.specs.Prelude.{◌≡◌, ◌<◌, ◌≤◌, ◌++◌, ◌∷◌, List, IfOk, OnOk, OnSome, drop, length, map, option_map};
+ghost use Rattle.std.specs.Prelude.{◌≡◌, ◌<◌, ◌≤◌, ◌++◌, ◌∷◌, List, IfOk, OnOk, OnSome, drop, length, map};
 ghost use Rattle.ti_source.specs.Reading.{ReadFault};
-ghost use Rattle.std.specs.Rc.{rc_slice_items};
-ghost use Rattle.user_items.specs.Laws.{is_unknown};
-ghost use Rattle.user_compiling.specs.Faults.{is_warning_with};
 ghost use Rattle.ti_source.specs.Cutting.{OneBlock};
 ghost use Rattle.ti_source.specs.Parsing.{reading_of_text};
 ghost use Rattle.ti_source.specs.Reading.{fault_of};
@@ -13,26 +10,8 @@ ghost use Rattle.base_meaning.specs.Faults.{SourceFault};
 ghost use Rattle.user_compiling.specs.inside.Pairs.{code_here, pairs, replaced, warning_ordinals};
 
 use std::alloc::{AllocError, Global};
-use std::rc::RcSlice;
-use ti_source::{Code, Local, parse};
-use user_items::{UserCode, UserFault, is_user_defined_name, user_items};
-
-// Whether a code is that of an unknown name.
-fn is_unknown(code: Code) -> bool
-    ensures { result ≡ is_unknown code }
-{
-    matches!(code, Code::UnknownCapability)
-}
-
-/// Whether a fault with this code and detail is the warning of an unknown name that is user-defined.
-pub(crate) fn is_warning(code: Code, detail: &Option<RcSlice<u8>>) -> bool
-    ensures { result ≡ is_warning_with code (option_map rc_slice_items detail.now) }
-{
-    match detail {
-        Some(name) => is_unknown(code) && is_user_defined_name(name.as_slice()),
-        None => false,
-    }
-}
+use ti_source::{Local, parse};
+use user_items::{UserCode, UserFault, is_user_warning, user_items};
 
 // What is wrong with the item of an ordinal, if the next fault is of that item.
 fn code_here(own: &[UserFault], next: usize, ordinal: usize) -> Option<UserCode>
@@ -57,7 +36,7 @@ fn add_code(
         ≡ codes.old.items ++ pairs (warning_ordinals (fault_of local.now ∷ fs)) (map user_fault_of (drop next.old own.now))) }
     ensures within { next.new ≤ length own.now }
 {
-    if !is_warning(local.code, &local.detail) {
+    if !is_user_warning(local.code, &local.detail) {
         return Ok(());
     }
     match code_here(own, *next, local.ordinal) {

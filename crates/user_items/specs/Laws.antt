@@ -72,11 +72,12 @@ places_from ordinal (j ∷ js) = places_at ordinal j ++ places_from (ordinal + 1
 abbrev pub WarningsAreOfDefiningItems : Type 0
 WarningsAreOfDefiningItems = (block : List ℕ) → flat_map user_warning (reading_of_text block).faults ≡ places_from 0 (map judged_of (block_items block))
 
--- what an item of a block gives to user-defined capabilities, if it is a use
+-- what an item with this place and line gives to user-defined capabilities, if it is a use
 abbrev pub use_by : ℕ → ℕ → Said → List ReadUserItem
 use_by ordinal line (said_import name) = record { ordinal = ordinal; line = line; said = imports name } ∷ []
 use_by ordinal line said = []
 
+-- what an item of a block gives to them, if it is a use
 abbrev pub use_in : ReadItem → List ReadUserItem
 use_in item = use_by item.ordinal item.line item.said
 

@@ -1,12 +1,11 @@
 -- Each block that resolves comes after those that it uses.
-use Rattle.std.proofs.Common.{◌≡◌, ℕ, zero, suc, ◌+◌, ◌<◌, ◌≤◌, inl, inr, List, [], ◌∷◌, map, length, set, Option, Some, None, slice_get, refl, sym, ap}
+use Rattle.std.proofs.Common.{◌≡◌, ℕ, zero, suc, ◌<◌, ◌≤◌, inl, inr, List, [], ◌∷◌, map, length, Option, Some, None, slice_get, refl, sym, ap}
 use Rattle.std.proofs.Common.{◌∙◌, arith, subst}
 use Rattle.std.specs.Option.{option_map, IsSome}
-use Rattle.std.proofs.lemmas.Bool.{cases_eq}
-use Rattle.std.proofs.lemmas.List.{length-map, length-set}
+use Rattle.std.proofs.lemmas.List.{length-map}
 use Rattle.std.proofs.lemmas.Option.{same_Some, none-some, slice_get-map, slice_get_within}
-use Rattle.ti_text.proofs.Lists.{item_at, get-set_same, get-set_other}
-use Rattle.base_components.specs.Graph.{Rows, HasEdge, IsGraph}
+use Rattle.ti_text.proofs.Lists.{item_at}
+use Rattle.base_components.specs.Graph.{HasEdge, IsGraph}
 use Rattle.base_components.specs.Leading.{IsWay, Leads}
 use Rattle.base_components.specs.Components.{AreComponents, IsClosingOrder}
 use Rattle.base_meaning.specs.Owner.{owner, readings}
@@ -16,12 +15,12 @@ use Rattle.user_items.specs.Reading.{ReadUserItem, UserBlock}
 use Rattle.user_items.specs.Parsing.{user_reading_of_text}
 use Rattle.user_values.specs.declared.table.UserTable.{UserTable}
 use Rattle.user_values.specs.Expansion.{UserMention, expand, expansion}
-use Rattle.user_values.specs.Tables.{said_at, IsUserTableOf, HasUserTable, AreUserTables}
-use Rattle.user_values.specs.Uses.{used_block, edge_of, row_of, rows_of, uses_of}
+use Rattle.user_values.specs.Tables.{HasUserTable}
+use Rattle.user_values.specs.Uses.{used_block, edge_of, row_of, uses_of}
 use Rattle.user_values.specs.inside.Settling.{OwnerIsDone, OwnersAreDone}
 use Rattle.user_values.specs.inside.Walking.{AreLast, AreKept}
 use Rattle.user_values.proofs.Resolving.{found, mapped, text_read}
-use Rattle.user_values.proofs.Making.{some_from, UsesOwner, used_owner}
+use Rattle.user_values.proofs.Making.{some_from, used_owner}
 
 -- ---- edges are uses
 

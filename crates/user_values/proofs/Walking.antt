@@ -9,7 +9,7 @@ use Rattle.base_components.specs.Components.{IsClosingOrder}
 use Rattle.user_values.specs.declared.table.UserTable.{UserTable}
 use Rattle.user_values.specs.Tables.{HasUserTable}
 use Rattle.user_values.specs.Uses.{uses_of}
-use Rattle.user_values.specs.Walking.{IsOrderOf}
+use Rattle.user_values.specs.Walking.{TablesSeen, IsOrderOf, MakesNext, IsMadeLast, once_made}
 use Rattle.user_values.specs.inside.Walking.{NotesUses, AreLast, DropsUnused, AreKept, IsLatest}
 use Rattle.user_values.proofs.Ordering.{graph_length}
 
@@ -20,11 +20,21 @@ found_in xs i x e l = slice_get-get_or xs i x l ∙ ap (λ y. Some y) (sym e)
 pub found_at : (xs ys : List ℕ) (i x : ℕ) → ys ≡ xs → x ≡ get_or ys i x → i < length ys → slice_get xs i ≡ Some x
 found_at xs ys i x same e l = ap (λ zs. slice_get zs i) (sym same) ∙ found_in ys i x e l
 
+-- what was made next is what was made last
+pub made_last : (old : TablesSeen) (at : Option ℕ) (new : TablesSeen) (here : ℕ) → MakesNext old at new → at ≡ Some here → IsMadeLast new here
+made_last old at new here m e =
+    let is = m.is ∙ ap (once_made old) e in
+    record {
+      before = old.made;
+      one_more = ap (λ (s : TablesSeen). s.made) is;
+      here = ap (λ (s : TablesSeen). slice_get s.order old.made) is ∙ sym m.next ∙ e;
+    }
+
 -- the order of closing has each position of the source
 pub order_of : (texts : List (List ℕ)) (component_of order : List ℕ) → IsClosingOrder (uses_of texts) component_of order → IsOrderOf texts order
 order_of texts component_of order c =
     let n = graph_length texts in
-    record { listed = λ at l. c.listed at (omega arith); below = λ i x e. let b = c.nodes i x e in omega arith }
+    record { listed = λ at l. c.listed at (omega arith); below = λ i x e. let b = c.nodes i x e in omega arith; once = c.once }
 
 pub none_kept : (texts : List (List ℕ)) (order last : List ℕ) (tables : List (Option UserTable)) → length tables ≡ length texts
     → AreKept texts order last tables 0

@@ -1,7 +1,7 @@
 -- Laws of user-defined values.
-use Rattle.std.specs.Prelude.{ℕ, ◌≡◌, List, Option, is_some, Some, slice_get}
+use Rattle.std.specs.Prelude.{ℕ, ◌≡◌, List, is_some, Some, slice_get}
 use Rattle.ti_layout.specs.Laws.{without_cancel}
-use Rattle.user_values.specs.Tables.{said_at, AreUserTables}
+use Rattle.user_values.specs.Tables.{said_at, IsTableAt}
 use Rattle.user_values.specs.declared.table.UserTable.{UserTable}
 use Rattle.ti_source.specs.Parsing.{reading_of_text}
 use Rattle.base_meaning.specs.Owner.{readings}
@@ -12,8 +12,8 @@ use Rattle.user_values.specs.Expansion.{expansion, user_value}
 abbrev pub ValuesAreWhereResolved : Type 0
 ValuesAreWhereResolved = (texts : List (List ℕ)) (text : List ℕ) → is_some (expansion texts text) ≡ resolves (readings texts) (reading_of_text text)
 
--- the tables of a source have the value of each name in each block that resolves
+-- the table of a block that resolves has the value of each name there
 abbrev pub TablesHaveValues : Type 0
 TablesHaveValues =
-    (texts : List (List ℕ)) (tables : List (Option UserTable)) (at : ℕ) (text : List ℕ) (table : UserTable) (name : List ℕ) → AreUserTables texts tables
-    → slice_get texts at ≡ Some text → slice_get tables at ≡ Some (Some table) → without_cancel (said_at table name) ≡ user_value texts at name
+    (texts : List (List ℕ)) (at : ℕ) (text : List ℕ) (table : UserTable) (name : List ℕ) → slice_get texts at ≡ Some text → IsTableAt texts at (Some table)
+    → without_cancel (said_at table name) ≡ user_value texts at name

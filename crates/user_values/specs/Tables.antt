@@ -1,5 +1,5 @@
 -- When a table is that of a block.
-use Rattle.std.specs.Prelude.{ℕ, ◌≡◌, List, [], ◌∷◌, length, Option, Some, None, slice_get, if◌then◌else◌}
+use Rattle.std.specs.Prelude.{ℕ, ◌≡◌, List, Option, Some, None, slice_get, if◌then◌else◌}
 use Rattle.std.specs.Option.{option_map, option_or}
 use Rattle.std.specs.Str.{bytes_eq}
 use Rattle.std.specs.BTreeMap.{get_by}
@@ -33,11 +33,9 @@ abbrev pub HasUserTable : List (List ℕ) → List ℕ → Option UserTable → 
 HasUserTable texts text None = expansion texts text ≡ None
 HasUserTable texts text (Some table) = IsUserTableOf texts text (said_at table)
 
--- each block of the list has its table
-pub record AreUserTables (texts : List (List ℕ)) (tables : List (Option UserTable)) : Type 0 where
-  pub as_many : length tables ≡ length texts
-  pub each : (at : ℕ) (text : List ℕ) (table : Option UserTable) → slice_get texts at ≡ Some text → slice_get tables at ≡ Some table
-      → HasUserTable texts text table
+-- the table is that of the block at this position of the list
+abbrev pub IsTableAt : List (List ℕ) → ℕ → Option UserTable → Type 0
+IsTableAt texts at table = (text : List ℕ) → slice_get texts at ≡ Some text → HasUserTable texts text table
 
 -- the mentions of the block that owns a name
 abbrev pub names_at : List (List ℕ) → List ℕ → Option (List UserMention)

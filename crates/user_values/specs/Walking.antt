@@ -1,6 +1,6 @@
 -- The tables of the blocks of a source, made one after another (own).
 use Rattle.std.specs.Prelude.{◌≡◌, ℕ, ◌+◌, ◌<◌, List, length, Option, Some, None, slice_get}
-use Rattle.ti_text.specs.Lists.{Has, AreBelow}
+use Rattle.ti_text.specs.Lists.{Has, AreBelow, AreDistinct}
 
 -- the texts of the source, the positions of its blocks in the order in which their tables are made,
 -- and how many are made
@@ -9,10 +9,11 @@ pub record TablesSeen : Type 0 where
   pub order : List ℕ
   pub made : ℕ
 
--- each position of the source is in the order, and no other number
+-- each position of the source is in the order, once, and no other number
 pub record IsOrderOf (texts : List (List ℕ)) (order : List ℕ) : Type 0 where
   pub listed : (at : ℕ) → at < length texts → Has order at
   pub below : AreBelow order (length texts)
+  pub once : AreDistinct order
 
 -- no table of this source is made
 pub record IsStartOf (texts : List (List ℕ)) (tables : TablesSeen) : Type 0 where

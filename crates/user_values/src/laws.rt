@@ -6,7 +6,8 @@ pub fn values_are_where_resolved()
     ensures { ValuesAreWhereResolved }
 {}
 
-/// The tables that `user_values` gives have the value of each name in each block that resolves.
+/// The table of a block that resolves has the value of each name there: what the leftmost mention
+/// gives it, and none if that is a cancel or there is no mention.
 pub fn tables_have_values()
     ensures { TablesHaveValues }
 {}

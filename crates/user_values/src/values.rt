@@ -11,7 +11,7 @@ ghost use Rattle.user_values.specs.inside.Settling.{OwnerIsDone, OwnersAreDone};
 use crate::table::UserTable;
 use std::alloc::{AllocError, Global};
 use ti_base::Database;
-use user_items::{UserItems, UserWhat, user_items};
+use user_items::{UserItems, UserWhat, known_user_items};
 
 /// Each block as far as user-defined capabilities go.
 pub(crate) fn read_all(alloc: Global, database: &Database) -> Result<Vec<UserItems>, AllocError>
@@ -19,7 +19,12 @@ pub(crate) fn read_all(alloc: Global, database: &Database) -> Result<Vec<UserIte
 {
     let mut reads = Vec::with_capacity(alloc, database.len())?;
     for at in 0..database.len() {
-        let read = user_items(alloc, database.text(at))?;
+        let read = known_user_items(
+            alloc,
+            database.text(at),
+            database.items(at),
+            database.local_faults(at),
+        )?;
         reads.push(read)?;
     }
     Ok(reads)

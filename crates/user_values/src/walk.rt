@@ -121,7 +121,7 @@ fn begin<'a>(
 }
 
 impl<'a> UserTables<'a> {
-    ghost use Rattle.user_values.specs.Tables.{HasUserTable};
+    ghost use Rattle.user_values.specs.Tables.{IsTableAt};
     ghost use Rattle.user_values.specs.Walking.{IsMadeLast, IsStartOf, MakesNext};
 
     /// Reads the blocks of a source, and makes no table yet.
@@ -141,12 +141,14 @@ impl<'a> UserTables<'a> {
         }
     }
 
-    /// Makes the next table, and returns the position of its block; `None` after the last.
+    /// Makes the next table, and returns the position of its block; `None` after the last. So each
+    /// block comes once, and after each block that it uses unless one of the two does not resolve.
     ///
     /// # Errors
     /// Out of memory; then the next is still to be made.
     pub fn make_next(&mut self) -> Result<Option<usize>, AllocError>
         ensures next { IfOk result (λ at. MakesNext self.old at self.new) }
+        ensures last { IfOk result (λ at. (here : ℕ) → at ≡ Some here → IsMadeLast self.new here) }
         ensures stays { OnErr result (self.new ≡ self.old) }
     {
         let Some(at) = self.components.order.get(self.made) else {
@@ -168,7 +170,7 @@ impl<'a> UserTables<'a> {
     /// block does not resolve.
     pub fn table(&self, at: usize) -> &Option<UserTable>
         requires { IsMadeLast self.now at }
-        ensures { (text : List ℕ) → slice_get self.now.texts at ≡ Some text → HasUserTable self.now.texts text result.now }
+        ensures { IsTableAt self.now.texts at result.now }
     {
         if self.last[at] < self.made {
             &self.latest

@@ -1,16 +1,13 @@
 -- Each warning of a block with what is wrong with its item, computed.
-use Rattle.std.specs.Prelude.{ℕ, suc, Bool, true, false, nat_eq, if◌then◌else◌, List, [], ◌∷◌, ◌++◌, map, filter, Option, Some, None}
+use Rattle.std.specs.Prelude.{ℕ, suc, true, false, nat_eq, if◌then◌else◌, List, [], ◌∷◌, ◌++◌, filter, Option, Some, None}
 use Rattle.ti_source.specs.Reading.{Reading, ReadFault}
 use Rattle.base_meaning.specs.Faults.{SourceFault, is_kept, item_faults, local_faults, name_faults}
 use Rattle.user_items.specs.Reading.{ReadUserFault}
 use Rattle.user_items.specs.declared.reading.UserCode.{UserCode}
-use Rattle.user_compiling.specs.Faults.{ExtendedSourceFault, of_profile, in_place, is_user_warning, is_warning_with}
+use Rattle.user_items.specs.Laws.{is_local_warning}
+use Rattle.user_compiling.specs.Faults.{ExtendedSourceFault, of_profile, in_place, is_user_warning}
 
--- whether a fault that reading gave is the warning of an unknown name that is user-defined
-abbrev pub is_local_warning : ReadFault → Bool
-is_local_warning f = is_warning_with f.code f.detail
-
--- the ordinals of such warnings
+-- the ordinals of the warnings of unknown names that are user-defined, among faults that reading gave
 abbrev pub warning_ordinals : List ReadFault → List ℕ
 warning_ordinals [] = []
 warning_ordinals (f ∷ fs) = if is_local_warning f then f.ordinal ∷ warning_ordinals fs else warning_ordinals fs

@@ -1,14 +1,10 @@
 use Rattle.std.proofs.Common.{◌≡◌, ◌<◌, ◌∙◌, List, ℕ, Some, length, drop, set, refl, sym, ap, subst, arith, slice_get}
-use Rattle.user_values.specs.Walking.{TablesSeen, IsOrderOf, IsMadeLast, once_made}
+use Rattle.user_values.specs.Walking.{TablesSeen, IsOrderOf, once_made}
 use Rattle.user_compiling.proofs.OneByOne.{AreFoundBefore, one_found, all_found, end_of, fewer_left}
 use Rattle.user_compiling.proofs.compiling.compile_all.Goals as goal
 
 pub table-requires : goal.table-requires
-table-requires c =
-    let old = c.loop-all.tables in
-    let next = c.in_ok-at.ensures.next in
-    let listed : slice_get old.order old.made ≡ Some c.in-Some.at = sym next.next ∙ c.in-Some.is in
-    subst (λ s. IsMadeLast s c.in-Some.at) (sym (next.is ∙ ap (once_made old) c.in-Some.is)) (record { before = old.made; one_more = refl; here = listed })
+table-requires c = c.in_ok-at.ensures.last c.in-Some.at c.in-Some.is
 
 pub loop-all-smaller-in_ok-state : goal.loop-all-smaller-in_ok-state
 loop-all-smaller-in_ok-state c =

@@ -1,8 +1,8 @@
-use Rattle.std.proofs.Common.{◌≡◌, ◌∙◌, ℕ, List, Option, Some, slice_get, option_and_then, sym, ap}
+use Rattle.std.proofs.Common.{◌≡◌, ◌∙◌, ℕ, List, Some, slice_get, option_and_then, sym, ap}
 use Rattle.ti_layout.specs.Laws.{without_cancel}
 use Rattle.user_values.specs.declared.table.UserTable.{UserTable}
 use Rattle.user_values.specs.Expansion.{UserMention, first_said, expansion, user_value}
-use Rattle.user_values.specs.Tables.{said_at, IsUserTableOf, AreUserTables}
+use Rattle.user_values.specs.Tables.{said_at, IsUserTableOf}
 use Rattle.user_values.proofs.laws.tables_have_values.Goals as goal
 
 one_value : (texts : List (List ℕ)) (at : ℕ) (text : List ℕ) (table : UserTable) (name : List ℕ) → slice_get texts at ≡ Some text
@@ -13,4 +13,4 @@ one_value texts at text table name stands is =
     ∙ ap (λ o. option_and_then (λ mentions. without_cancel (first_said mentions name)) o) is.1)
 
 pub returns : goal.returns
-returns c = λ texts tables at text table name all stands made. one_value texts at text table name stands (all.each at text (Some table) stands made)
+returns c = λ texts at text table name stands is. one_value texts at text table name stands (is text stands)

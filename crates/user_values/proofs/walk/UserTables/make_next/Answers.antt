@@ -3,7 +3,7 @@ use Rattle.base_components.specs.Graph.{Rows, HasEdge}
 use Rattle.user_values.specs.Walking.{TablesSeen, once_made}
 use Rattle.user_values.specs.inside.Walking.{DropsUnused}
 use Rattle.user_values.proofs.Ordering.{graph_length, graph_whole, owners_made}
-use Rattle.user_values.proofs.Walking.{found_at, found_in, used_kept, unused_kept, latest_made, latest_used}
+use Rattle.user_values.proofs.Walking.{found_at, found_in, used_kept, unused_kept, latest_made, latest_used, made_last}
 use Rattle.user_values.proofs.walk.UserTables.make_next.Goals as goal
 use Rattle.user_values.proofs.walk.UserTables.make_next.Goals.{in-Some-1, in-None-1, in-Some-2, in-None-2}
 
@@ -168,3 +168,9 @@ returns-else-index-self-clause-next c =
       | in-Some-2 w ↦ record { next = next; is = w.self-is ∙ seen }
       | in-None-2 w ↦ record { next = next; is = w.self-is ∙ seen }
     ]
+
+pub returns-then-index-self-clause-last : goal.returns-then-index-self-clause-last
+returns-then-index-self-clause-last c = λ here e. made_last _ _ _ here (returns-then-index-self-clause-next c) e
+
+pub returns-else-index-self-clause-last : goal.returns-else-index-self-clause-last
+returns-else-index-self-clause-last c = λ here e. made_last _ _ _ here (returns-else-index-self-clause-next c) e
