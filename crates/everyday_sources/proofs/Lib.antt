@@ -1,5 +1,6 @@
 -- Lemmas of this crate.
 pub mod Appending
+pub mod Determined
 pub mod Finding
 pub mod Returns
 pub mod Taking

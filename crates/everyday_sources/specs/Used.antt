@@ -103,3 +103,12 @@ abbrev pub SourcesComeFirst : Type 0
 SourcesComeFirst =
     (user_defined : Bool) (files : Option Files) (directories texts : List (List ℕ)) (before after : ℕ) (last : List (List ℕ)) (problems : List ProblemSeen)
     → TakesUsed user_defined files directories texts before after last problems → (others : List (List ℕ)) × (last ≡ texts ++ others)
+
+-- Of a source, with directories and files that are known and with no read that failed, there is only
+-- one list of blocks with the entries that it uses, and only one list of problems with their files.
+abbrev pub UsedEntriesAreDetermined : Type 0
+UsedEntriesAreDetermined =
+    (user_defined : Bool) (files : Files) (directories texts : List (List ℕ)) (before since : ℕ) (one other : List (List ℕ))
+    (problems others : List ProblemSeen)
+    → TakesUsed user_defined (Some files) directories texts before before one problems
+    → TakesUsed user_defined (Some files) directories texts since since other others → (one ≡ other) × (problems ≡ others)

@@ -6,8 +6,8 @@
 //!   the listing of one; `problem`: why the entry of a file is not taken (`Problem`, `Cause`)
 //! - `selection`: which entries are chosen (`is_chosen`), by the names that are asked for
 //!   (`chosen_names`)
-//! - `laws`: sources of other systems are read as the plain ones, names of the source win, and its
-//!   blocks come first
+//! - `laws`: sources of other systems are read as the plain ones, names of the source win, its blocks
+//!   come first, and what is taken is determined by the source, the directories and the files
 #![tactic(auto)]
 
 mod installed;

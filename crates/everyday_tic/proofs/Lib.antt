@@ -1,5 +1,6 @@
 -- Lemmas of this crate.
 pub mod Becoming
+pub mod Determined
 pub mod Filing
 pub mod Stopping
 pub mod Winning

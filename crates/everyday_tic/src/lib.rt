@@ -11,7 +11,8 @@
 //! - `entries`: the files of the entries
 //! - `messages`: what is reported about files and names that were asked for
 //! - `compiling`: what comes of a source (`tic`)
-//! - `laws`: a block of the source keeps its names, whatever is installed
+//! - `laws`: a block of the source keeps its names, whatever is installed; and the outcome is
+//!   determined by the request, the source, the directories and the files
 //! - `writing`: what is written of it (`write`), and the line of `-s` (`summary`); `run` does both
 //!
 //! The crate `everyday_sources` has the source as it is taken: without what other systems put into
