@@ -1,7 +1,10 @@
 -- Installed entries taken one after another.
 use Rattle.std.proofs.Common.{◌≡◌, ◌≢◌, ◌+◌, ◌<◌, ◌≤◌, inl, inr, ℕ, zero, suc, Bool, true, false, cond, List, [], ◌∷◌, ◌++◌, drop, insert, map, length}
-use Rattle.std.proofs.Common.{get_or, Option, Some, None, option_map, Result, Ok, Err, refl, sym, ap, ◌∙◌, append_assoc, append-nil, arith}
-use Rattle.std.proofs.lemmas.List.{drop_all}
+use Rattle.std.proofs.Common.{get_or, ◌==◌, Option, Some, None, option_map, Result, Ok, Err, refl, sym, ap, ◌∙◌, subst, append_assoc, append-nil, arith}
+use Rattle.std.specs.Global.{Vec}
+use Rattle.std.proofs.lemmas.Bool.{eqb-true, true≢false}
+use Rattle.std.proofs.lemmas.Bool.Decides.{Decides-eqb}
+use Rattle.std.proofs.lemmas.List.{drop_all, length-append}
 use Rattle.std.specs.Prelude.{All, IfOk}
 use Rattle.std.specs.Str.{IsAscii}
 use Rattle.std.proofs.lemmas.List.Elements.{All-head, All-tail}
@@ -10,11 +13,13 @@ use Rattle.ti_source.specs.Header.{IsNameByte}
 use Rattle.ti_source.specs.Parsing.{reading_of_text}
 use Rattle.base_meaning.specs.Edits.{Change, IsRefusal, IsSoundEdit}
 use Rattle.base_meaning.specs.declared.edits.EditError.{EditError}
+use Rattle.base_meaning.specs.declared.faults.Fault.{Fault}
 use Rattle.base_meaning.specs.declared.edits.EditError.TheVariants.{Position, TooLong, NotOneBlock, TooMany, Memory}
 use Rattle.base_meaning.specs.Owner.{owner, readings, is_among}
 use Rattle.tools_devices.specs.Tree.{FileAt, Files}
 use Rattle.everyday_sources.specs.declared.problem.Cause.{Cause}
-use Rattle.everyday_sources.specs.Used.{OwnNamesWin, ProblemSeen, PutsIn, SourcesComeFirst, TakesFound, TakesGiven, TakesName, TakesNames, missing_names}
+use Rattle.everyday_sources.specs.Used.{AreFaults, KeepsFaults, OwnNamesWin, ProblemSeen, PutsIn, SourcesComeFirst, TakesFound, TakesGiven, TakesName}
+use Rattle.everyday_sources.specs.Used.{TakesNames, missing_names}
 use Rattle.everyday_sources.proofs.Finding.{left}
 
 -- what is put in at the end
@@ -118,3 +123,32 @@ all_taken user_defined files directories texts (name ∷ names) before after las
 pub sources_come_first : SourcesComeFirst
 sources_come_first user_defined files directories texts before after last problems t =
     all_taken user_defined files directories texts (missing_names texts) before after last problems t
+
+-- ---- the faults
+
+none_after : (others : List (List ℕ)) → length others ≡ 0 → others ≡ []
+none_after [] is = refl
+none_after (text ∷ others) is = absurd (omega (arith, is))
+
+-- if there are no more blocks than before, they are the same
+pub same_blocks : (texts last others : List (List ℕ)) → last ≡ texts ++ others → length last ≡ length texts → last ≡ texts
+same_blocks texts last others is many =
+    let none : length others ≡ 0 = (let long = ap length is in omega (arith, long, many, length-append texts others)) in
+    is ∙ ap (λ ts. texts ++ ts) (none_after others none) ∙ append-nil texts
+
+-- the faults of the source, if no block was put after it
+pub keeps_faults : (user_defined : Bool) (files : Option Files) (directories texts names last : List (List ℕ)) (before after : ℕ)
+    (problems : List ProblemSeen) (found : Vec Fault) (given : Option (Vec Fault))
+    → TakesNames user_defined files directories texts names before after last problems
+    → AreFaults texts found.items → given ≡ cond (length last == length texts) (Some found) None → KeepsFaults texts last given
+keeps_faults user_defined files directories texts names last before after problems found given taken are is =
+    subst (KeepsFaults texts last) (sym is) (by_test (length last == length texts) refl)
+  where
+    extends : Extends texts last
+    extends = all_taken user_defined files directories texts names before after last problems taken
+
+    by_test : (b : Bool) → (length last == length texts) ≡ b → KeepsFaults texts last (cond b (Some found) None)
+    by_test true same =
+        let many : length last ≡ length texts = eqb-true (length last) (length texts) same in
+        (many, subst (λ ts. AreFaults ts found.items) (sym (same_blocks texts last extends.0 extends.1 many)) are)
+    by_test false other = λ many. true≢false (sym ((Decides-eqb (length last) (length texts)).1 many) ∙ other)

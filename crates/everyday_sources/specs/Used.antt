@@ -1,6 +1,8 @@
 -- The installed entries that a source uses (tic(1)): the listing of each is a further block at the
 -- end of the source.
-use Rattle.std.specs.Prelude.{◌≡◌, ◌≢◌, ◌⊎◌, ℕ, Bool, true, false, List, [], ◌∷◌, ◌++◌, length, Option, Some, None, Result, Ok, Err, if◌then◌else◌}
+use Rattle.std.specs.Prelude.{◌≡◌, ◌≢◌, ◌⊎◌, ℕ, Bool, true, false, List, [], ◌∷◌, ◌++◌, length, map, All, Option, Some, None, Result, Ok, Err}
+use Rattle.std.specs.Prelude.{if◌then◌else◌}
+use Rattle.std.specs.Global.{Vec}
 use Rattle.std.specs.List.{flat_map}
 use Rattle.std.specs.Option.{option_to_list}
 use Rattle.std.specs.String.{string_bytes}
@@ -8,8 +10,10 @@ use Rattle.ti_source.specs.Header.{is_lookup_name}
 use Rattle.ti_source.specs.declared.code.Code.{Code}
 use Rattle.ti_source.specs.declared.code.Code.TheVariants.{MissingUse}
 use Rattle.base_meaning.specs.Edits.{IsSoundEdit, insertion}
-use Rattle.base_meaning.specs.Faults.{SourceFault, faults}
+use Rattle.base_meaning.specs.Faults.{SourceFault, fault_seen, faults}
 use Rattle.base_meaning.specs.Owner.{owner, readings}
+use Rattle.base_meaning.specs.Usable.{IsPlaced}
+use Rattle.base_meaning.specs.declared.faults.Fault.{Fault}
 use Rattle.tools_devices.specs.Tree.{FileAt, Files}
 use Rattle.everyday_directories.specs.Finding.{Finds}
 use Rattle.everyday_directories.specs.Paths.{paths_of}
@@ -90,6 +94,17 @@ TakesNames user_defined files directories texts (name ∷ names) before after la
 abbrev pub TakesUsed : Bool → Option Files → List (List ℕ) → List (List ℕ) → ℕ → ℕ → List (List ℕ) → List ProblemSeen → Type 0
 TakesUsed user_defined files directories texts before after last problems =
     TakesNames user_defined files directories texts (missing_names texts) before after last problems
+
+-- ---- the faults
+
+-- faults in memory are those of these blocks
+abbrev pub AreFaults : List (List ℕ) → List Fault → Type 0
+AreFaults texts found = (map fault_seen found ≡ faults (readings texts)) × All (IsPlaced (length texts)) (map fault_seen found)
+
+-- the faults of the blocks of a source are given exactly if none was put after them
+abbrev pub KeepsFaults : List (List ℕ) → List (List ℕ) → Option (Vec Fault) → Type 0
+KeepsFaults texts last (Some found) = (length last ≡ length texts) × AreFaults last found.items
+KeepsFaults texts last None = length last ≢ length texts
 
 -- ---- laws
 

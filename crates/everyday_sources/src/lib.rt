@@ -2,8 +2,9 @@
 //! entries that it uses after its blocks, and which of its entries are chosen.
 //!
 //! - `source`: a source without a byte order mark and the CR of lines that end in CR LF (`plain`)
-//! - `used`: the installed entries that a source uses, as further blocks (`take_used`); `installed`:
-//!   the listing of one; `problem`: why the entry of a file is not taken (`Problem`, `Cause`)
+//! - `used`: the installed entries that a source uses, as further blocks (`take_used`), and what is
+//!   found of it meanwhile (`UsedEntries`); `installed`: the listing of one; `problem`: why the entry
+//!   of a file is not taken (`Problem`, `Cause`)
 //! - `selection`: which entries are chosen (`is_chosen`), by the names that are asked for
 //!   (`chosen_names`)
 //! - `laws`: sources of other systems are read as the plain ones, names of the source win, its blocks
@@ -20,4 +21,4 @@ mod used;
 pub use problem::{Cause, Problem};
 pub use selection::{chosen_names, is_chosen};
 pub use source::plain;
-pub use used::take_used;
+pub use used::{UsedEntries, take_used};

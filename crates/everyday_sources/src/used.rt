@@ -1,5 +1,5 @@
 //! The installed entries that a source uses, as further blocks.
-ghost use Rattle.std.specs.Prelude.{◌≡◌, ◌++◌, IfOk, OnErr, OnOk, map, length};
+ghost use Rattle.std.specs.Prelude.{◌≡◌, ◌==◌, ◌++◌, IfOk, None, OnErr, OnOk, Some, if◌then◌else◌, map, length};
 ghost use Rattle.std.specs.List.{flat_map};
 ghost use Rattle.std.specs.Option.{option_map, option_to_list};
 ghost use Rattle.std.specs.Rc.{rc_slice_items};
@@ -7,7 +7,7 @@ ghost use Rattle.std.specs.String.{string_bytes};
 ghost use Rattle.base_meaning.specs.Faults.{fault_seen};
 ghost use Rattle.everyday_directories.specs.Finding.{file_of};
 ghost use Rattle.everyday_sources.specs.Used as spec;
-ghost use Rattle.everyday_sources.specs.Used.{LooksUp, PutsIn, TakesFound, TakesName, TakesUsed, problem_seen};
+ghost use Rattle.everyday_sources.specs.Used.{KeepsFaults, LooksUp, PutsIn, TakesFound, TakesName, TakesUsed, problem_seen};
 ghost use Rattle.everyday_sources.specs.inside.Listed.{problems_of};
 
 use crate::installed::{Listed, installed};
@@ -19,6 +19,15 @@ use std::str;
 use ti_base::{Database, EditError, Fault};
 use ti_source::{Code, is_lookup_name};
 use tools_devices::{ToolError, Tree};
+
+/// What was found of a source while the installed entries that it uses were taken.
+#[derive(Debug, Drop)]
+pub struct UsedEntries {
+    /// What is wrong with the files that were found, in the order of the names that items use.
+    pub problems: Vec<Problem>,
+    /// The faults of all blocks; `None` if an entry was put at the end, with which they may differ.
+    pub faults: Option<Vec<Fault>>,
+}
 
 // Whether a code is that of a use whose name no block has.
 fn is_missing(code: Code) -> bool
@@ -180,10 +189,22 @@ fn take_all<T: Tree>(
     Ok(problems)
 }
 
+// The faults of the blocks, if there are as many as when they were found.
+fn kept_faults(database: &Database, count: usize, faults: Vec<Fault>) -> Option<Vec<Fault>>
+    ensures { result ≡ (if length database.now == count then Some faults else None) }
+{
+    if database.len() == count {
+        Some(faults)
+    } else {
+        None
+    }
+}
+
 /// Puts the listings of the installed entries that a source uses at its end, each once, and gives
 /// what is wrong with the files that were found: in the order of the names that items use and no
 /// block has. An entry is taken if it is one, has the name, and its listing is a block that the list
-/// has room for. A name that an entry has which was taken before is not looked for.
+/// has room for. A name that an entry has which was taken before is not looked for. The faults, by
+/// which these names are known, are given too if no entry was taken.
 ///
 /// # Errors
 /// Out of memory; the files of the tree stay as they were.
@@ -193,19 +214,25 @@ pub fn take_used<T: Tree>(
     directories: &[String],
     database: &mut Database,
     user_defined: bool,
-) -> Result<Vec<Problem>, AllocError>
-    ensures taken { IfOk result (λ problems. TakesUsed user_defined (T.files tree.old) (map string_bytes directories.now) database.old
-        (T.failures tree.old) (T.failures tree.new) database.new (map problem_seen problems.items)) }
+) -> Result<UsedEntries, AllocError>
+    ensures taken { IfOk result (λ used. TakesUsed user_defined (T.files tree.old) (map string_bytes directories.now) database.old
+        (T.failures tree.old) (T.failures tree.new) database.new (map problem_seen used.problems.items)) }
+    ensures faults { IfOk result (λ used. KeepsFaults database.old database.new used.faults) }
     ensures kept { T.files tree.new ≡ T.files tree.old }
 {
     let faults = database.faults()?;
     let names = missing_names(alloc, &faults)?;
-    take_all(
+    let count = database.len();
+    let problems = take_all(
         alloc,
         tree,
         directories,
         database,
         names.as_slice(),
         user_defined,
-    )
+    )?;
+    Ok(UsedEntries {
+        problems,
+        faults: kept_faults(database, count, faults),
+    })
 }

@@ -1,12 +1,14 @@
 -- Compiling a source.
 use Rattle.std.proofs.Common.{◌≡◌, ◌+◌, ◌<◌, ◌≤◌, ℕ, List, [], ◌∷◌, ◌++◌, All, drop, map, length, get_or, sym, subst, ap, ◌∙◌, append_assoc, append-nil, arith}
-use Rattle.std.proofs.Common.{Option, Result, Ok, Err, inr}
+use Rattle.std.proofs.Common.{Option, None, Some, Result, Ok, Err, inr}
+use Rattle.std.specs.Global.{Vec}
 use Rattle.std.specs.Prelude.{IfOk}
 use Rattle.std.proofs.lemmas.List.{drop_all, length-append}
 use Rattle.std.proofs.lemmas.List.Elements.{All-map}
 use Rattle.std.proofs.lemmas.Slice.Zip.{AllZip-long}
 use Rattle.base_meaning.specs.Faults.{SourceFault}
 use Rattle.base_meaning.specs.Usable.{IsPlaced}
+use Rattle.base_meaning.specs.declared.faults.Fault.{Fault}
 use Rattle.user_compiling.specs.Entries.{AreStates, IsStateOf, state_seen}
 use Rattle.user_compiling.specs.Faults.{of_profile}
 use Rattle.user_compiling.specs.Report.{IsExtendedPlaced}
@@ -15,10 +17,11 @@ use Rattle.tools_devices.specs.Tree.{Files}
 use Rattle.tools_sources.specs.Sources.{AreTaken, first_line, source_texts}
 use Rattle.everyday_sources.proofs.Finding.{left}
 use Rattle.everyday_sources.specs.Source.{plain_source}
-use Rattle.everyday_sources.specs.Used.{ProblemSeen, TakesUsed, problem_seen}
+use Rattle.everyday_sources.specs.Used.{KeepsFaults, ProblemSeen, TakesUsed, problem_seen}
 use Rattle.everyday_sources.specs.declared.problem.Problem.{Problem}
 use Rattle.everyday_tic.specs.Outcomes.{Asked, Comes, ComesOf, ComesOfPlain, made_of}
 use Rattle.everyday_tic.specs.declared.options.TicOutcome.{TicOutcome}
+use Rattle.everyday_tic.specs.inside.Found.{AreFoundFaults}
 
 -- something becomes of each block
 pub as_many : (texts : List (List ℕ)) (compiled : List Compiled) → AreStates texts (map state_seen compiled) → length (map state_seen compiled) ≡ length texts
@@ -40,6 +43,16 @@ module _ {X Y Z : Type 0} (see : X → Y) (f : Y → Z) where
 pub profile_placed : (count : ℕ) (faults : List SourceFault) → All (IsPlaced count) faults → All (IsExtendedPlaced count) (map of_profile faults)
 profile_placed count faults placed = All-map (IsExtendedPlaced count) of_profile faults placed
 
+-- two things that hold of a result
+pub both_ok : {T E : Type 0} (result : Result T E) (P Q : T → Type 0) → IfOk result P → IfOk result Q → IfOk result (λ x. P x × Q x)
+both_ok (Ok x) P Q p q = (p, q)
+both_ok (Err e) P Q p q = tt
+
+-- the faults that were given are those of the blocks
+pub found_before : (texts last : List (List ℕ)) (given : Option (Vec Fault)) → KeepsFaults texts last given → AreFoundFaults last given
+found_before texts last None kept = tt
+found_before texts last (Some found) kept = kept.1
+
 -- ---- what comes of a source
 
 -- the blocks of a source are no more than with others after them
@@ -48,19 +61,18 @@ within_all texts last others count is same = omega (arith, ap length is, length-
 
 module _ {E : Type 0} (asked : Asked) (files : Option Files) (directories : List (List ℕ)) (file : List ℕ) where
   -- of blocks, by what is found for them
-  pub comes_of_all : (first count : ℕ) (texts last : List (List ℕ)) (before after : ℕ) (found problems : List Problem) (result : Result TicOutcome E)
-      → count ≡ length texts → found ≡ problems → TakesUsed asked.user_defined files directories texts before after last (map problem_seen problems)
-      → IfOk result (λ outcome. ComesOf asked file first last count (map problem_seen found) (made_of outcome))
+  pub comes_of_all : (first count : ℕ) (texts last : List (List ℕ)) (before after : ℕ) (problems : List Problem) (result : Result TicOutcome E)
+      → count ≡ length texts → TakesUsed asked.user_defined files directories texts before after last (map problem_seen problems)
+      → IfOk result (λ outcome. ComesOf asked file first last count (map problem_seen problems) (made_of outcome))
       → IfOk result (λ outcome. (ts : List (List ℕ)) × (ps : List ProblemSeen) × TakesUsed asked.user_defined files directories texts before after ts ps
       × ComesOf asked file first ts (length texts) ps (made_of outcome))
-  comes_of_all first count texts last before after found problems (Ok outcome) many same taken h = (
+  comes_of_all first count texts last before after problems (Ok outcome) many taken h = (
     last,
     map problem_seen problems,
     taken,
-    subst (λ (n : ℕ). ComesOf asked file first last n (map problem_seen problems) (made_of outcome)) many
-        (subst (λ (ps : List Problem). ComesOf asked file first last count (map problem_seen ps) (made_of outcome)) same h),
+    subst (λ (n : ℕ). ComesOf asked file first last n (map problem_seen problems) (made_of outcome)) many h,
   )
-  comes_of_all first count texts last before after found problems (Err e) many same taken h = tt
+  comes_of_all first count texts last before after problems (Err e) many taken h = tt
 
   -- of a source that a database takes
   pub plain_comes : (source : List ℕ) (before after first : ℕ) (texts : List (List ℕ)) (result : Result TicOutcome E)

@@ -19,7 +19,8 @@ ghost use Rattle.everyday_report.specs.Report as report;
 ghost use Rattle.base_meaning.specs.Owner.{readings};
 ghost use Rattle.std.specs.Option.{is_some};
 ghost use Rattle.base_meaning.specs.Faults as profile;
-ghost use Rattle.everyday_sources.specs.Used.{ProblemSeen, TakesUsed, problem_seen};
+ghost use Rattle.everyday_sources.specs.Used.{AreFaults, ProblemSeen, TakesUsed, problem_seen};
+ghost use Rattle.everyday_tic.specs.inside.Found.{AreFoundFaults};
 ghost use Rattle.everyday_tic.specs.inside.States.{states_of};
 
 use crate::entries::{EntryFiles, entry_files};
@@ -28,7 +29,7 @@ use crate::options::{TicOptions, TicOutcome};
 use everyday_report::{
     BLOCK_TOO_LONG, Place, TOO_MANY_BLOCKS, TOO_MANY_NAMES, write_faults, write_said,
 };
-use everyday_sources::{Problem, chosen_names, plain, take_used};
+use everyday_sources::{UsedEntries, chosen_names, plain, take_used};
 use std::alloc::{AllocError, Global};
 use std::rc::RcSlice;
 use ti_base::{Database, Fault};
@@ -141,29 +142,47 @@ fn copy_faults(alloc: Global, faults: &[Fault]) -> Result<Vec<ExtendedFault>, Al
     Ok(all)
 }
 
-// The faults of the profile.
-fn profile_faults(alloc: Global, database: &Database) -> Result<Vec<ExtendedFault>, AllocError>
+// The faults of the profile: those that were found, or else those that the database finds.
+fn found_or_sought(database: &Database, found: Option<Vec<Fault>>) -> Result<Vec<Fault>, AllocError>
+    requires { AreFoundFaults database.now found }
+    ensures { IfOk result (λ all. AreFaults database.now all.items) }
+{
+    match found {
+        Some(found) => Ok(found),
+        None => database.faults(),
+    }
+}
+
+// The faults of the profile among those of both kinds.
+fn profile_faults(
+    alloc: Global,
+    database: &Database,
+    found: Option<Vec<Fault>>,
+) -> Result<Vec<ExtendedFault>, AllocError>
+    requires { AreFoundFaults database.now found }
     ensures all { IfOk result (λ all. map fault_seen all.items ≡ map of_profile (profile.faults (readings database.now))) }
     ensures placed { IfOk result (λ all. All (IsExtendedPlaced (length database.now)) (map fault_seen all.items)) }
 {
-    let faults = database.faults()?;
+    let faults = found_or_sought(database, found)?;
     copy_faults(alloc, faults.as_slice())
 }
 
-// The faults of all blocks.
+// The faults of all blocks; of those of the profile it may be that they were found before.
 fn faults_of(
     alloc: Global,
     database: &Database,
     compiled: Option<&[Compiled]>,
+    found: Option<Vec<Fault>>,
 ) -> Result<Vec<ExtendedFault>, AllocError>
     requires as_many { length (states_of database.now (option_map (λ c. c.now) compiled)) ≡ length database.now }
+    requires found { AreFoundFaults database.now found }
     ensures all { IfOk result (λ all. map fault_seen all.items
         ≡ spec.faults_by (is_some compiled.entry) database.now (states_of database.now (option_map (λ c. c.now) compiled.entry))) }
     ensures placed { IfOk result (λ all. All (IsExtendedPlaced (length database.now)) (map fault_seen all.items)) }
 {
     match compiled {
         Some(compiled) => faults(alloc, database, compiled),
-        None => profile_faults(alloc, database),
+        None => profile_faults(alloc, database, found),
     }
 }
 
@@ -243,21 +262,23 @@ fn outcome(
     first_line: u64,
     database: &Database,
     count: usize,
-    problems: &[Problem],
+    used: UsedEntries,
     compiled: Option<&[Compiled]>,
     options: &TicOptions<'_>,
 ) -> Result<TicOutcome, AllocError>
     requires within { count ≤ length database.now }
+    requires found { AreFoundFaults database.now used.faults }
     requires as_many { length (states_of database.now (option_map (λ c. c.now) compiled)) ≡ length database.now }
     requires first { first_line ≤ 9223372036854775808 }
     requires kept { options.now.user_defined ≡ is_some compiled }
     ensures { IfOk result (λ outcome. made_of outcome
         ≡ compilation (asked_of options.now) file.now first_line database.now count
-        (states_of database.now (option_map (λ c. c.now) compiled.entry)) (map problem_seen problems.now)) }
+        (states_of database.now (option_map (λ c. c.now) compiled.entry)) (map problem_seen used.problems.items)) }
 {
-    let faults = faults_of(alloc, database, compiled)?;
+    let UsedEntries { problems, faults } = used;
+    let faults = faults_of(alloc, database, compiled, faults)?;
     let mut report = Vec::new(alloc);
-    write_problems(&mut report, problems)?;
+    write_problems(&mut report, problems.as_slice())?;
     write_unknown_names(alloc, &mut report, database, count, options.entries)?;
     let status = status_of(report.is_empty(), &faults, count);
     write_faults(
@@ -331,12 +352,13 @@ fn compile_all(
     first_line: u64,
     database: &Database,
     count: usize,
-    problems: &[Problem],
+    used: UsedEntries,
     options: &TicOptions<'_>,
 ) -> Result<TicOutcome, AllocError>
     requires within { count ≤ length database.now }
+    requires found { AreFoundFaults database.now used.faults }
     requires first { first_line ≤ 9223372036854775808 }
-    ensures { IfOk result (λ outcome. ComesOf (asked_of options.now) file.now first_line database.now count (map problem_seen problems.now) (made_of outcome)) }
+    ensures { IfOk result (λ outcome. ComesOf (asked_of options.now) file.now first_line database.now count (map problem_seen used.problems.items) (made_of outcome)) }
 {
     match compile_if(alloc, database, options.user_defined) {
         Ok(compiled) => outcome(
@@ -345,7 +367,7 @@ fn compile_all(
             first_line,
             database,
             count,
-            problems,
+            used,
             slice_of(&compiled),
             options,
         ),
@@ -374,22 +396,14 @@ fn compile_blocks<T: Tree>(
     everyday_sources::laws::sources_come_first();
     let mut database = database;
     let count = database.len();
-    let problems = take_used(
+    let used = take_used(
         alloc,
         tree,
         directories,
         &mut database,
         options.user_defined,
     )?;
-    compile_all(
-        alloc,
-        file,
-        first_line,
-        &database,
-        count,
-        problems.as_slice(),
-        options,
-    )
+    compile_all(alloc, file, first_line, &database, count, used, options)
 }
 
 // What comes of a source that has neither a mark in front nor lines that end in CR LF.

@@ -2,6 +2,7 @@
 use everyday_sources::{Cause, chosen_names, is_chosen, take_used};
 use std::alloc::{AllocError, Global};
 use ti_base::Database;
+use ti_source::Code;
 use tools_devices::{MemTree, ToolError, Tree};
 
 // An entry with the names `base` and `other`, and `am`: a header of six numbers, the names, and the
@@ -43,19 +44,44 @@ fn installed_entries_are_taken(rt: HostRuntime) -> Result<(), ToolError> {
     add(&mut database, b"a,use=base,use=other,use=own,use=zz,\n")?;
     add(&mut database, b"own,use=bad,use=wrong,\n")?;
     let directories = directories(alloc)?;
-    let problems = take_used(
+    let used = take_used(
         alloc,
         &mut tree,
         directories.as_slice(),
         &mut database,
         false,
     )?;
+    let problems = &used.problems;
+    assert!(&rt; used.faults.is_none());
     assert!(&rt; database.len() == 3);
     assert!(&rt; database.text(2) == b"base|other|it,\n\tam,\n".as_slice());
     assert!(&rt; problems.len() == 2);
     assert!(&rt; problems[0].path.as_str() == "lib/b/bad");
     assert!(&rt; problems[1].path.as_str() == "lib/w/wrong");
     assert!(&rt; problems[1].cause == Cause::OtherNames);
+    Ok(())
+}
+
+#[test]
+fn faults_are_kept_if_no_entry_is_taken(rt: HostRuntime) -> Result<(), ToolError> {
+    let alloc = rt.alloc();
+    let mut tree = MemTree::new(alloc);
+    let mut database = Database::new(alloc);
+    add(&mut database, b"a,zz zz,use=none,\n")?;
+    let directories = directories(alloc)?;
+    let used = take_used(
+        alloc,
+        &mut tree,
+        directories.as_slice(),
+        &mut database,
+        false,
+    )?;
+    assert!(&rt; used.problems.is_empty());
+    let Some(faults) = &used.faults else {
+        return Err(ToolError::Usage);
+    };
+    assert!(&rt; faults.len() == 2);
+    assert!(&rt; faults[1].code == Code::MissingUse);
     Ok(())
 }
 

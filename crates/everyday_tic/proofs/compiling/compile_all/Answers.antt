@@ -11,6 +11,7 @@ outcome-requires c =
     let db = c.args.database.now in
     record {
       within = c.requires.within;
+      found = c.requires.found;
       as_many = subst (λ (s : List EntryState). length s ≡ length db) (ap (states_of db) (sym c.slice_of.ensures.items)) c.in-Ok.ensures.as_many;
       first = c.requires.first;
       kept = c.in-Ok.ensures.kept ∙ sym c.slice_of.ensures.kept;

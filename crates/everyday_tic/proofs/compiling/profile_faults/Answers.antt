@@ -9,11 +9,11 @@ use Rattle.everyday_tic.proofs.compiling.profile_faults.Goals as goal
 pub returns-clause-all : goal.returns-clause-all
 returns-clause-all c =
     IfOk-weaker c.copy_faults.result _ _
-    (λ all is. is ∙ ap (map of_profile) (ap (map profile_fault_seen) c.as_slice.ensures.value ∙ c.in_ok-faults.ensures.all)) c.copy_faults.ensures
+    (λ all is. is ∙ ap (map of_profile) (ap (map profile_fault_seen) c.as_slice.ensures.value ∙ c.in_ok-faults.ensures.0)) c.copy_faults.ensures
 
 pub returns-clause-placed : goal.returns-clause-placed
 returns-clause-placed c =
     let n = length c.args.database.now in
     IfOk-weaker c.copy_faults.result _ _
     (λ all is. subst (All (IsExtendedPlaced n)) (sym (is ∙ ap (map of_profile) (ap (map profile_fault_seen) c.as_slice.ensures.value)))
-    (profile_placed n (map profile_fault_seen c.in_ok-faults.faults.items) c.in_ok-faults.ensures.placed)) c.copy_faults.ensures
+    (profile_placed n (map profile_fault_seen c.in_ok-faults.faults.items) c.in_ok-faults.ensures.1)) c.copy_faults.ensures
