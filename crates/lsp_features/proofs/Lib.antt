@@ -6,4 +6,5 @@ pub mod OnceNamed
 pub mod Printing
 pub mod Renamed
 pub mod Seeking
+pub mod UsesRead
 pub mod WordReplaced

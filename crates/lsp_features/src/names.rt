@@ -1,6 +1,8 @@
 //! Where the names of a document lead.
 ghost use Rattle.std.specs.Prelude.{◌≡◌, ◌<◌, ◌+◌, ◌++◌, ◌^◌, IfOk, IfSome, OnOk, length, map, option_map};
+ghost use Rattle.ti_source.specs.Reading.{item_of, said_of};
 ghost use Rattle.base_meaning.specs.Owner.{owner, readings};
+ghost use Rattle.base_meaning.specs.Reaching.{any_use, use_passes, used_name};
 ghost use Rattle.lsp_spans.specs.Subjects.{subject_seen, touched_seen};
 ghost use Rattle.lsp_document.specs.Diagnostics.{text_at};
 ghost use Rattle.lsp_document.specs.Documents.{held};
@@ -16,6 +18,7 @@ use lsp_spans::{Part, Subject, Touched, head_of, own_spans, subject_at, uses_of}
 use lsp_types::{Position, Range};
 use std::alloc::{AllocError, Global};
 use ti_base::Database;
+use ti_source::{Item, What};
 use ti_text::count_lines;
 
 /// What is sought in the blocks of a document.
@@ -152,6 +155,49 @@ fn push_uses(
     Ok(())
 }
 
+// Whether what an item says is that it uses a name that is sought.
+fn is_sought_use(database: &Database, sought: Sought<'_>, what: &What) -> bool
+    ensures { result ≡ use_passes (is_sought database.now (sought_seen sought.entry)) (used_name (said_of what.now)) }
+{
+    match what {
+        What::Flag(_) => false,
+        What::Number(_, _) => false,
+        What::Text(_, _) => false,
+        What::Cancel(_) => false,
+        What::Import(used) => is_sought(database, sought, used.as_slice()),
+    }
+}
+
+// Whether one of the items uses a name that is sought.
+fn any_sought_use(database: &Database, sought: Sought<'_>, items: &[Item]) -> bool
+    ensures { result ≡ any_use (is_sought database.now (sought_seen sought.entry)) (map item_of items.now) }
+{
+    for item in items {
+        if is_sought_use(database, sought, &item.what) {
+            return true;
+        }
+    }
+    false
+}
+
+// Adds the uses in the block at that position that are sought. Its text is gone through only if one
+// of its items, as they were read, is such a use.
+fn push_uses_at(
+    alloc: Global,
+    parts: &mut Vec<Part>,
+    database: &Database,
+    sought: Sought<'_>,
+    at: usize,
+) -> Result<(), AllocError>
+    requires { at < length database.now }
+    ensures { OnOk result (parts.new.items ≡ parts.old.items ++ used_parts database.now (sought_seen sought.entry) (text_at database.now at)) }
+{
+    if any_sought_use(database, sought, database.items(at)) {
+        return push_uses(alloc, parts, database, sought, database.text(at));
+    }
+    Ok(())
+}
+
 // Adds parts of a block that begins on that line.
 fn push_ranges(
     ranges: &mut Vec<Range>,
@@ -183,7 +229,7 @@ fn push_sought(
 {
     let block = database.text(at);
     let mut parts = head_parts(alloc, sought, at, block)?;
-    push_uses(alloc, &mut parts, database, sought, block)?;
+    push_uses_at(alloc, &mut parts, database, sought, at)?;
     push_ranges(ranges, line, block, &parts)
 }
 
