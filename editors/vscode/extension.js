@@ -183,9 +183,7 @@ class Client {
         });
         offer(can.foldingRangeProvider, languages.registerFoldingRangeProvider, {
             provideFoldingRanges: async document =>
-                (await this.ask("foldingRange", document) || []).map(
-                    part => new vscode.FoldingRange(part.startLine, part.endLine),
-                ),
+                (await this.ask("foldingRange", document) || []).map(values.folding),
         });
         offer(can.signatureHelpProvider, languages.registerSignatureHelpProvider, {
             provideSignatureHelp: async (document, place) =>

@@ -17,6 +17,12 @@ const location = place => new vscode.Location(uri(place.uri), range(place.range)
 const locations = answer => [answer || []].flat().map(location);
 const edits = answer => (answer || []).map(edit => vscode.TextEdit.replace(range(edit.range), edit.newText));
 
+// Lines that may be folded.
+function folding(part) {
+    const kind = part.kind === "comment" ? vscode.FoldingRangeKind.Comment : undefined;
+    return new vscode.FoldingRange(part.startLine, part.endLine, kind);
+}
+
 // A text that may be Markdown.
 function text(content) {
     if (content === undefined || content === null) return undefined;
@@ -102,6 +108,6 @@ function signatures(answer) {
 }
 
 module.exports = {
-    action, completions, diagnostic, edits, hover, location, locations, placeOf, position, range, rangeOf,
+    action, completions, diagnostic, edits, folding, hover, location, locations, placeOf, position, range, rangeOf,
     signatures, symbol, uri, workspaceEdit,
 };

@@ -129,8 +129,11 @@ class Editor:
 
     def question(self):
         """A request about a document that is open, or about another."""
-        uri, method = self.one(URIS), self.one(list(QUESTIONS))
+        uri, method = self.one(URIS), self.one([*QUESTIONS, "workspace/symbol"])
         self.number += 1
+        if method == "workspace/symbol":
+            params = {"query": self.one(["", "A", "b", "x-", "\u00e9", *NEW_NAMES])}
+            return {"jsonrpc": "2.0", "id": self.number, "method": method, "params": params}
         place = self.place if self.random.random() < 0.7 else self.place_in_use
         params = {"textDocument": {"uri": uri}, "position": place(self.texts.get(uri, "a,b"))}
         if method == "textDocument/references":

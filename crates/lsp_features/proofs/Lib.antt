@@ -1,6 +1,7 @@
 pub mod Completing
 pub mod Edited
 pub mod Following
+pub mod LaidOut
 pub mod Naming
 pub mod OnceNamed
 pub mod Printing

@@ -6,9 +6,11 @@
 //! - `hovers`: what an editor shows about a position
 //! - `renaming`: what an editor renames
 //! - `completions`: what an editor offers to complete a word with
+//! - `formatting`: the edit that lays out a document
 #![tactic(auto)]
 
 mod completions;
+mod formatting;
 mod hovers;
 pub mod laws;
 mod meanings;
@@ -16,6 +18,7 @@ mod names;
 mod renaming;
 
 pub use completions::{Completion, Offers, completion_of};
+pub use formatting::{LayoutEdit, layout_of};
 pub use hovers::{About, Hover, hover_of};
 pub use meanings::Meaning;
 pub use names::{definition_of, references_of};

@@ -3,4 +3,5 @@ pub mod Pieces
 pub mod Kinds
 pub mod Layout
 pub mod Laws
+pub mod Folds
 pub mod inside

@@ -6,10 +6,12 @@
 //! - `entries`: the items of a block, each with its line
 //! - `places`: where on a line an item comes; `writing`: pieces as they are written
 //! - `formatting`: a source as it is written
+//! - `folding`: the lines of a source that an editor may fold
 //! - `laws`: a formatted source is read as before, and stays as it is
 #![tactic(auto)]
 
 mod entries;
+mod folding;
 mod formatting;
 mod kinds;
 pub mod laws;
@@ -17,4 +19,5 @@ mod lines;
 mod places;
 mod writing;
 
+pub use folding::{Fold, folds_of};
 pub use formatting::formatted;

@@ -25,8 +25,8 @@ fn is_white(line: &[u8]) -> bool
     line.iter().all(|byte| is_white_space(*byte))
 }
 
-// Whether a line is a comment, or has nothing but white space.
-fn is_kept(line: &[u8]) -> bool
+/// Whether a line is a comment, or has nothing but white space.
+pub(crate) fn is_kept(line: &[u8]) -> bool
     ensures { result ≡ spec.is_kept line.now }
 {
     match line.first() {
@@ -35,8 +35,8 @@ fn is_kept(line: &[u8]) -> bool
     }
 }
 
-// The first line of a text, without its newline, and what comes after it.
-fn first_line(text: &[u8]) -> (&[u8], &[u8])
+/// The first line of a text, without its newline, and what comes after it.
+pub(crate) fn first_line(text: &[u8]) -> (&[u8], &[u8])
     requires { text.now ≢ [] }
     ensures lines { spec.lines_of text.now ≡ result.0.now ∷ spec.lines_of result.1.now }
     ensures shorter { length result.1.now < length text.now }

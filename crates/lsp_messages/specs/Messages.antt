@@ -25,16 +25,19 @@ pub data Query : Type 0 where
   references : Position → Bool → Query
   symbols : Query
   highlights : Position → Query
+  folding : Query
+  formatting : Query
   rename : Position → List ℕ → Query
   prepare_rename : Position → Query
   fixes : Range → Bool → Query
 
--- a request: to begin, and for which client; of a document its URI and what is asked about it;
--- `unreadable` are those whose parameters are not those of the method
+-- a request: to begin, and for which client; of a document its URI and what is asked about it; of a
+-- search in all open documents the text that names hold; `unreadable` are those whose parameters are not those of the method
 pub data Asked : Type 0 where
   initialize : Client → Asked
   shutdown : Asked
   about : List ℕ → Query → Asked
+  search : List ℕ → Asked
   unreadable : Asked
   unknown : Asked
 
@@ -147,9 +150,11 @@ topic_of method =
     else (if bytes_eq method (codes "textDocument/references") then Some asks.References
     else (if bytes_eq method (codes "textDocument/documentSymbol") then Some asks.Symbols
     else (if bytes_eq method (codes "textDocument/documentHighlight") then Some asks.Highlights
+    else (if bytes_eq method (codes "textDocument/foldingRange") then Some asks.Folding
+    else (if bytes_eq method (codes "textDocument/formatting") then Some asks.Formatting
     else (if bytes_eq method (codes "textDocument/rename") then Some asks.Rename
     else (if bytes_eq method (codes "textDocument/prepareRename") then Some asks.PrepareRename
-    else (if bytes_eq method (codes "textDocument/codeAction") then Some asks.Fixes else None))))))))
+    else (if bytes_eq method (codes "textDocument/codeAction") then Some asks.Fixes else None))))))))))
 
 -- "TextDocumentPositionParams"
 abbrev pub asked_place : Data → Option Position
@@ -193,7 +198,8 @@ fixes_of params = do
   Some (fixes range wanted)
 
 -- "CompletionParams", "HoverParams", "DefinitionParams", "DocumentSymbolParams",
--- "DocumentHighlightParams", "PrepareRenameParams", "CodeActionParams"
+-- "DocumentHighlightParams", "FoldingRangeParams", "PrepareRenameParams", "CodeActionParams", and
+-- "DocumentFormattingParams", whose options do not count
 abbrev pub question_of : Topic → Data → Option Query
 question_of asks.Completion params = option_map completion (asked_place params)
 question_of asks.Hover params = option_map hover (asked_place params)
@@ -201,6 +207,8 @@ question_of asks.Definition params = option_map definition (asked_place params)
 question_of asks.References params = references_of params
 question_of asks.Symbols params = Some symbols
 question_of asks.Highlights params = option_map highlights (asked_place params)
+question_of asks.Folding params = Some folding
+question_of asks.Formatting params = Some formatting
 question_of asks.Rename params = rename_of params
 question_of asks.PrepareRename params = option_map prepare_rename (asked_place params)
 question_of asks.Fixes params = fixes_of params
@@ -214,6 +222,10 @@ about_of topic params = do
 
 abbrev pub about_document : Topic → Data → Asked
 about_document topic d = unwrap_or (option_and_then (about_of topic) (get (codes "params") d)) unreadable
+
+-- "WorkspaceSymbolParams"
+abbrev pub search_of : Data → Asked
+search_of d = option_map_or search (option_and_then (text_at (codes "query")) (get (codes "params") d)) unreadable
 
 -- ---- what a client can do
 
@@ -262,7 +274,8 @@ asked_about (Some topic) d = about_document topic d
 abbrev pub asked_of : List ℕ → Data → Asked
 asked_of method d =
     if bytes_eq method (codes "initialize") then initialize (client_of d)
-    else (if bytes_eq method (codes "shutdown") then shutdown else asked_about (topic_of method) d)
+    else (if bytes_eq method (codes "shutdown") then shutdown
+    else (if bytes_eq method (codes "workspace/symbol") then search_of d else asked_about (topic_of method) d))
 
 -- what parameters say, if they are those of the method
 abbrev pub told_by : List ℕ → Data → Option Told

@@ -1,7 +1,7 @@
 -- The values that a language server sends (LSP 3.17; the section is named at each). Members are in
 -- the order of their keys.
 use Rattle.std.specs.Prelude.{ℕ, ◌++◌, List, Bool, codes, true, false, Option, None, Some, unwrap_or}
-use Rattle.serde_json.specs.Data.{Data, null, boolean, number, negative, unsigned, string, array, object, Items, item, no_items, no_members, member}
+use Rattle.serde_json.specs.Data.{Data, null, boolean, number, negative, unsigned, string, array, object, Items, Members, item, no_items, no_members, member}
 use Rattle.lsp_types.specs.Failures.{code_of, sentence_of}
 use Rattle.lsp_types.specs.Numbers.{item_number, severity_number}
 use Rattle.lsp_types.specs.declared.items.ItemKind.{ItemKind}
@@ -119,6 +119,15 @@ symbol_information_data uri name range =
 abbrev pub highlight_data : Range → Data
 highlight_data range = object (member (codes "range") (range_data range) no_members)
 
+-- "FoldingRange": lines from the first to the last, of an entry or of comments
+-- ("FoldingRangeKind")
+abbrev pub folding_data : (first last : ℕ) → Bool → Data
+folding_data first last false = object (member (codes "endLine") (natural last) (member (codes "startLine") (natural first) no_members))
+folding_data first last true =
+    object (member (codes "endLine") (natural last)
+    (member (codes "kind") (string (codes "comment"))
+    (member (codes "startLine") (natural first) no_members)))
+
 -- "MarkupContent"
 abbrev pub plain_data : List ℕ → Data
 plain_data text = object (member (codes "kind") (string (codes "plaintext")) (member (codes "value") (string text) no_members))
@@ -135,12 +144,17 @@ text_edit_data text range = object (member (codes "newText") (string text) (memb
 abbrev pub workspace_edit_data : List ℕ → Items → Data
 workspace_edit_data uri edits = object (member (codes "changes") (object (member uri (array edits) no_members)) no_members)
 
--- "CodeAction": a quick fix that makes one edit in one document
-abbrev pub action_data : List ℕ → List ℕ → Range → List ℕ → Data
-action_data uri title range text =
+-- "CodeAction": a quick fix that makes one edit in one document, preferred or not
+abbrev pub action_data : List ℕ → List ℕ → Range → List ℕ → Bool → Data
+action_data uri title range text false =
     object (member (codes "edit") (workspace_edit_data uri (item (text_edit_data text range) no_items))
     (member (codes "kind") (string (codes "quickfix"))
     (member (codes "title") (string title) no_members)))
+action_data uri title range text true =
+    object (member (codes "edit") (workspace_edit_data uri (item (text_edit_data text range) no_items))
+    (member (codes "isPreferred") (boolean true)
+    (member (codes "kind") (string (codes "quickfix"))
+    (member (codes "title") (string title) no_members))))
 
 -- "CompletionItem"; its label is what it is found by, and what is put in place of the range
 abbrev pub item_data : ItemKind → List ℕ → List ℕ → Option (List ℕ) → Range → Data
@@ -199,19 +213,34 @@ abbrev pub action_options_data : Bool → Data
 action_options_data false = boolean false
 action_options_data true = object (member (codes "codeActionKinds") (array (item (string (codes "quickfix")) no_items)) no_members)
 
+-- "ServerCapabilities": the first members, in the order of their keys
+abbrev pub document_members : Client → Members
+document_members client =
+    member (codes "codeActionProvider") (action_options_data client.takes_actions)
+    (member (codes "completionProvider") completion_options_data
+    (member (codes "definitionProvider") (boolean true)
+    (member (codes "documentFormattingProvider") (boolean true)
+    (member (codes "documentHighlightProvider") (boolean true)
+    (member (codes "documentSymbolProvider") (boolean true)
+    (member (codes "foldingRangeProvider") (boolean true)
+    (member (codes "hoverProvider") (boolean true) no_members)))))))
+
 -- "ServerCapabilities"
 abbrev pub capabilities_data : Client → Data
 capabilities_data client =
     object (member (codes "codeActionProvider") (action_options_data client.takes_actions)
     (member (codes "completionProvider") completion_options_data
     (member (codes "definitionProvider") (boolean true)
+    (member (codes "documentFormattingProvider") (boolean true)
     (member (codes "documentHighlightProvider") (boolean true)
     (member (codes "documentSymbolProvider") (boolean true)
+    (member (codes "foldingRangeProvider") (boolean true)
     (member (codes "hoverProvider") (boolean true)
     (member (codes "positionEncoding") (string (codes "utf-16"))
     (member (codes "referencesProvider") (boolean true)
     (member (codes "renameProvider") (rename_options_data client.prepares_renames)
-    (member (codes "textDocumentSync") sync_data no_members))))))))))
+    (member (codes "textDocumentSync") sync_data
+    (member (codes "workspaceSymbolProvider") (boolean true) no_members)))))))))))))
 
 -- "InitializeResult"
 abbrev pub server_data : List ℕ → Data

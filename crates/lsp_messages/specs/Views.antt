@@ -10,7 +10,7 @@ use Rattle.lsp_messages.specs.declared.messages.Call.TheVariants as call
 use Rattle.lsp_messages.specs.declared.messages.Notice.{Notice}
 use Rattle.lsp_messages.specs.declared.messages.Notice.TheVariants.{Exited, Opened, Changed, Closed, Unreadable, Nothing}
 use Rattle.lsp_messages.specs.declared.messages.Question.{Question}
-use Rattle.lsp_messages.specs.declared.messages.Question.TheVariants.{Completion, Hover, Definition, References, Symbols, Highlights, Rename, PrepareRename, Fixes}
+use Rattle.lsp_messages.specs.declared.messages.Question.TheVariants.{Completion, Hover, Definition, References, Symbols, Highlights, Folding, Formatting, Rename, PrepareRename, Fixes}
 use Rattle.lsp_messages.specs.declared.messages.Reply.{Reply}
 use Rattle.lsp_messages.specs.declared.messages.Reply.TheVariants.{Answer, Refusal}
 use Rattle.lsp_messages.specs.declared.messages.Message.{Message}
@@ -27,6 +27,8 @@ question_view (Definition place) = means.definition place
 question_view (References place with_declaration) = means.references place with_declaration
 question_view Symbols = means.symbols
 question_view (Highlights place) = means.highlights place
+question_view Folding = means.folding
+question_view Formatting = means.formatting
 question_view (Rename place name) = means.rename place name.now
 question_view (PrepareRename place) = means.prepare_rename place
 question_view (Fixes range wanted) = means.fixes range wanted
@@ -41,6 +43,7 @@ abbrev pub asked_view : Call → Asked
 asked_view (call.Initialize client) = means.initialize client
 asked_view call.Shutdown = means.shutdown
 asked_view (call.Asked uri question) = means.about uri.now (question_view question)
+asked_view (call.Search query) = means.search query.now
 asked_view call.Faulty = means.unreadable
 asked_view call.Unknown = means.unknown
 

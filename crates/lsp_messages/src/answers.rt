@@ -2,7 +2,7 @@
 ghost use Rattle.std.specs.Prelude.{◌≡◌, IfOk, option_map};
 ghost use Rattle.serde_json.specs.Data.{item, no_items};
 ghost use Rattle.serde_json.specs.View.{items_view, view};
-ghost use Rattle.lsp_messages.specs.Shapes.{action_data, highlight_data, hover_data, item_data, list_data, location_data, obsolete_item_data, plain_data, symbol_data, symbol_information_data, text_edit_data, workspace_edit_data};
+ghost use Rattle.lsp_messages.specs.Shapes.{action_data, folding_data, highlight_data, hover_data, item_data, list_data, location_data, obsolete_item_data, plain_data, symbol_data, symbol_information_data, text_edit_data, workspace_edit_data};
 
 use crate::objects::{with_number, with_text, with_value};
 use crate::writing::range_value;
@@ -71,6 +71,26 @@ pub fn highlight_value(alloc: Global, range: Range) -> Result<Value, AllocError>
     json!(in alloc; {"range": range})
 }
 
+/// Lines that may be folded ("FoldingRange"), by their numbers from 0: those of an entry, or of
+/// comments.
+///
+/// # Errors
+/// `AllocError` if memory ran out.
+pub fn folding_value(
+    alloc: Global,
+    first: usize,
+    last: usize,
+    is_comment: bool,
+) -> Result<Value, AllocError>
+    ensures { IfOk result (λ v. view v ≡ folding_data first last is_comment) }
+{
+    if is_comment {
+        json!(in alloc; {"endLine": last, "kind": "comment", "startLine": first})
+    } else {
+        json!(in alloc; {"endLine": last, "startLine": first})
+    }
+}
+
 // A text without markup ("MarkupContent").
 fn plain_value(alloc: Global, text: &str) -> Result<Value, AllocError>
     ensures { IfOk result (λ v. view v ≡ plain_data text.now) }
@@ -125,8 +145,8 @@ fn one_edit_value(alloc: Global, uri: &str, range: Range, text: &str) -> Result<
     workspace_edit_value(alloc, uri, edits)
 }
 
-/// What is offered against a fault ("CodeAction"): a title, and a text that is put in the place of a
-/// range.
+/// What is offered against a fault ("CodeAction"): a title, a text that is put in the place of a
+/// range, and whether an editor may apply it without a choice.
 ///
 /// # Errors
 /// `AllocError` if memory ran out.
@@ -136,14 +156,20 @@ pub fn action_value(
     title: &str,
     range: Range,
     text: &str,
+    is_preferred: bool,
 ) -> Result<Value, AllocError>
-    ensures { IfOk result (λ v. view v ≡ action_data uri.now title.now range text.now) }
+    ensures { IfOk result (λ v. view v ≡ action_data uri.now title.now range text.now is_preferred) }
 {
     let edit = one_edit_value(alloc, uri, range, text)?;
     let members = with_value(alloc, Map::new(alloc), "edit", edit)?;
     let members = with_text(alloc, members, "kind", "quickfix")?;
     let members = with_text(alloc, members, "title", title)?;
-    Ok(Value::Object(members))
+    if is_preferred {
+        let members = with_value(alloc, members, "isPreferred", Value::Bool(true))?;
+        Ok(Value::Object(members))
+    } else {
+        Ok(Value::Object(members))
+    }
 }
 
 /// An item of a completion ("CompletionItem"): its label is the text that it puts in place of the

@@ -24,6 +24,10 @@ pub(crate) enum Topic {
     Symbols,
     /// What else names what a name is of.
     Highlights,
+    /// Which lines may be folded.
+    Folding,
+    /// The document in its layout.
+    Formatting,
     /// The changes that give what has a name at a place another one.
     Rename,
     /// Which name a rename at a place is of.
@@ -43,6 +47,8 @@ pub(crate) fn topic_of(method: &str) -> Option<Topic>
         "textDocument/references" => Some(Topic::References),
         "textDocument/documentSymbol" => Some(Topic::Symbols),
         "textDocument/documentHighlight" => Some(Topic::Highlights),
+        "textDocument/foldingRange" => Some(Topic::Folding),
+        "textDocument/formatting" => Some(Topic::Formatting),
         "textDocument/rename" => Some(Topic::Rename),
         "textDocument/prepareRename" => Some(Topic::PrepareRename),
         "textDocument/codeAction" => Some(Topic::Fixes),
@@ -123,6 +129,8 @@ fn read_question(topic: Topic, params: &Value) -> Option<Question<'_>>
         Topic::References => read_references(params),
         Topic::Symbols => Some(Question::Symbols),
         Topic::Highlights => Some(Question::Highlights(position_at(params, "position")?)),
+        Topic::Folding => Some(Question::Folding),
+        Topic::Formatting => Some(Question::Formatting),
         Topic::Rename => read_rename(params),
         Topic::PrepareRename => Some(Question::PrepareRename(position_at(params, "position")?)),
         Topic::Fixes => read_fixes(params),

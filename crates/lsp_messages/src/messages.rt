@@ -32,6 +32,10 @@ pub enum Question<'a> {
     Symbols,
     /// What else names what the name at a place is of ("Document Highlights Request").
     Highlights(Position),
+    /// Which lines may be folded ("Folding Range Request").
+    Folding,
+    /// The document in its layout ("Document Formatting Request"), which no option changes.
+    Formatting,
     /// The changes that give what has a name at a place another one ("Rename Request").
     Rename {
         /// The place.
@@ -72,6 +76,11 @@ pub enum Call<'a> {
         uri: &'a str,
         /// What is asked.
         question: Question<'a>,
+    },
+    /// The entries of all open documents whose names hold a text ("Workspace Symbols Request").
+    Search {
+        /// The text.
+        query: &'a str,
     },
     /// Something about a document, but the parameters are not those of the method.
     Faulty,

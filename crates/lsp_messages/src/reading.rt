@@ -2,7 +2,7 @@
 ghost use Rattle.std.specs.Prelude.{◌≡◌, IfOk, MatchOption, None, Option, Some, codes, map, option_and_then, option_map};
 ghost use Rattle.serde_json.specs.Find.{get};
 ghost use Rattle.serde_json.specs.View.{items_view, view};
-ghost use Rattle.lsp_messages.specs.Messages.{asked_of, called_of, changed, changed_of, closed_of, edit_of, edits_of, id_in, is_id, message_of, opened_of, optional_range, response_or_fault, is_about_document, told_by, told_of, unreadable_of, uri_in};
+ghost use Rattle.lsp_messages.specs.Messages.{asked_of, called_of, changed, changed_of, closed_of, edit_of, edits_of, id_in, is_id, message_of, opened_of, optional_range, response_or_fault, search_of, is_about_document, told_by, told_of, unreadable_of, uri_in};
 ghost use Rattle.lsp_messages.specs.Views.{asked_view, edit_view, message_view, told_view};
 
 use crate::asking::{read_asked, topic_of};
@@ -163,6 +163,19 @@ fn read_notice<'a>(alloc: Global, method: &str, value: &'a Value) -> Result<Noti
     }
 }
 
+// Which entries a request searches ("WorkspaceSymbolParams").
+fn read_search(value: &Value) -> Call<'_>
+    ensures { asked_view result ≡ search_of (view value.now) }
+{
+    let Some(params) = value.get("params") else {
+        return Call::Faulty;
+    };
+    match text_at(params, "query") {
+        Some(query) => Call::Search { query },
+        None => Call::Faulty,
+    }
+}
+
 // What a request asks for.
 fn read_call<'a>(method: &str, value: &'a Value) -> Call<'a>
     ensures { asked_view result ≡ asked_of method.now (view value.now) }
@@ -170,6 +183,7 @@ fn read_call<'a>(method: &str, value: &'a Value) -> Call<'a>
     match method {
         "initialize" => Call::Initialize(read_client(value)),
         "shutdown" => Call::Shutdown,
+        "workspace/symbol" => read_search(value),
         _ => match topic_of(method) {
             None => Call::Unknown,
             Some(topic) => read_asked(topic, value),

@@ -2,9 +2,9 @@
 ghost use Rattle.std.specs.Prelude.{◌≡◌, IfOk, option_map, unwrap_or};
 ghost use Rattle.std.specs.String.{string_bytes};
 ghost use Rattle.serde_json.specs.Data.{null};
-ghost use Rattle.serde_json.specs.View.{items_view, view};
+ghost use Rattle.serde_json.specs.View.{items_view, members_view, view};
 ghost use Rattle.lsp_messages.specs.Views.{reply_view};
-ghost use Rattle.lsp_messages.specs.Shapes.{action_options_data, capabilities_data, completion_options_data, initialized_data, rename_options_data, server_data, sync_data};
+ghost use Rattle.lsp_messages.specs.Shapes.{action_options_data, capabilities_data, completion_options_data, document_members, initialized_data, rename_options_data, server_data, sync_data};
 ghost use Rattle.lsp_messages.specs.Shapes.{diagnostic_data, failure_data, unreadable_data, unreadable_sentence, notification_data, position_data, publish_data, published_data, range_data, refusal_data, reply_data, response_data};
 
 use crate::clients::Client;
@@ -225,25 +225,38 @@ fn rename_options_value(alloc: Global, prepares_renames: bool) -> Result<Value, 
     json!(in alloc; {"prepareProvider": true})
 }
 
-// What the server can do ("ServerCapabilities").
-fn capabilities_value(alloc: Global, client: Client) -> Result<Value, AllocError>
-    ensures { IfOk result (λ v. view v ≡ capabilities_data client) }
+// What the server can do in a document.
+fn document_members(alloc: Global, client: Client) -> Result<Map<String, Value>, AllocError>
+    ensures { IfOk result (λ all. members_view all.entries ≡ document_members client) }
 {
     let actions = action_options_value(alloc, client.takes_actions)?;
     let members = with_value(alloc, Map::new(alloc), "codeActionProvider", actions)?;
     let completions = completion_options_value(alloc)?;
     let members = with_value(alloc, members, "completionProvider", completions)?;
     let members = with_value(alloc, members, "definitionProvider", Value::Bool(true))?;
+    let formats = Value::Bool(true);
+    let members = with_value(alloc, members, "documentFormattingProvider", formats)?;
     let highlights = Value::Bool(true);
     let members = with_value(alloc, members, "documentHighlightProvider", highlights)?;
     let members = with_value(alloc, members, "documentSymbolProvider", Value::Bool(true))?;
-    let members = with_value(alloc, members, "hoverProvider", Value::Bool(true))?;
+    let members = with_value(alloc, members, "foldingRangeProvider", Value::Bool(true))?;
+    let hovers = Value::Bool(true);
+    with_value(alloc, members, "hoverProvider", hovers)
+}
+
+// What the server can do ("ServerCapabilities").
+fn capabilities_value(alloc: Global, client: Client) -> Result<Value, AllocError>
+    ensures { IfOk result (λ v. view v ≡ capabilities_data client) }
+{
+    let members = document_members(alloc, client)?;
     let members = with_text(alloc, members, "positionEncoding", "utf-16")?;
     let members = with_value(alloc, members, "referencesProvider", Value::Bool(true))?;
     let renames = rename_options_value(alloc, client.prepares_renames)?;
     let members = with_value(alloc, members, "renameProvider", renames)?;
     let sync = sync_value(alloc)?;
     let members = with_value(alloc, members, "textDocumentSync", sync)?;
+    let searches = Value::Bool(true);
+    let members = with_value(alloc, members, "workspaceSymbolProvider", searches)?;
     Ok(Value::Object(members))
 }
 

@@ -1,18 +1,19 @@
 -- No answer of the server has a float, so its text is known.
-use Rattle.std.proofs.Common.{ℕ, ◌≡◌, List, Bool, true, false, cond, Option, None, Some, option_map, is_some, ◌||◌, refl}
+use Rattle.std.proofs.Common.{ℕ, ◌≡◌, List, [], ◌∷◌, ◌++◌, Bool, true, false, cond, Option, None, Some, option_map, is_some, ◌||◌, refl}
 use Rattle.serde_json.specs.Data.{Num, unsigned, negative, float, Data, null, boolean, number, string, array, object, Items}
 use Rattle.serde_json.specs.Find.{as_str, get}
+use Rattle.serde_json.specs.View.{items_of}
 use Rattle.serde_json.specs.Written.{has_float, items_have_float}
 use Rattle.std.specs.Prelude.{codes, option_and_then}
-use Rattle.lsp_messages.specs.Messages.{Asked, initialize, shutdown, about, unreadable, unknown, Edit, Meaning, Query, request, notification, response, faulty}
+use Rattle.lsp_messages.specs.Messages.{Asked, initialize, shutdown, about, search, unreadable, unknown, Edit, Meaning, Query, request, notification, response, faulty}
 use Rattle.lsp_messages.specs.Messages.{Told, exited, opened, changed, closed, unreadable, nothing, id_in, id_of, message_of, meaning_by, method_meaning, request_of}
 use Rattle.lsp_messages.specs.Messages.{told_of}
 use Rattle.lsp_messages.specs.Shapes.{Said, said_answer, said_refusal, action_options_data, publish_data, refusal_data, rename_options_data, reply_data}
 use Rattle.lsp_types.specs.declared.failures.Failure.{Failure}
 use Rattle.lsp_types.specs.declared.failures.Failure.TheVariants.{BadParameters, NoJson, NoMethod, NoRequest, NotInitialized}
-use Rattle.lsp_server.specs.Answers.{answer_data}
+use Rattle.lsp_server.specs.Answers.{answer_data, found_among, found_in}
 use Rattle.lsp_server.specs.Sayings.{HasNoFloats, SaidHasNoFloat, Sayings}
-use Rattle.lsp_server.specs.Steps.{Answer, ready, done, refused, answered, shown, cleared, warned, Open, Places, State, answered_of, current_of, open_at}
+use Rattle.lsp_server.specs.Steps.{Answer, ready, done, refused, answered, searched, shown, cleared, warned, Open, Places, State, answered_of, current_of, open_at}
 use Rattle.lsp_messages.specs.declared.clients.Client.{Client}
 use Rattle.lsp_server.specs.Steps.{replied, requested, requested_fresh, requested_running, shown_by_change, step, can_apply, told, told_in, with_edits}
 use Rattle.lsp_server.specs.declared.phase.Phase.{Phase}
@@ -82,6 +83,7 @@ id_answered (ready id client) = Some id
 id_answered (done id) = Some id
 id_answered (refused id failure) = id
 id_answered (answered id client document query) = Some id
+id_answered (searched id documents held) = Some id
 id_answered (shown document) = None
 id_answered (cleared uri) = None
 id_answered (warned uri) = None
@@ -109,12 +111,37 @@ plain_published : (uri : List ℕ) (version : Option ℕ) (diagnostics : Items) 
 plain_published uri None diagnostics h = rw h refl
 plain_published uri (Some version) diagnostics h = rw h refl
 
+-- the symbols that are found
+plain_both : (one other : List Data) → items_have_float (items_of one) ≡ false → items_have_float (items_of other) ≡ false
+    → items_have_float (items_of (one ++ other)) ≡ false
+plain_both [] other first second = second
+plain_both (d ∷ ds) other first second =
+    let both = or_parts (has_float d) (items_have_float (items_of ds)) first in
+    rw both.0 (plain_both ds other both.1 second)
+  where
+    or_parts : (a b : Bool) → (a || b) ≡ false → (a ≡ false) × (b ≡ false)
+    or_parts true b e = absurd cc
+    or_parts false b e = (refl, e)
+
+plain_current : (says : Sayings) (held : List ℕ) (document : Open) (current : Bool) → HasNoFloats says
+    → items_have_float (items_of (cond current (says.symbols document.text document.uri held) [])) ≡ false
+plain_current says held document true plain = plain.symbols document.text document.uri held
+plain_current says held document false plain = refl
+
+plain_found : (says : Sayings) (held : List ℕ) (documents : List Open) → HasNoFloats says
+    → items_have_float (items_of (found_among says held documents)) ≡ false
+plain_found says held [] plain = refl
+plain_found says held (document ∷ documents) plain =
+    plain_both (found_in says held document) (found_among says held documents) (plain_current says held document document.current plain)
+    (plain_found says held documents plain)
+
 plain_answer : (says : Sayings) (answer : Answer) → HasNoFloats says → HasNoFloat (id_answered answer) → has_float (answer_data says answer) ≡ false
 plain_answer says (ready id client) plain h = rw h (rw (plain_actions client.takes_actions) (rw (plain_renames client.prepares_renames) refl))
 plain_answer says (done id) plain h = rw h refl
 plain_answer says (refused id failure) plain h = plain_refusal id failure h
 plain_answer says (answered id client document query) plain h =
     plain_reply id (says.answers client document.text document.uri query) h (plain.answers client document.text document.uri query)
+plain_answer says (searched id documents held) plain h = rw h (rw (plain_found says held documents plain) refl)
 plain_answer says (shown document) plain h = plain_published document.uri document.version (says.diagnostics document.text) (plain.diagnostics document.text)
 plain_answer says (cleared uri) plain h = refl
 plain_answer says (warned uri) plain h = refl
@@ -129,6 +156,7 @@ plain_fresh : (says : Sayings) (id : Data) (asked : Asked) → HasNoFloats says 
 plain_fresh says id (initialize client) plain h = plain_answer says (ready id client) plain h
 plain_fresh says id shutdown plain h = plain_answer says (refused (Some id) NotInitialized) plain h
 plain_fresh says id (about uri query) plain h = plain_answer says (refused (Some id) NotInitialized) plain h
+plain_fresh says id (search held) plain h = plain_answer says (refused (Some id) NotInitialized) plain h
 plain_fresh says id unreadable plain h = plain_answer says (refused (Some id) NotInitialized) plain h
 plain_fresh says id unknown plain h = plain_answer says (refused (Some id) NotInitialized) plain h
 
@@ -142,6 +170,7 @@ plain_running : (says : Sayings) (client : Client) (documents : List Open) (id :
 plain_running says client documents id (initialize other) plain h = plain_answer says (refused (Some id) NoRequest) plain h
 plain_running says client documents id shutdown plain h = plain_answer says (done id) plain h
 plain_running says client documents id (about uri query) plain h = plain_about says id client query (current_of (open_at uri documents)) plain h
+plain_running says client documents id (search held) plain h = plain_answer says (searched id documents held) plain h
 plain_running says client documents id unreadable plain h = plain_answer says (refused (Some id) BadParameters) plain h
 plain_running says client documents id unknown plain h = plain_answer says (refused (Some id) NoMethod) plain h
 

@@ -5,7 +5,7 @@ use Rattle.std.specs.Option.{option_to_list}
 use Rattle.std.specs.Str.{bytes_eq}
 use Rattle.std.proofs.lemmas.Slice.Eq.{bytes_eq-Decides}
 use Rattle.serde_json.specs.Data.{Data}
-use Rattle.lsp_messages.specs.Messages.{Asked, initialize, shutdown, about, unreadable, unknown, Edit, Meaning, message_of, Query, request, notification}
+use Rattle.lsp_messages.specs.Messages.{Asked, initialize, shutdown, about, search, unreadable, unknown, Edit, Meaning, message_of, Query, request, notification}
 use Rattle.lsp_messages.specs.Messages.{response, faulty, Told, exited, opened, changed, closed, unreadable, nothing}
 use Rattle.lsp_messages.specs.declared.clients.Client.{Client}
 use Rattle.lsp_server.specs.Runs.{AnswersAreOfShownTexts, answers_to, last_shown, shown_by, state_after, OpenDocumentsAreShown}
@@ -228,6 +228,7 @@ shown_fresh uri before id (initialize client) = refl
 shown_fresh uri before id shutdown = refl
 shown_fresh uri before id (about other query) = refl
 shown_fresh uri before id unreadable = refl
+shown_fresh uri before id (search held) = refl
 shown_fresh uri before id unknown = refl
 
 shown_about : (uri : List ℕ) (before : Option Open) (id : Data) (client : Client) (query : Query) (found : Option Open)
@@ -241,6 +242,7 @@ shown_running uri before client documents id (initialize other) = refl
 shown_running uri before client documents id shutdown = refl
 shown_running uri before client documents id (about other query) = shown_about uri before id client query (current_of (open_at other documents))
 shown_running uri before client documents id unreadable = refl
+shown_running uri before client documents id (search held) = refl
 shown_running uri before client documents id unknown = refl
 
 shown_requested : (uri : List ℕ) (before : Option Open) (documents : List Open) (phase : Phase) (id : Data) (asked : Asked)

@@ -5,7 +5,7 @@ use Rattle.std.specs.Str.{bytes_eq}
 use Rattle.serde_json.specs.Data.{Data}
 use Rattle.lsp_messages.specs.Messages.{Meaning, Query, about, request}
 use Rattle.lsp_messages.specs.declared.clients.Client.{Client}
-use Rattle.lsp_server.specs.Steps.{Answer, ready, done, refused, answered, shown, cleared, warned, Open, Places, State, answered_of, at_start, current_of}
+use Rattle.lsp_server.specs.Steps.{Answer, ready, done, refused, answered, searched, shown, cleared, warned, Open, Places, State, answered_of, at_start, current_of}
 use Rattle.lsp_server.specs.Steps.{open_at, outdated, step}
 use Rattle.lsp_server.specs.declared.phase.Phase.TheVariants.{Running}
 
@@ -26,6 +26,7 @@ shown_by uri before (ready id client) = before
 shown_by uri before (done id) = before
 shown_by uri before (refused id failure) = before
 shown_by uri before (answered id client document query) = before
+shown_by uri before (searched id documents held) = before
 shown_by uri before (shown document) = if bytes_eq document.uri uri then Some document else before
 shown_by uri before (cleared other) = if bytes_eq other uri then None else before
 shown_by uri before (warned None) = before

@@ -5,7 +5,7 @@ use Rattle.std.specs.Prelude.{if◌then◌else◌}
 use Rattle.std.specs.List.{filter}
 use Rattle.std.specs.Str.{bytes_eq}
 use Rattle.serde_json.specs.Data.{Data}
-use Rattle.lsp_messages.specs.Messages.{Asked, initialize, shutdown, about, unreadable, unknown, Edit, Meaning, message_of, Query, request, notification}
+use Rattle.lsp_messages.specs.Messages.{Asked, initialize, shutdown, about, search, unreadable, unknown, Edit, Meaning, message_of, Query, request, notification}
 use Rattle.lsp_messages.specs.Messages.{response, faulty, Told, exited, opened, changed, closed, unreadable, nothing}
 use Rattle.lsp_types.specs.declared.failures.Failure.{Failure}
 use Rattle.lsp_types.specs.declared.failures.Failure.TheVariants.{BadParameters, NoJson, NoMethod, NoRequest, NotInitialized}
@@ -29,13 +29,15 @@ pub record State : Type 0 where
   pub documents : List Open
 
 -- what is sent: that the server is ready for a client, or will end, or why a request is refused;
--- what comes of a question of a client about a document; the diagnostics of a document, or none of
+-- what comes of a question of a client about a document; the symbols of documents whose names hold a
+-- text; the diagnostics of a document, or none of
 -- one that was closed; that a message about a document, whose URI may be known, was not read
 pub data Answer : Type 0 where
   ready : Data → Client → Answer
   done : Data → Answer
   refused : Option Data → Failure → Answer
   answered : Data → Client → Open → Query → Answer
+  searched : Data → List Open → List ℕ → Answer
   shown : Open → Answer
   cleared : List ℕ → Answer
   warned : Option (List ℕ) → Answer
@@ -55,6 +57,7 @@ abbrev pub requested_fresh : Data → Asked → Phase × Answer
 requested_fresh id (initialize client) = (Running client, ready id client)
 requested_fresh id shutdown = (Fresh, refused (Some id) NotInitialized)
 requested_fresh id (about uri query) = (Fresh, refused (Some id) NotInitialized)
+requested_fresh id (search held) = (Fresh, refused (Some id) NotInitialized)
 requested_fresh id unreadable = (Fresh, refused (Some id) NotInitialized)
 requested_fresh id unknown = (Fresh, refused (Some id) NotInitialized)
 
@@ -72,6 +75,7 @@ abbrev pub requested_running : Client → List Open → Data → Asked → Phase
 requested_running client documents id (initialize other) = (Running client, refused (Some id) NoRequest)
 requested_running client documents id shutdown = (Finished, done id)
 requested_running client documents id (about uri query) = (Running client, answered_of id client query (current_of (open_at uri documents)))
+requested_running client documents id (search held) = (Running client, searched id documents held)
 requested_running client documents id unreadable = (Running client, refused (Some id) BadParameters)
 requested_running client documents id unknown = (Running client, refused (Some id) NoMethod)
 

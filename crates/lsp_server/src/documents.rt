@@ -1,9 +1,9 @@
 //! The documents that are open.
-ghost use Rattle.std.specs.Prelude.{◌≡◌, ◌<◌, IfOk, IfSome, OnOk, Some, length, map, option_map, true};
+ghost use Rattle.std.specs.Prelude.{◌≡◌, ◌<◌, ◌++◌, IfOk, IfSome, OnOk, Some, length, map, option_map, true};
 ghost use Rattle.serde_json.specs.View.{view};
 ghost use Rattle.lsp_messages.specs.Shapes.{publish_data};
 ghost use Rattle.lsp_messages.specs.Views.{edit_view, question_view, reply_view};
-ghost use Rattle.lsp_server.specs.Answers.{answer_data};
+ghost use Rattle.lsp_server.specs.Answers.{answer_data, found_among, found_in};
 ghost use Rattle.lsp_server.specs.States.{documents_view, open_view};
 ghost use Rattle.lsp_server.specs.Steps.{changed_at, changed_by, closed_at, current_of, outdated_at, open_at, outdated, shown, shown_by_change, can_apply, warned, with_change, with_document, with_edits, without};
 ghost use Rattle.lsp_server.specs.inside.Views.{Tells, place_of};
@@ -242,6 +242,41 @@ pub fn close<D: HeldText + Drop>(
             Ok(Some(publish_value(alloc, uri, None, Vec::new(alloc))?))
         }
     }
+}
+
+// Adds the symbols of a document whose names hold a text; none if it is out of date.
+fn push_found<D: HeldText>(
+    alloc: Global,
+    values: &mut Vec<Value>,
+    document: &Opened<D>,
+    held: &str,
+) -> Result<(), AllocError>
+    ensures { OnOk result (map view values.new.items ≡ map view values.old.items ++ found_in D.says held.now (open_view D.text_of document.now)) }
+{
+    if document.is_current {
+        let uri = document.uri.as_str();
+        document.source.push_symbols(alloc, values, uri, held)?;
+    }
+    Ok(())
+}
+
+/// The symbols of all documents whose names hold a text, in the order of the documents; none of one
+/// that is out of date.
+///
+/// # Errors
+/// Out of memory.
+pub fn search<D: HeldText>(
+    alloc: Global,
+    documents: &[Opened<D>],
+    held: &str,
+) -> Result<Vec<Value>, AllocError>
+    ensures { IfOk result (λ values. map view values.items ≡ found_among D.says held.now (documents_view D.text_of documents.now)) }
+{
+    let mut values = Vec::new(alloc);
+    for document in documents {
+        push_found(alloc, &mut values, document, held)?;
+    }
+    Ok(values)
 }
 
 // What comes of a question of a client about a document, or `None` if it is out of date.

@@ -5,7 +5,7 @@ ghost use Rattle.lsp_messages.specs.Views.{asked_view, question_view};
 ghost use Rattle.lsp_server.specs.Answers.{answer_data};
 ghost use Rattle.lsp_server.specs.Sayings.{Sayings};
 ghost use Rattle.lsp_server.specs.States.{documents_view};
-ghost use Rattle.lsp_server.specs.Steps.{answered_of, current_of, open_at, ready, requested, requested_fresh, requested_running};
+ghost use Rattle.lsp_server.specs.Steps.{answered_of, current_of, open_at, ready, requested, requested_fresh, requested_running, searched};
 ghost use Rattle.lsp_server.specs.inside.Views.{IsAnswer};
 
 use crate::documents::{self, Opened};
@@ -59,6 +59,19 @@ fn answer_about<D: HeldText>(
     }
 }
 
+// The symbols of all documents whose names hold a text.
+fn found_value<D: HeldText>(
+    alloc: Global,
+    documents: &[Opened<D>],
+    id: &Value,
+    held: &str,
+) -> Result<Value, AllocError>
+    ensures { IfOk result (λ v. view v ≡ answer_data D.says (searched (view id.now) (documents_view D.text_of documents.now) held.now)) }
+{
+    let values = documents::search(alloc, documents, held)?;
+    response_value(alloc, id, Value::Array(values))
+}
+
 // What becomes of the phase, and the answer, between `initialize` of a client and `shutdown`.
 fn answer_running<D: HeldText>(
     alloc: Global,
@@ -79,6 +92,10 @@ fn answer_running<D: HeldText>(
         Call::Asked { uri, question } => Ok((
             Phase::Running(client),
             answer_about(alloc, client, documents, id, uri, *question)?,
+        )),
+        Call::Search { query } => Ok((
+            Phase::Running(client),
+            found_value(alloc, documents, id, query)?,
         )),
         Call::Faulty => Ok((
             Phase::Running(client),

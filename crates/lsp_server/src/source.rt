@@ -6,8 +6,8 @@ use std::alloc::{AllocError, Global};
 
 /// A text with what is wrong with it, and with answers to questions about it.
 pub trait HeldText {
-    ghost use Rattle.std.specs.Prelude.{◌≡◌, ◌≤◌, ℕ, List, IfOk, OnOk, length};
-    ghost use Rattle.serde_json.specs.View.{items_view};
+    ghost use Rattle.std.specs.Prelude.{◌≡◌, ◌++◌, ◌≤◌, ℕ, List, IfOk, OnOk, length, map};
+    ghost use Rattle.serde_json.specs.View.{items_view, view};
     ghost use Rattle.lsp_messages.specs.Views.{question_view, reply_view};
     ghost use Rattle.lsp_types.specs.declared.places.Position.{Position};
     ghost use Rattle.lsp_server.specs.Sayings.{HasNoFloats, Sayings};
@@ -66,6 +66,19 @@ pub trait HeldText {
         question: Question<'_>,
     ) -> Result<Reply, AllocError>
         ensures { IfOk result (λ reply. reply_view reply ≡ says.answers client (text_of self.now) uri.now (question_view question.entry)) };
+
+    /// Adds the symbols of it whose names hold a text, as values of the protocol with its URI.
+    ///
+    /// # Errors
+    /// Out of memory.
+    fn push_symbols(
+        &self,
+        alloc: Global,
+        values: &mut Vec<Value>,
+        uri: &str,
+        held: &str,
+    ) -> Result<(), AllocError>
+        ensures { OnOk result (map view values.new.items ≡ map view values.old.items ++ says.symbols (text_of self.now) uri.now held.now) };
 
     // A law: nothing that is said has a float, whose text would not be known.
     ghost no_floats: { HasNoFloats says };

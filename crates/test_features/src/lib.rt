@@ -6,6 +6,7 @@
 //! - `documents`: documents, and parts of them by lines and columns
 //! - `fixes`: what is offered against the faults of documents
 //! - `hovers`: what is shown about positions in documents
+//! - `layouts`: the edits that lay out documents
 //! - `names`: where the names of documents lead
 //! - `outlines`: the blocks of documents as their outlines show them
 //! - `renaming`: what is renamed in documents
@@ -23,6 +24,8 @@ mod documents;
 mod fixes;
 #[cfg(test)]
 mod hovers;
+#[cfg(test)]
+mod layouts;
 #[cfg(test)]
 mod names;
 #[cfg(test)]

@@ -2,9 +2,12 @@
 //!
 //! - `rows`: sources and how they are written
 //! - `files`: what comes of files and of standard input
+//! - `folds`: what an editor may fold of sources
 #![tactic(auto)]
 
 #[cfg(test)]
 mod files;
+#[cfg(test)]
+mod folds;
 #[cfg(test)]
 mod rows;

@@ -1,7 +1,7 @@
 -- What the source for tests says of a text.
-use Rattle.std.specs.Prelude.{ℕ, List, Bool, codes, false, length, nat_eq, refl, true, if◌then◌else◌}
+use Rattle.std.specs.Prelude.{ℕ, List, [], ◌∷◌, Bool, codes, false, length, nat_eq, refl, true, if◌then◌else◌}
 use Rattle.serde_json.specs.Data.{Data, Items, array, boolean, item, no_items, number, string, unsigned}
-use Rattle.lsp_messages.specs.Messages.{Query, completion, hover, definition, references, symbols, highlights, rename, prepare_rename, fixes}
+use Rattle.lsp_messages.specs.Messages.{Query, completion, hover, definition, references, symbols, highlights, folding, formatting, rename, prepare_rename, fixes}
 use Rattle.lsp_messages.specs.Shapes.{Said, said_answer, said_refusal}
 use Rattle.lsp_types.specs.declared.failures.Failure.TheVariants.{NoName}
 use Rattle.lsp_messages.specs.declared.clients.Client.{Client}
@@ -15,6 +15,8 @@ word_of (definition place) = codes "definition"
 word_of (references place with_declaration) = codes "references"
 word_of symbols = codes "symbols"
 word_of (highlights place) = codes "highlights"
+word_of folding = codes "folding"
+word_of formatting = codes "formatting"
 word_of (rename place name) = name
 word_of (prepare_rename place) = codes "prepareRename"
 word_of (fixes range wanted) = codes "fixes"
@@ -26,6 +28,8 @@ place_of (definition place) = place
 place_of (references place with_declaration) = place
 place_of symbols = record { line = 0; column = 0 }
 place_of (highlights place) = place
+place_of folding = record { line = 0; column = 0 }
+place_of formatting = record { line = 0; column = 0 }
 place_of (rename place name) = place
 place_of (prepare_rename place) = place
 place_of (fixes range wanted) = range.start
@@ -37,6 +41,8 @@ flag_of client (definition place) = false
 flag_of client (references place with_declaration) = with_declaration
 flag_of client symbols = client.nests_symbols
 flag_of client (highlights place) = false
+flag_of client folding = false
+flag_of client formatting = false
 flag_of client (rename place name) = false
 flag_of client (prepare_rename place) = false
 flag_of client (fixes range wanted) = wanted
@@ -58,8 +64,11 @@ abbrev pub said_of : Client → List ℕ → List ℕ → Query → Said
 said_of client text uri query =
     if nat_eq (length (word_of query)) 0 then said_refusal NoName else said_answer (answer_of client text uri query)
 
+abbrev pub symbols_of : List ℕ → List ℕ → List ℕ → List Data
+symbols_of text uri held = array (item (string uri) (item (number (unsigned (length text))) (item (string held) no_items))) ∷ []
+
 abbrev pub sayings : Sayings
-sayings = record { diagnostics = diagnostics_of; answers = said_of }
+sayings = record { diagnostics = diagnostics_of; answers = said_of; symbols = symbols_of }
 
 no_float_if : (refused : Bool) (client : Client) (text uri : List ℕ) (query : Query)
     → SaidHasNoFloat (if refused then said_refusal NoName else said_answer (answer_of client text uri query))
@@ -70,4 +79,5 @@ pub sayings_have_no_floats : HasNoFloats sayings
 sayings_have_no_floats = record {
   diagnostics = λ text. refl;
   answers = λ client text uri query. no_float_if (nat_eq (length (word_of query)) 0) client text uri query;
+  symbols = λ text uri held. refl;
 }

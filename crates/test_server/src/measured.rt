@@ -1,7 +1,8 @@
 //! A source for tests: its one diagnostic is the length of its text, and lines do not count. The
 //! answer to a question about it has the URI, the text, and what was asked: of a rename the new
 //! name, of fixes the start of the range and whether they are wanted, of symbols whether the client
-//! takes them as a hierarchy. A rename to an empty name is refused.
+//! takes them as a hierarchy. A rename to an empty name is refused. Its one symbol has the URI, the
+//! length and what names are to hold.
 ghost use Rattle.std.specs.Prelude.{◌≡◌};
 ghost use Rattle.test_server.specs.Measured.{flag_of, place_of, word_of};
 ghost use Rattle.lsp_messages.specs.Views.{question_view};
@@ -35,6 +36,8 @@ fn parts_of(client: Client, question: Question<'_>) -> (&str, Position, bool)
         } => ("references", place, with_declaration),
         Question::Symbols => ("symbols", start, client.nests_symbols),
         Question::Highlights(place) => ("highlights", place, false),
+        Question::Folding => ("folding", start, false),
+        Question::Formatting => ("formatting", start, false),
         Question::Rename { place, name } => (name, place, false),
         Question::PrepareRename(place) => ("prepareRename", place, false),
         Question::Fixes { range, wanted } => ("fixes", range.start, wanted),
@@ -90,5 +93,17 @@ impl HeldText for Measured {
         }
         let len = self.text.len();
         Ok(Reply::Answer(json!(in alloc; [uri, len, word, place.line, place.column, flag])?))
+    }
+
+    fn push_symbols(
+        &self,
+        alloc: Global,
+        values: &mut Vec<Value>,
+        uri: &str,
+        held: &str,
+    ) -> Result<(), AllocError> {
+        let len = self.text.len();
+        values.push(json!(in alloc; [uri, len, held])?)?;
+        Ok(())
     }
 }

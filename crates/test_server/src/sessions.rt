@@ -21,7 +21,7 @@ const INITIALIZE: &str =
     r#"{"jsonrpc":"2.0","id":1,"method":"initialize","params":{"capabilities":{}}}"#;
 
 const READY: &str =
-    r#"{"id":1,"jsonrpc":"2.0","result":{"capabilities":{"codeActionProvider":false,"completionProvider":{"triggerCharacters":["="]},"definitionProvider":true,"documentHighlightProvider":true,"documentSymbolProvider":true,"hoverProvider":true,"positionEncoding":"utf-16","referencesProvider":true,"renameProvider":true,"textDocumentSync":{"change":2,"openClose":true}},"serverInfo":{"name":"ti-lsp","version":"1.0.0"}}}"#;
+    r#"{"id":1,"jsonrpc":"2.0","result":{"capabilities":{"codeActionProvider":false,"completionProvider":{"triggerCharacters":["="]},"definitionProvider":true,"documentFormattingProvider":true,"documentHighlightProvider":true,"documentSymbolProvider":true,"foldingRangeProvider":true,"hoverProvider":true,"positionEncoding":"utf-16","referencesProvider":true,"renameProvider":true,"textDocumentSync":{"change":2,"openClose":true},"workspaceSymbolProvider":true},"serverInfo":{"name":"ti-lsp","version":"1.0.0"}}}"#;
 
 // A client that asks which name a rename is of, and that takes code actions.
 const INITIALIZE_ABLE: &str =
@@ -32,10 +32,10 @@ const INITIALIZE_PLAIN: &str =
     r#"{"jsonrpc":"2.0","id":1,"method":"initialize","params":{"capabilities":{"textDocument":{"codeAction":{"codeActionLiteralSupport":{}}}}}}"#;
 
 const READY_FOR_PLAIN: &str =
-    r#"{"id":1,"jsonrpc":"2.0","result":{"capabilities":{"codeActionProvider":{"codeActionKinds":["quickfix"]},"completionProvider":{"triggerCharacters":["="]},"definitionProvider":true,"documentHighlightProvider":true,"documentSymbolProvider":true,"hoverProvider":true,"positionEncoding":"utf-16","referencesProvider":true,"renameProvider":true,"textDocumentSync":{"change":2,"openClose":true}},"serverInfo":{"name":"ti-lsp","version":"1.0.0"}}}"#;
+    r#"{"id":1,"jsonrpc":"2.0","result":{"capabilities":{"codeActionProvider":{"codeActionKinds":["quickfix"]},"completionProvider":{"triggerCharacters":["="]},"definitionProvider":true,"documentFormattingProvider":true,"documentHighlightProvider":true,"documentSymbolProvider":true,"foldingRangeProvider":true,"hoverProvider":true,"positionEncoding":"utf-16","referencesProvider":true,"renameProvider":true,"textDocumentSync":{"change":2,"openClose":true},"workspaceSymbolProvider":true},"serverInfo":{"name":"ti-lsp","version":"1.0.0"}}}"#;
 
 const READY_FOR_ABLE: &str =
-    r#"{"id":1,"jsonrpc":"2.0","result":{"capabilities":{"codeActionProvider":{"codeActionKinds":["quickfix"]},"completionProvider":{"triggerCharacters":["="]},"definitionProvider":true,"documentHighlightProvider":true,"documentSymbolProvider":true,"hoverProvider":true,"positionEncoding":"utf-16","referencesProvider":true,"renameProvider":{"prepareProvider":true},"textDocumentSync":{"change":2,"openClose":true}},"serverInfo":{"name":"ti-lsp","version":"1.0.0"}}}"#;
+    r#"{"id":1,"jsonrpc":"2.0","result":{"capabilities":{"codeActionProvider":{"codeActionKinds":["quickfix"]},"completionProvider":{"triggerCharacters":["="]},"definitionProvider":true,"documentFormattingProvider":true,"documentHighlightProvider":true,"documentSymbolProvider":true,"foldingRangeProvider":true,"hoverProvider":true,"positionEncoding":"utf-16","referencesProvider":true,"renameProvider":{"prepareProvider":true},"textDocumentSync":{"change":2,"openClose":true},"workspaceSymbolProvider":true},"serverInfo":{"name":"ti-lsp","version":"1.0.0"}}}"#;
 
 // A client that takes symbols as a hierarchy.
 const INITIALIZE_NESTING: &str =
@@ -305,6 +305,9 @@ const QUESTIONS: [Session; 6] = [
             r#"{"id":1,"method":"textDocument/references","params":{"context":{"includeDeclaration":false},"position":{"character":8,"line":9},"textDocument":{"uri":"u"}}}"#,
             r#"{"id":2,"method":"textDocument/documentSymbol","params":{"textDocument":{"uri":"v"}}}"#,
             r#"{"id":3,"method":"textDocument/documentHighlight","params":{"textDocument":{"uri":"v"},"position":{"line":6,"character":5}}}"#,
+            r#"{"id":4,"method":"textDocument/foldingRange","params":{"textDocument":{"uri":"v"}}}"#,
+            r#"{"id":5,"method":"textDocument/formatting","params":{"options":{"insertSpaces":true,"tabSize":4},"textDocument":{"uri":"u"}}}"#,
+            r#"{"id":6,"method":"workspace/symbol","params":{"query":"q"}}"#,
         ],
         answers: &[
             READY,
@@ -317,6 +320,9 @@ const QUESTIONS: [Session; 6] = [
             r#"{"id":1,"jsonrpc":"2.0","result":["u",3,"references",9,8,false]}"#,
             r#"{"id":2,"jsonrpc":"2.0","result":["v",2,"symbols",0,0,false]}"#,
             r#"{"id":3,"jsonrpc":"2.0","result":["v",2,"highlights",6,5,false]}"#,
+            r#"{"id":4,"jsonrpc":"2.0","result":["v",2,"folding",0,0,false]}"#,
+            r#"{"id":5,"jsonrpc":"2.0","result":["u",3,"formatting",0,0,false]}"#,
+            r#"{"id":6,"jsonrpc":"2.0","result":[["u",3,"q"],["v",2,"q"]]}"#,
         ],
         end: Err(FrameError::Broken),
     },
@@ -416,6 +422,10 @@ const QUESTIONS: [Session; 6] = [
             r#"{"id":3,"method":"textDocument/rename","params":{"textDocument":{"uri":"u"},"newName":"vt"}}"#,
             r#"{"id":3,"method":"textDocument/prepareRename","params":{"textDocument":{"uri":"u"}}}"#,
             r#"{"id":3,"method":"textDocument/documentHighlight","params":{"textDocument":{"uri":"u"}}}"#,
+            r#"{"id":3,"method":"textDocument/foldingRange","params":{"textDocument":{}}}"#,
+            r#"{"id":3,"method":"textDocument/formatting"}"#,
+            r#"{"id":3,"method":"workspace/symbol","params":{"query":7}}"#,
+            r#"{"id":3,"method":"workspace/symbol"}"#,
             r#"{"id":3,"method":"textDocument/codeAction","params":{"textDocument":{"uri":"u"},"range":{"start":{"line":1,"character":2},"end":{"line":3,"character":4}}}}"#,
             r#"{"id":3,"method":"textDocument/codeAction","params":{"textDocument":{"uri":"u"},"range":{"start":{"line":1,"character":2},"end":{"line":3,"character":4}},"context":{"only":"quickfix"}}}"#,
             r#"{"id":3,"method":"textDocument/codeAction","params":{"textDocument":{"uri":"u"},"range":{"start":{"line":0,"character":0}},"context":{}}}"#,
@@ -423,6 +433,10 @@ const QUESTIONS: [Session; 6] = [
         answers: &[
             READY,
             OPENED,
+            NOT_ANSWERED,
+            NOT_ANSWERED,
+            NOT_ANSWERED,
+            NOT_ANSWERED,
             NOT_ANSWERED,
             NOT_ANSWERED,
             NOT_ANSWERED,
@@ -507,6 +521,7 @@ const DROPPED: [Session; 6] = [
             OPEN,
             r#"{"method":"textDocument/didChange","params":{"textDocument":{"uri":"u","version":2},"contentChanges":[{"text":"abcdef"},{"range":{"start":{"line":0,"character":0}},"text":""}]}}"#,
             HOVER,
+            r#"{"id":6,"method":"workspace/symbol","params":{"query":""}}"#,
             r#"{"method":"textDocument/didChange","params":{"textDocument":{"uri":"u","version":3},"contentChanges":[{"range":{"start":{"line":0,"character":0},"end":{"line":0,"character":1}},"text":"xy"}]}}"#,
             r#"{"method":"textDocument/didChange","params":{"textDocument":{"uri":"u","version":4},"contentChanges":[]}}"#,
             HOVER,
@@ -524,6 +539,7 @@ const DROPPED: [Session; 6] = [
             OPENED,
             UNREADABLE,
             NOT_ANSWERED,
+            r#"{"id":6,"jsonrpc":"2.0","result":[]}"#,
             NOT_ANSWERED,
             r#"{"jsonrpc":"2.0","method":"textDocument/publishDiagnostics","params":{"diagnostics":[4],"uri":"u","version":5}}"#,
             r#"{"id":3,"jsonrpc":"2.0","result":["u",4,"hover",4,5,false]}"#,

@@ -1,7 +1,7 @@
 //! The values that are sent, as the protocol has them.
 use lsp_messages::answers::{
-    action_value, highlight_value, hover_value, item_value, list_value, location_value,
-    obsolete_item_value, symbol_information_value, symbol_value, text_edit_value,
+    action_value, folding_value, highlight_value, hover_value, item_value, list_value,
+    location_value, obsolete_item_value, symbol_information_value, symbol_value, text_edit_value,
     workspace_edit_value,
 };
 use lsp_messages::writing::{
@@ -81,6 +81,10 @@ const LOCATION_TEXT: &str =
 const HIGHLIGHT_TEXT: &str =
     r#"{"range":{"end":{"character":0,"line":3},"start":{"character":1,"line":2}}}"#;
 
+const ENTRY_FOLD_TEXT: &str = r#"{"endLine":7,"startLine":4}"#;
+
+const COMMENT_FOLD_TEXT: &str = r#"{"endLine":1,"kind":"comment","startLine":0}"#;
+
 const HOVER_TEXT: &str =
     r#"{"contents":{"kind":"plaintext","value":"am\nflag"},"range":{"end":{"character":0,"line":3},"start":{"character":1,"line":2}}}"#;
 
@@ -99,6 +103,10 @@ fn symbols_and_hovers(rt: HostRuntime) -> Result<(), Fail> {
     assert!(rt; location.to_string(alloc)?.as_str() == LOCATION_TEXT);
     let highlight = highlight_value(alloc, RANGE)?;
     assert!(rt; highlight.to_string(alloc)?.as_str() == HIGHLIGHT_TEXT);
+    let fold = folding_value(alloc, 4, 7, false)?;
+    assert!(rt; fold.to_string(alloc)?.as_str() == ENTRY_FOLD_TEXT);
+    let fold = folding_value(alloc, 0, 1, true)?;
+    assert!(rt; fold.to_string(alloc)?.as_str() == COMMENT_FOLD_TEXT);
     let hover = hover_value(alloc, "am\nflag", RANGE)?;
     assert!(rt; hover.to_string(alloc)?.as_str() == HOVER_TEXT);
     Ok(())
@@ -110,14 +118,19 @@ const EDITS_TEXT: &str =
 const ACTION_TEXT: &str =
     r#"{"edit":{"changes":{"u":[{"newText":"am","range":{"end":{"character":0,"line":3},"start":{"character":1,"line":2}}}]}},"kind":"quickfix","title":"T"}"#;
 
+const PREFERRED_TEXT: &str =
+    r#"{"edit":{"changes":{"u":[{"newText":"am","range":{"end":{"character":0,"line":3},"start":{"character":1,"line":2}}}]}},"isPreferred":true,"kind":"quickfix","title":"T"}"#;
+
 #[test]
 fn edits(rt: HostRuntime) -> Result<(), Fail> {
     let alloc = rt.alloc();
     let edit = text_edit_value(alloc, "vt", RANGE)?;
     let edits = workspace_edit_value(alloc, "file:///a", Vec::from_array(alloc, [edit])?)?;
     assert!(rt; edits.to_string(alloc)?.as_str() == EDITS_TEXT);
-    let action = action_value(alloc, "u", "T", RANGE, "am")?;
+    let action = action_value(alloc, "u", "T", RANGE, "am", false)?;
     assert!(rt; action.to_string(alloc)?.as_str() == ACTION_TEXT);
+    let action = action_value(alloc, "u", "T", RANGE, "am", true)?;
+    assert!(rt; action.to_string(alloc)?.as_str() == PREFERRED_TEXT);
     Ok(())
 }
 
@@ -139,10 +152,10 @@ const REFUSED: &str =
     r#"{"error":{"code":-32803,"message":"the new name is already in use"},"id":null,"jsonrpc":"2.0"}"#;
 
 const READY: &str =
-    r#"{"capabilities":{"codeActionProvider":{"codeActionKinds":["quickfix"]},"completionProvider":{"triggerCharacters":["="]},"definitionProvider":true,"documentHighlightProvider":true,"documentSymbolProvider":true,"hoverProvider":true,"positionEncoding":"utf-16","referencesProvider":true,"renameProvider":{"prepareProvider":true},"textDocumentSync":{"change":2,"openClose":true}},"serverInfo":{"name":"ti-lsp","version":"9"}}"#;
+    r#"{"capabilities":{"codeActionProvider":{"codeActionKinds":["quickfix"]},"completionProvider":{"triggerCharacters":["="]},"definitionProvider":true,"documentFormattingProvider":true,"documentHighlightProvider":true,"documentSymbolProvider":true,"foldingRangeProvider":true,"hoverProvider":true,"positionEncoding":"utf-16","referencesProvider":true,"renameProvider":{"prepareProvider":true},"textDocumentSync":{"change":2,"openClose":true},"workspaceSymbolProvider":true},"serverInfo":{"name":"ti-lsp","version":"9"}}"#;
 
 const READY_FOR_LESS: &str =
-    r#"{"capabilities":{"codeActionProvider":false,"completionProvider":{"triggerCharacters":["="]},"definitionProvider":true,"documentHighlightProvider":true,"documentSymbolProvider":true,"hoverProvider":true,"positionEncoding":"utf-16","referencesProvider":true,"renameProvider":true,"textDocumentSync":{"change":2,"openClose":true}},"serverInfo":{"name":"ti-lsp","version":"9"}}"#;
+    r#"{"capabilities":{"codeActionProvider":false,"completionProvider":{"triggerCharacters":["="]},"definitionProvider":true,"documentFormattingProvider":true,"documentHighlightProvider":true,"documentSymbolProvider":true,"foldingRangeProvider":true,"hoverProvider":true,"positionEncoding":"utf-16","referencesProvider":true,"renameProvider":true,"textDocumentSync":{"change":2,"openClose":true},"workspaceSymbolProvider":true},"serverInfo":{"name":"ti-lsp","version":"9"}}"#;
 
 // A client that asks which name a rename is of, and that takes code actions.
 const ABLE: Client = Client {

@@ -2,7 +2,7 @@
 use Rattle.std.specs.Prelude.{ℕ, List, [], Bool, false, true, Option, None, Some, codes, map}
 use Rattle.serde_json.specs.Data.{Data, array, null}
 use Rattle.serde_json.specs.View.{items_of}
-use Rattle.lsp_messages.specs.Messages.{Query, completion, hover, definition, references, symbols, highlights, rename, prepare_rename, fixes}
+use Rattle.lsp_messages.specs.Messages.{Query, completion, hover, definition, references, symbols, highlights, folding, formatting, rename, prepare_rename, fixes}
 use Rattle.lsp_messages.specs.Shapes.{Said, said_answer, said_refusal, highlight_data, item_data, list_data, location_data, range_data, symbol_data, symbol_information_data}
 use Rattle.lsp_messages.specs.Shapes.{text_edit_data, workspace_edit_data}
 use Rattle.lsp_messages.specs.declared.clients.Client.{Client}
@@ -10,14 +10,18 @@ use Rattle.lsp_types.specs.declared.items.ItemKind.TheVariants as items
 use Rattle.lsp_types.specs.declared.places.Range.{Range}
 use Rattle.lsp_blocks.specs.Symbols.{SymbolSeen, symbols_of}
 use Rattle.lsp_features.specs.Completions.{CompletionSeen, OffersSeen, completion_of, offers_capabilities, offers_names}
+use Rattle.lsp_features.specs.Formatting.{layout_of}
 use Rattle.lsp_features.specs.Hovers.{hover_of}
 use Rattle.lsp_fixes.specs.Fixes.{fixes_of}
+use Rattle.lsp_format.specs.Folds.{folds_of}
 use Rattle.ti_lsp.specs.Fixes.{fixes_data}
 use Rattle.lsp_features.specs.Names.{definition_of, references_of}
 use Rattle.lsp_features.specs.Renaming.{RenamingSeen, refuses, renamable_at, renames, renames_nothing, renaming_of}
 use Rattle.lsp_server.specs.Sayings.{Sayings}
 use Rattle.ti_lsp.specs.Hovers.{hover_shown}
+use Rattle.ti_lsp.specs.Laying.{folds_data, layout_data}
 use Rattle.ti_lsp.specs.Offers.{all_capabilities, capability_item}
+use Rattle.ti_lsp.specs.Searching.{searched}
 use Rattle.ti_lsp.specs.Shown.{shown_of}
 
 -- a block in the outline, for a client that takes symbols as a hierarchy ("DocumentSymbol") or not
@@ -80,9 +84,11 @@ answer_of client text uri (definition place) = said_answer (definition_data uri 
 answer_of client text uri (references place with_declaration) = said_answer (references_data uri (references_of text place with_declaration))
 answer_of client text uri symbols = said_answer (outline_data client.nests_symbols uri (symbols_of text))
 answer_of client text uri (highlights place) = said_answer (highlights_data (references_of text place true))
+answer_of client text uri folding = said_answer (folds_data (folds_of text))
+answer_of client text uri formatting = said_answer (layout_data (layout_of text))
 answer_of client text uri (rename place name) = renamed_said uri name (renaming_of text place name)
 answer_of client text uri (prepare_rename place) = said_answer (renamable_data (renamable_at text place))
 answer_of client text uri (fixes range wanted) = said_answer (fixes_data uri wanted (fixes_of text range))
 
 abbrev pub sayings : Sayings
-sayings = record { diagnostics = shown_of; answers = answer_of }
+sayings = record { diagnostics = shown_of; answers = answer_of; symbols = searched }

@@ -1,24 +1,29 @@
 -- No diagnostic and no answer has a float.
-use Rattle.std.specs.Prelude.{ℕ, ◌≡◌, Bool, List, [], ◌∷◌, false, true, Option, None, Some, map, refl}
+use Rattle.std.specs.Prelude.{ℕ, ◌≡◌, Bool, cond, List, [], ◌∷◌, ◌++◌, false, true, Option, None, Some, map, refl}
 use Rattle.serde_json.specs.View.{items_of}
 use Rattle.serde_json.specs.Written.{has_float, items_have_float}
 use Rattle.ti_caps.specs.Tables.{Capability, name_of}
 use Rattle.lsp_document.specs.Diagnostics.{Shown, diagnostics_of}
 use Rattle.lsp_blocks.specs.Symbols.{SymbolSeen, symbols_of}
 use Rattle.lsp_features.specs.Completions.{CompletionSeen, OffersSeen, completion_of, offers_capabilities, offers_names}
+use Rattle.lsp_features.specs.Formatting.{LayoutSeen, layout_of}
 use Rattle.lsp_features.specs.Hovers.{HoverSeen, hover_of}
 use Rattle.lsp_features.specs.Names.{definition_of, references_of}
 use Rattle.lsp_features.specs.Renaming.{RenamingSeen, refuses, renamable_at, renames, renames_nothing, renaming_of}
 use Rattle.lsp_fixes.specs.Fixes.{FixSeen, fixes_of}
-use Rattle.ti_lsp.specs.Fixes.{fix_shown, fixes_data}
-use Rattle.lsp_messages.specs.Messages.{Query, completion, hover, definition, references, symbols, highlights, rename, prepare_rename, fixes}
-use Rattle.lsp_messages.specs.Shapes.{highlight_data, location_data, text_edit_data}
+use Rattle.lsp_format.specs.Folds.{folds_of}
+use Rattle.lsp_format.specs.declared.folding.Fold.{Fold}
+use Rattle.ti_lsp.specs.Fixes.{advice_title, fix_shown, fixes_data, is_certain}
+use Rattle.lsp_messages.specs.Messages.{Query, completion, hover, definition, references, symbols, highlights, folding, formatting, rename, prepare_rename, fixes}
+use Rattle.lsp_messages.specs.Shapes.{action_data, folding_data, highlight_data, location_data, symbol_information_data, text_edit_data}
 use Rattle.lsp_messages.specs.declared.clients.Client.{Client}
 use Rattle.lsp_types.specs.declared.places.Range.{Range}
 use Rattle.lsp_server.specs.Sayings.{HasNoFloats, SaidHasNoFloat}
 use Rattle.ti_lsp.specs.Answers.{answer_of, completion_data, definition_data, entry_item, offered_items, renamable_data, renamed_said, sayings, symbol_shown}
 use Rattle.ti_lsp.specs.Hovers.{hover_shown}
+use Rattle.ti_lsp.specs.Laying.{fold_data, layout_data}
 use Rattle.ti_lsp.specs.Offers.{all_capabilities, capability_item, described_item, is_obsolete}
+use Rattle.ti_lsp.specs.Searching.{holds, symbols_found}
 use Rattle.ti_lsp.specs.Shown.{shown_data, shown_of}
 
 none_in : (all : List Shown) → items_have_float (items_of (map shown_data all)) ≡ false
@@ -45,6 +50,18 @@ none_in_highlights : (ranges : List Range) → items_have_float (items_of (map h
 none_in_highlights [] = refl
 none_in_highlights (range ∷ ranges) = none_in_highlights ranges
 
+none_in_layout : (edit : Option LayoutSeen) → has_float (layout_data edit) ≡ false
+none_in_layout None = refl
+none_in_layout (Some edit) = refl
+
+none_in_folding : (first last : ℕ) (is_comment : Bool) → has_float (folding_data first last is_comment) ≡ false
+none_in_folding first last true = refl
+none_in_folding first last false = refl
+
+none_in_folds : (all : List Fold) → items_have_float (items_of (map fold_data all)) ≡ false
+none_in_folds [] = refl
+none_in_folds (fold ∷ all) = rw (none_in_folding fold.first fold.last fold.is_comment) (none_in_folds all)
+
 none_in_described : (obsolete : Bool) (range : Range) (cap : Capability) → has_float (described_item obsolete range cap) ≡ false
 none_in_described true range cap = refl
 none_in_described false range cap = refl
@@ -65,9 +82,9 @@ none_in_completion : (found : Option CompletionSeen) → has_float (completion_d
 none_in_completion None = refl
 none_in_completion (Some found) = rw (none_in_offers found.range found.offers) refl
 
-none_in_hover : (told : Option HoverSeen) → has_float (hover_shown told) ≡ false
+none_in_hover : (hover : Option HoverSeen) → has_float (hover_shown hover) ≡ false
 none_in_hover None = refl
-none_in_hover (Some told) = refl
+none_in_hover (Some hover) = refl
 
 none_in_edits : (name : List ℕ) (parts : List Range) → items_have_float (items_of (map (text_edit_data name) parts)) ≡ false
 none_in_edits name [] = refl
@@ -82,9 +99,13 @@ none_in_renamable : (found : Option Range) → has_float (renamable_data found) 
 none_in_renamable None = refl
 none_in_renamable (Some range) = refl
 
+none_in_action : (uri title : List ℕ) (range : Range) (text : List ℕ) (is_preferred : Bool) → has_float (action_data uri title range text is_preferred) ≡ false
+none_in_action uri title range text true = refl
+none_in_action uri title range text false = refl
+
 none_in_fixes : (uri : List ℕ) (all : List FixSeen) → items_have_float (items_of (map (fix_shown uri) all)) ≡ false
 none_in_fixes uri [] = refl
-none_in_fixes uri (fix ∷ all) = none_in_fixes uri all
+none_in_fixes uri (fix ∷ all) = rw (none_in_action uri (advice_title fix.advice fix.text) fix.range fix.text (is_certain fix.advice)) (none_in_fixes uri all)
 
 none_in_wanted : (uri : List ℕ) (wanted : Bool) (all : List FixSeen) → has_float (fixes_data uri wanted all) ≡ false
 none_in_wanted uri true all = none_in_fixes uri all
@@ -97,9 +118,23 @@ answers_have_no_floats client text uri (definition place) = none_in_definition u
 answers_have_no_floats client text uri (references place with_declaration) = none_in_references uri (references_of text place with_declaration)
 answers_have_no_floats client text uri symbols = none_in_outline client.nests_symbols uri (symbols_of text)
 answers_have_no_floats client text uri (highlights place) = none_in_highlights (references_of text place true)
+answers_have_no_floats client text uri folding = none_in_folds (folds_of text)
+answers_have_no_floats client text uri formatting = none_in_layout (layout_of text)
 answers_have_no_floats client text uri (rename place name) = none_in_renaming uri name (renaming_of text place name)
 answers_have_no_floats client text uri (prepare_rename place) = none_in_renamable (renamable_at text place)
 answers_have_no_floats client text uri (fixes range wanted) = none_in_wanted uri wanted (fixes_of text range)
 
+none_in_found : (uri held : List ℕ) (all : List SymbolSeen) → items_have_float (items_of (symbols_found uri held all)) ≡ false
+none_in_found uri held [] = refl
+none_in_found uri held (symbol ∷ all) =
+    elim (holds held symbol.name) as (λ b. items_have_float (items_of (cond b (symbol_information_data uri symbol.name symbol.range ∷ []) [] ++ symbols_found uri held all)) ≡ false) [
+      | true ↦ none_in_found uri held all
+      | false ↦ none_in_found uri held all
+    ]
+
 pub sayings_have_no_floats : HasNoFloats sayings
-sayings_have_no_floats = record { diagnostics = shown_have_no_floats; answers = answers_have_no_floats }
+sayings_have_no_floats = record {
+  diagnostics = shown_have_no_floats;
+  answers = answers_have_no_floats;
+  symbols = λ text uri held. none_in_found uri held (symbols_of text);
+}

@@ -4,5 +4,7 @@ pub mod Command
 pub mod Fixes
 pub mod Floats
 pub mod Hovers
+pub mod Laying
 pub mod Offers
+pub mod Searching
 pub mod Shown

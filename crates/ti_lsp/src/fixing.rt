@@ -1,11 +1,11 @@
 //! What is offered against faults, as values of the protocol.
-ghost use Rattle.std.specs.Prelude.{◌≡◌, ◌++◌, IfOk, codes, map};
+ghost use Rattle.std.specs.Prelude.{◌≡◌, IfOk, map};
 ghost use Rattle.std.specs.String.{string_bytes};
 ghost use Rattle.serde_json.specs.View.{view};
 ghost use Rattle.lsp_fixes.specs.Edits.{advice_seen};
 ghost use Rattle.lsp_fixes.specs.Fixes as offered;
 ghost use Rattle.lsp_fixes.specs.Fixes.{fix_seen};
-ghost use Rattle.ti_lsp.specs.Fixes.{advice_told, fix_shown, fixes_data, sign_told};
+ghost use Rattle.ti_lsp.specs.Fixes.{advice_title, fix_shown, fixes_data, is_certain, sign_title};
 
 use lsp_document::Document;
 use lsp_fixes::{Advice, Fix, fixes_of};
@@ -15,9 +15,9 @@ use serde_json::Value;
 use std::alloc::{AllocError, Global};
 use ti_caps::Kind;
 
-// What is said about the sign of a kind.
-fn sign_told(kind: Kind) -> &'static str
-    ensures { result.now ≡ sign_told kind }
+// The title of a fix that writes the sign of a kind.
+fn sign_title(kind: Kind) -> &'static str
+    ensures { result.now ≡ sign_title kind }
 {
     match kind {
         Kind::Flag => "Remove the sign",
@@ -26,37 +26,30 @@ fn sign_told(kind: Kind) -> &'static str
     }
 }
 
-// The name that replaces another, between quotes.
-fn other_told(alloc: Global, text: &str) -> Result<String, AllocError>
-    ensures { IfOk result (λ told. string_bytes told ≡ codes "` with `" ++ text.now ++ codes "`") }
-{
-    format!(in alloc; "` with `{text}`")
-}
-
-// The title of a fix that replaces a name.
-fn name_told(alloc: Global, name: &str, text: &str) -> Result<String, AllocError>
-    ensures { IfOk result (λ told. string_bytes told ≡ codes "Replace `" ++ name.now ++ codes "` with `" ++ text.now ++ codes "`") }
-{
-    let other = other_told(alloc, text)?;
-    format!(in alloc; "Replace `{name}{other}")
-}
-
-// The title of a fix that replaces the last byte of a string.
-fn caret_told(alloc: Global, text: &str) -> Result<String, AllocError>
-    ensures { IfOk result (λ told. string_bytes told ≡ codes "Write `" ++ text.now ++ codes "` at the end") }
-{
-    format!(in alloc; "Write `{text}` at the end")
-}
-
-// What is said about advice, by which a text is written.
-fn advice_told(alloc: Global, advice: &Advice, text: &str) -> Result<String, AllocError>
-    ensures { IfOk result (λ told. string_bytes told ≡ advice_told (advice_seen advice.now) text.now) }
+// The title of a fix, by which a text is written.
+fn advice_title(alloc: Global, advice: &Advice, text: &str) -> Result<String, AllocError>
+    ensures { IfOk result (λ title. string_bytes title ≡ advice_title (advice_seen advice.now) text.now) }
 {
     match advice {
-        Advice::Name(name) => name_told(alloc, name.as_str(), text),
-        Advice::Sign(kind) => String::from_str(alloc, sign_told(*kind)),
+        Advice::Name(name) => {
+            let name = name.as_str();
+            format!(in alloc; "Replace `{name}` with `{text}`")
+        }
+        Advice::Sign(kind) => String::from_str(alloc, sign_title(*kind)),
         Advice::Spelling => String::from_str(alloc, "Rewrite the string as it is read"),
-        Advice::Caret => caret_told(alloc, text),
+        Advice::Caret => format!(in alloc; "Write `{text}` at the end"),
+    }
+}
+
+// Whether a fix is the only one of its fault, and keeps what its item is about.
+fn is_certain(advice: &Advice) -> bool
+    ensures { result ≡ is_certain (advice_seen advice.now) }
+{
+    match advice {
+        Advice::Name(_) => false,
+        Advice::Sign(_) => true,
+        Advice::Spelling => true,
+        Advice::Caret => true,
     }
 }
 
@@ -65,8 +58,9 @@ fn fix_value(alloc: Global, uri: &str, fix: &Fix) -> Result<Value, AllocError>
     ensures { IfOk result (λ v. view v ≡ fix_shown uri.now (fix_seen fix.now)) }
 {
     let text = fix.text.as_str();
-    let title = advice_told(alloc, &fix.advice, text)?;
-    action_value(alloc, uri, title.as_str(), fix.range, text)
+    let title = advice_title(alloc, &fix.advice, text)?;
+    let is_preferred = is_certain(&fix.advice);
+    action_value(alloc, uri, title.as_str(), fix.range, text, is_preferred)
 }
 
 // Fixes of the document of that URI.

@@ -3,15 +3,18 @@
 //! - `command`: what the words of the command line ask for
 //! - `terminfo`: a source as the server holds and shows it; `answering` answers questions about it,
 //!   `offers` has the capabilities as a completion offers them, `hovering` says what a place is on,
-//!   `renaming` renames, and `fixing` says what is offered against faults
+//!   `laying` lays out and folds, `renaming` renames, `searching` finds entries by parts of their
+//!   names, and `fixing` says what is offered against faults
 #![tactic(auto)]
 
 mod answering;
 mod command;
 mod fixing;
 mod hovering;
+mod laying;
 mod offers;
 mod renaming;
+mod searching;
 mod terminfo;
 
 use crate::command::{Task, asked};

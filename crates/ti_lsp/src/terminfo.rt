@@ -7,7 +7,9 @@ ghost use Rattle.ti_lsp.specs.Shown.{shown_data};
 use crate::answering::{completion, definition, highlights, outline, references};
 use crate::fixing::fixes;
 use crate::hovering::hover;
+use crate::laying::{folds, layout};
 use crate::renaming::{renamable, renamed};
+use crate::searching::search;
 use lsp_document::{Diagnostic, Document};
 use lsp_messages::writing::diagnostic_value;
 use lsp_messages::{Client, Question, Reply};
@@ -96,6 +98,8 @@ impl HeldText for Terminfo {
             Question::Hover(place) => hover(alloc, &self.document, place)?,
             Question::Symbols => outline(alloc, client.nests_symbols, &self.document, uri)?,
             Question::Highlights(place) => highlights(alloc, &self.document, place)?,
+            Question::Folding => folds(alloc, &self.document)?,
+            Question::Formatting => layout(alloc, &self.document)?,
             Question::Rename { place, name } => {
                 return renamed(alloc, &self.document, uri, place, name);
             }
@@ -105,5 +109,15 @@ impl HeldText for Terminfo {
             }
         };
         Ok(Reply::Answer(answer))
+    }
+
+    fn push_symbols(
+        &self,
+        alloc: Global,
+        values: &mut Vec<Value>,
+        uri: &str,
+        held: &str,
+    ) -> Result<(), AllocError> {
+        search(alloc, &self.document, values, uri, held)
     }
 }

@@ -139,5 +139,7 @@ def fixes_of(text, uri, start, end):
                 if not all(is_place(block, offset) for offset in span):
                     continue
                 edit = {"newText": new, "range": range_in(block, line, *span)}
-                found.append({"edit": {"changes": {uri: [edit]}}, "kind": "quickfix", "title": title})
+                action = {"edit": {"changes": {uri: [edit]}}, "kind": "quickfix", "title": title}
+                # another name is a guess; each other fix is the only one of its fault
+                found.append(action if title.startswith("Replace `") else {**action, "isPreferred": True})
     return found

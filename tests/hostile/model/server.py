@@ -11,6 +11,7 @@ from .answers import (
 )
 from .base import Meaning
 from .fixes import fixes_of
+from .layout import folds_of, layout_of
 from .texts import blocks_of, lines_of, offset_of, refused_line, width
 
 SMALL = 2**31
@@ -22,6 +23,7 @@ QUESTIONS = {
     "textDocument/completion": True, "textDocument/hover": True, "textDocument/definition": True,
     "textDocument/references": True, "textDocument/documentSymbol": False, "textDocument/rename": True,
     "textDocument/prepareRename": True, "textDocument/codeAction": False, "textDocument/documentHighlight": True,
+    "textDocument/foldingRange": False, "textDocument/formatting": False,
 }
 # the methods that tell of a document
 TELLING = ["textDocument/didOpen", "textDocument/didChange", "textDocument/didClose"]
@@ -231,6 +233,10 @@ def answer_of(nests, method, text, uri, place, more):
         return hover_of(text, place)
     if method == "textDocument/codeAction":
         return fixes_of(text, uri, *place) if more else []
+    if method == "textDocument/foldingRange":
+        return folds_of(text)
+    if method == "textDocument/formatting":
+        return layout_of(text)
     symbols = symbols_of(text)
     return symbols if nests else [
         {"kind": each["kind"], "name": each["name"], "location": {"uri": uri, "range": each["range"]}} for each in symbols
@@ -275,6 +281,8 @@ class Server:
             return {"id": number, "result": None}
         if self.phase == "running" and method in QUESTIONS:
             return self.answered(number, method, params)
+        if self.phase == "running" and method == "workspace/symbol":
+            return self.found(number, member(params, "query"))
         if self.phase == "running" and method != "initialize":
             return refusal(number, NO_METHOD)
         return refusal(number, NO_REQUEST)
@@ -288,6 +296,18 @@ class Server:
             return {"id": number, "result": answer_of(self.nests, method, self.texts[asked[0]], *asked)}
         except Refused:
             return refusal(number, FAILED)
+
+    def found(self, number, query):
+        """The entries of all documents whose names hold a text, whatever the case of its letters."""
+        if not isinstance(query, str):
+            return refusal(number, BAD_PARAMETERS)
+        held = query.encode("utf-8").lower()
+        result = [
+            {"kind": each["kind"], "name": each["name"], "location": {"uri": uri, "range": each["range"]}}
+            for uri, text in self.texts.items() if uri not in self.outdated
+            for each in symbols_of(text) if held in each["name"].encode("utf-8").lower()
+        ]
+        return {"id": number, "result": result}
 
     def tell(self, method, params):
         """What is published by a notification."""

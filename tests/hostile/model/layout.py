@@ -1,0 +1,102 @@
+"""The layout of a source in lines of a width, and the lines of it that may be folded."""
+
+from .source import WHITE, cut, ends_of_items, fold, is_head
+from .texts import lines_of, width
+
+COLUMNS = 80
+TAB = 8
+
+
+def is_kept(line):
+    """Whether a line stays as it is: it is a comment, or blank."""
+    return line.startswith(b"#") or line.strip(WHITE) == b""
+
+
+def split_lines(source):
+    """The lines of a source, without their ends."""
+    lines = source.split(b"\n")
+    return lines[:-1] if lines[-1] == b"" else lines
+
+
+def kind_of(item):
+    """What an item is for the layout: a number, or 0 if it goes with any."""
+    if item == b"" or item.startswith(b"."):
+        return 0
+    marks = [at for at in (item.find(b"#"), item.find(b"=")) if at >= 0]
+    if not marks:
+        return 0 if item.rstrip(WHITE).endswith(b"@") else 1
+    if item[min(marks)] == 0x23:
+        return 2
+    return 4 if item[: min(marks)] == b"use" else 3
+
+
+def items_of(block):
+    """The items of a block: the line of each, 0 if it is empty, its text, and whether a comma ends it."""
+    text, where = fold(block)
+    start, found = text.find(b",") + 1 or len(text) + 1, []
+    for end in ends_of_items(text, start):
+        item = text[start:end].lstrip(WHITE)
+        found.append([where[end - len(item)] if item else 0, item, True])
+        start = end + 1
+    if found and found[-1][1] == b"":
+        found.pop()
+    elif found:
+        found[-1][2] = False
+    return found
+
+
+def lay_out_block(block, columns):
+    block = block if block.endswith(b"\n") else block + b"\n"
+    kept = [(at + 1, line) for at, line in enumerate(split_lines(block)) if is_kept(line)]
+    out, column, kind = fold(block)[0].partition(b",")[0] + b",\n", 0, 0
+
+    def push_kept():
+        nonlocal out, column, kind
+        out += (b"\n" if column else b"") + kept.pop(0)[1] + b"\n"
+        column = kind = 0
+
+    for line, item, ended in items_of(block):
+        while kept and kept[0][0] < line:
+            push_kept()
+        new, item = kind_of(item), item + (b"," if ended else b"")
+        if column and (0 in (kind, new) or kind == new) and column + 1 + len(item) <= columns:
+            out, column, kind = out + b" " + item, column + 1 + len(item), new or kind
+        else:
+            out, column, kind = out + (b"\n\t" if column else b"\t") + item, TAB + len(item), new
+    while kept:
+        push_kept()
+    return out + (b"\n" if column else b"")
+
+
+def lay_out(source, columns):
+    preface, blocks = cut(source)
+    return preface + b"".join(lay_out_block(block, columns) for block in blocks)
+
+
+def layout_of(text):
+    """The edits that lay out a text: one, or none."""
+    laid = lay_out(text.encode("utf-8"), COLUMNS).decode("utf-8")
+    if laid == text:
+        return []
+    lines = lines_of(text)
+    end = {"line": len(lines) - 1, "character": width(lines[-1][1])}
+    return [{"newText": laid, "range": {"start": {"line": 0, "character": 0}, "end": end}}]
+
+
+def folds_of(text):
+    """The entries of a text up to their last items, and rows of comments, if they have more than one line."""
+    lines, found = split_lines(text.encode("utf-8")), []
+    for first, line in enumerate(lines):
+        last = first
+        if is_head(line):
+            for at in range(first + 1, len(lines)):
+                if is_head(lines[at]):
+                    break
+                last = last if is_kept(lines[at]) else at
+        elif line.startswith(b"#") and not (first and lines[first - 1].startswith(b"#")):
+            while lines[last + 1 : last + 2] and lines[last + 1].startswith(b"#"):
+                last += 1
+        if last > first:
+            kind = {"kind": "comment"} if line.startswith(b"#") else {}
+            found.append({"startLine": first, "endLine": last, **kind})
+    return found
