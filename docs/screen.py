@@ -32,7 +32,7 @@ base|what mine begins with,
 	cr=\r, kf1=\q,
 mine|my terminal,
 	am, cols#8o, lines=24,
-	bel=^G, clear=\E[H\E[2J, colour#8,
+	bel=^G, clear=\E[H\E[2J, colo-r#8,
 	use=base, use=vt0,
 """
 # how many errors and warnings it has

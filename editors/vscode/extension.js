@@ -55,6 +55,7 @@ class Client {
             clientInfo: { name: "Visual Studio Code", version: vscode.version },
             rootUri: null,
             capabilities: CAPABILITIES,
+            initializationOptions: { ti: { userDefined: vscode.workspace.getConfiguration("ti").userDefined } },
         };
         const { capabilities } = await this.connection.request("initialize", asked);
         this.connection.notify("initialized", {});

@@ -54,10 +54,12 @@ def notification(method, params):
     return {"jsonrpc": "2.0", "method": method, "params": params}
 
 
-INITIALIZE = {"jsonrpc": "2.0", "id": 0, "method": "initialize", "params": {"capabilities": {}}}
+# the model is of the profile
+PROFILE = {"ti": {"userDefined": False}}
+INITIALIZE = {"jsonrpc": "2.0", "id": 0, "method": "initialize", "params": {"capabilities": {}, "initializationOptions": PROFILE}}
 # of a client that takes symbols as a hierarchy
 NESTED = {"documentSymbol": {"hierarchicalDocumentSymbolSupport": True}}
-NESTING = {**INITIALIZE, "params": {"capabilities": {"textDocument": NESTED}}}
+NESTING = {**INITIALIZE, "params": {"capabilities": {"textDocument": NESTED}, "initializationOptions": PROFILE}}
 
 
 class Editor:
@@ -164,6 +166,9 @@ class Editor:
             message["id"] = self.one(ODD_VALUES)
         for _ in range(self.one([0, 1, 2])):
             self.damage(message)
+        if message.get("method") == "initialize":
+            params = message.get("params")
+            message["params"] = {**(params if isinstance(params, dict) else {}), "initializationOptions": PROFILE}
         return body_of(message)
 
     def damage(self, value):

@@ -10,4 +10,5 @@ pub mod PublishedFaults
 pub mod SameFaults
 pub mod ShownDetails
 pub mod SmallExchanges
+pub mod SourceStates
 pub mod TextLists

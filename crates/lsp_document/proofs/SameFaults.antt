@@ -4,13 +4,13 @@ use Rattle.std.specs.Prelude.{if◌then◌else◌}
 use Rattle.std.specs.Str.{bytes_eq}
 use Rattle.std.proofs.lemmas.List.{map-append, take_all, take_more}
 use Rattle.std.proofs.lemmas.Slice.Eq.{bytes_eq-Decides}
-use Rattle.base_meaning.specs.Faults.{SourceFault, fault_seen}
-use Rattle.base_meaning.specs.declared.faults.Fault.{Fault}
+use Rattle.user_compiling.specs.Faults.{ExtendedSourceFault, fault_seen, line_of}
+use Rattle.user_compiling.specs.declared.fault.ExtendedFault.{ExtendedFault}
 use Rattle.ti_source.specs.Code.{label_of}
 use Rattle.ti_source.specs.declared.code.Code.{Code}
 use Rattle.ti_source.specs.declared.code.Code.TheVariants as code
 use Rattle.lsp_spans.specs.Faulty.{Sought}
-use Rattle.lsp_document.specs.Marking.{sought_of}
+use Rattle.lsp_document.specs.Marking.{code_of as sought_code, detail_of, sought_of}
 use Rattle.lsp_document.specs.inside.Kept.{sought_in}
 
 -- ---- a label is that of one code
@@ -53,27 +53,27 @@ same_code one other same =
 
 -- ---- faults
 
-pub same_sought : (one other : SourceFault) → one.line ≡ other.line → bytes_eq (label_of one.code) (label_of other.code) ≡ true → one.detail ≡ other.detail
-    → sought_of one ≡ sought_of other
+pub same_sought : (one other : ExtendedSourceFault) → line_of one ≡ line_of other → bytes_eq (label_of (sought_code one)) (label_of (sought_code other)) ≡ true
+    → detail_of one ≡ detail_of other → sought_of one ≡ sought_of other
 same_sought one other line label detail =
-    ap₂ (λ (l : ℕ) (c : Code). record { line = l; code = c; detail = one.detail }) line (same_code one.code other.code label)
-    ∙ ap (λ (d : Option (List ℕ)). record { line = other.line; code = other.code; detail = d }) detail
+    ap₂ (λ (l : ℕ) (c : Code). record { line = l; code = c; detail = detail_of one }) line (same_code (sought_code one) (sought_code other) label)
+    ∙ ap (λ (d : Option (List ℕ)). record { line = line_of other; code = sought_code other; detail = d }) detail
 
-abbrev sought : Fault → Sought
+abbrev sought : ExtendedFault → Sought
 sought fault = sought_of (fault_seen fault)
 
-one_more : (faults : List Fault) (at : ℕ) (fault : Fault) → at < length faults → fault ≡ get_or faults at fault
+one_more : (faults : List ExtendedFault) (at : ℕ) (fault : ExtendedFault) → at < length faults → fault ≡ get_or faults at fault
     → sought_in (take (at + 1) faults) ≡ sought_in (take at faults) ++ sought fault ∷ []
 one_more faults at fault within is =
     ap sought_in (take_more faults at fault within) ∙ map-append sought (take at faults) (get_or faults at fault ∷ [])
-    ∙ ap (λ (f : Fault). sought_in (take at faults) ++ sought f ∷ []) (sym is)
+    ∙ ap (λ (f : ExtendedFault). sought_in (take at faults) ++ sought f ∷ []) (sym is)
 
-pub same_more : (some others : List Fault) (at : ℕ) (one other : Fault) → at < length some → at < length others → one ≡ get_or some at one
+pub same_more : (some others : List ExtendedFault) (at : ℕ) (one other : ExtendedFault) → at < length some → at < length others → one ≡ get_or some at one
     → other ≡ get_or others at other → sought_in (take at some) ≡ sought_in (take at others) → sought one ≡ sought other
     → sought_in (take (at + 1) some) ≡ sought_in (take (at + 1) others)
 same_more some others at one other within there is as_is before same =
     one_more some at one within is ∙ ap₂ (λ (ss : List Sought) (s : Sought). ss ++ s ∷ []) before same ∙ sym (one_more others at other there as_is)
 
-pub all_same : (some others : List Fault) (at : ℕ) → length some ≤ at → length others ≤ at → sought_in (take at some) ≡ sought_in (take at others)
+pub all_same : (some others : List ExtendedFault) (at : ℕ) → length some ≤ at → length others ≤ at → sought_in (take at some) ≡ sought_in (take at others)
     → sought_in some ≡ sought_in others
 all_same some others at past beyond same = ap sought_in (sym (take_all at some past)) ∙ same ∙ ap sought_in (take_all at others beyond)

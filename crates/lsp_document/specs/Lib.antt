@@ -1,4 +1,5 @@
 -- The definitions that the contracts of this crate cite.
+pub mod SourceFaults
 pub mod Marking
 pub mod Exchanges
 pub mod Documents

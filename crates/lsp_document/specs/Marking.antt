@@ -3,7 +3,9 @@
 use Rattle.std.specs.Prelude.{ℕ, ◌+◌, ◌==◌, nat_eq, List, [], length, Option, Some, None, slice_get, if◌then◌else◌}
 use Rattle.std.specs.List.{slice_range}
 use Rattle.std.specs.Option.{option_map_or}
-use Rattle.base_meaning.specs.Faults.{SourceFault}
+use Rattle.ti_source.specs.declared.code.Code.{Code}
+use Rattle.ti_source.specs.declared.code.Code.TheVariants as code
+use Rattle.user_compiling.specs.Faults.{ExtendedSourceFault, of_profile, bad_user_defined, block_of, line_of as fault_line}
 use Rattle.lsp_spans.specs.Faulty.{Search, Sought, find_sought, search_of}
 use Rattle.lsp_spans.specs.declared.parts.Part.{Part}
 use Rattle.lsp_places.specs.LineTexts.{indent, line_of, until_end, width}
@@ -43,9 +45,20 @@ marked_for number text row (Some part) =
 
 -- ---- the parts of faults
 
+-- the code by which the part of a fault is sought: an item of a user-defined name is read as one of
+-- an unknown name
+abbrev pub code_of : ExtendedSourceFault → Code
+code_of (of_profile fault) = fault.code
+code_of (bad_user_defined block line name) = code.UnknownCapability
+
+-- what a fault is about
+abbrev pub detail_of : ExtendedSourceFault → Option (List ℕ)
+detail_of (of_profile fault) = fault.detail
+detail_of (bad_user_defined block line name) = Some name
+
 -- a fault as its part is sought
-abbrev pub sought_of : SourceFault → Sought
-sought_of fault = record { line = fault.line; code = fault.code; detail = fault.detail }
+abbrev pub sought_of : ExtendedSourceFault → Sought
+sought_of fault = record { line = fault_line fault; code = code_of fault; detail = detail_of fault }
 
 -- where the part of a fault of the block at that position is sought: in what the search for that of
 -- the fault before left, if it is of the same block, else in the whole block
@@ -54,5 +67,5 @@ search_at texts None at = search_of (text_at texts at)
 search_at texts (Some last) at = if nat_eq last.0 at then last.1 else search_of (text_at texts at)
 
 -- the part that a fault is of, and what the search for it leaves
-abbrev pub found_for : List (List ℕ) → Option (ℕ × Search) → SourceFault → Option Part × Search
-found_for texts last fault = find_sought (search_at texts last fault.block) (sought_of fault)
+abbrev pub found_for : List (List ℕ) → Option (ℕ × Search) → ExtendedSourceFault → Option Part × Search
+found_for texts last fault = find_sought (search_at texts last (block_of fault)) (sought_of fault)

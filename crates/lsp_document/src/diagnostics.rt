@@ -1,19 +1,21 @@
 //! The faults of a document, with their places.
-ghost use Rattle.std.specs.Prelude.{◌≡◌, ◌<◌, ◌≤◌, ◌+◌, ◌++◌, ◌∷◌, ◌-◌, ◌^◌, [], None, Some, length, map, option_map, slice_get, IfOk, OnOk};
+ghost use Rattle.std.specs.Prelude.{◌≡◌, ◌<◌, ◌≤◌, ◌+◌, ◌++◌, ◌∷◌, ◌-◌, ◌^◌, [], None, Some, length, map, option_map, slice_get, IfOk, OnOk, codes};
 ghost use Rattle.std.specs.Rc.{rc_slice_items};
 ghost use Rattle.std.specs.String.{string_bytes};
-ghost use Rattle.base_meaning.specs.Faults.{fault_seen, faults};
-ghost use Rattle.base_meaning.specs.Owner.{readings};
+ghost use Rattle.user_compiling.specs.Faults.{fault_seen, line_of as fault_line};
 ghost use Rattle.base_meaning.specs.Usable.{IsLine};
 ghost use Rattle.base_meaning.specs.Report as report;
 ghost use Rattle.tools_sources.specs.Sources.{source_refusal};
 ghost use Rattle.lsp_document.specs.Diagnostics as spec;
-ghost use Rattle.lsp_document.specs.Diagnostics.{diagnostic_seen, diagnostics_of, fault_message};
+ghost use Rattle.lsp_document.specs.Diagnostics.{diagnostic_seen, diagnostics_by, fault_message, message_of, problem_of};
 ghost use Rattle.lsp_document.specs.Documents.{held};
 ghost use Rattle.lsp_places.specs.LineTexts.{line_of};
+ghost use Rattle.lsp_document.specs.SourceFaults.{StatesAreThose, faults_by};
 ghost use Rattle.lsp_document.specs.inside.Marked.{AreMarked, on_line};
 
-use crate::faults::MarkedFaults;
+use crate::capabilities::Capabilities;
+use crate::faults::{MarkedFaults, mark_faults};
+use crate::kept::KeptMarks;
 use crate::marking::marked;
 use lsp_places::line_of;
 use lsp_spans::{BLOCK_TOO_LONG, TOO_MANY_BLOCKS, sentence};
@@ -23,12 +25,19 @@ use std::rc::RcSlice;
 use ti_base::{Database, Fault, write_detail};
 use ti_source::Code;
 use tools_sources::{SourceError, first_line};
+use user_compiling::ExtendedFault;
+
+// What an invalid value of a user-defined name means, and a hint.
+const BAD_VALUE: &str =
+    "Invalid value of a user-defined capability, so the item is ignored. Correct the number or the string.";
 
 /// What is wrong.
 #[derive(Clone, Copy, Debug, PartialEq, Eq)]
 pub enum Problem {
     /// A fault of the report.
     Fault(Code),
+    /// The value of a user-defined name cannot be read.
+    BadUserDefined,
     /// A block of over 1,048,576 bytes, for which the source is refused.
     BlockTooLong,
     /// The 65,536th block, for which the source is refused.
@@ -42,16 +51,18 @@ impl Problem {
     {
         match self {
             Problem::Fault(code) if !code.is_error() => Severity::Warning,
+            Problem::BadUserDefined => Severity::Warning,
             _ => Severity::Error,
         }
     }
 
-    /// The code: `E1` to `E9`, `W1` to `W4`, `BlockTooLong` or `TooManyBlocks`.
+    /// The code: `E1` to `E9`, `W1` to `W5`, `BlockTooLong` or `TooManyBlocks`.
     pub fn label(self) -> &'static str
         ensures { result.now ≡ spec.label_of_problem self }
     {
         match self {
             Problem::Fault(code) => code.label(),
+            Problem::BadUserDefined => "W5",
             Problem::BlockTooLong => "BlockTooLong",
             Problem::TooManyBlocks => "TooManyBlocks",
         }
@@ -103,8 +114,8 @@ fn push_subject(
     }
 }
 
-// What a diagnostic says of a fault.
-fn message_of(alloc: Global, fault: &Fault) -> Result<String, AllocError>
+// What a diagnostic says of a fault of the profile.
+fn profile_message(alloc: Global, fault: &Fault) -> Result<String, AllocError>
     ensures { IfOk result (λ message. string_bytes message ≡ fault_message fault.now.code (option_map rc_slice_items fault.now.detail)) }
 {
     let mut message = String::new(alloc);
@@ -113,6 +124,40 @@ fn message_of(alloc: Global, fault: &Fault) -> Result<String, AllocError>
     message.push_str(": ")?;
     message.push_str(sentence(fault.code))?;
     Ok(message)
+}
+
+// What a diagnostic says of a user-defined name whose value cannot be read.
+fn bad_message(alloc: Global, name: &RcSlice<u8>) -> Result<String, AllocError>
+    ensures { IfOk result (λ message. string_bytes message
+        ≡ codes "BadUserDefined" ++ report.detail_text (Some (rc_slice_items name.now)) ++ codes ": " ++ spec.bad_value_sentence) }
+{
+    let mut message = String::new(alloc);
+    message.push_str("BadUserDefined ")?;
+    let shown = shown_detail(alloc, name.as_slice())?;
+    message.push_str(&shown)?;
+    message.push_str(": ")?;
+    message.push_str(BAD_VALUE)?;
+    Ok(message)
+}
+
+// What a diagnostic says of a fault.
+fn message_of(alloc: Global, fault: &ExtendedFault) -> Result<String, AllocError>
+    ensures { IfOk result (λ message. string_bytes message ≡ message_of (fault_seen fault.now)) }
+{
+    match fault {
+        ExtendedFault::Profile(fault) => profile_message(alloc, fault),
+        ExtendedFault::BadUserDefined { name, .. } => bad_message(alloc, name),
+    }
+}
+
+// What is wrong by a fault.
+fn problem_of(fault: &ExtendedFault) -> Problem
+    ensures { result ≡ problem_of (fault_seen fault.now) }
+{
+    match fault {
+        ExtendedFault::Profile(fault) => Problem::Fault(fault.code),
+        ExtendedFault::BadUserDefined { .. } => Problem::BadUserDefined,
+    }
 }
 
 // The diagnostic of a problem that is shown on a line, of that number.
@@ -127,16 +172,20 @@ fn shown_on(number: usize, line: &[u8], problem: Problem, message: String) -> Di
 }
 
 // The diagnostic of a fault that is shown there.
-fn diagnostic_of(alloc: Global, range: Range, fault: &Fault) -> Result<Diagnostic, AllocError>
+fn diagnostic_of(
+    alloc: Global,
+    range: Range,
+    fault: &ExtendedFault,
+) -> Result<Diagnostic, AllocError>
     ensures { IfOk result (λ diagnostic. diagnostic_seen diagnostic ≡ record {
       range = range;
-      problem = Problem.Fault fault.now.code;
-      message = fault_message fault.now.code (option_map rc_slice_items fault.now.detail);
+      problem = problem_of (fault_seen fault.now);
+      message = message_of (fault_seen fault.now);
     }) }
 {
     Ok(Diagnostic {
         range,
-        problem: Problem::Fault(fault.code),
+        problem: problem_of(fault),
         message: message_of(alloc, fault)?,
     })
 }
@@ -165,30 +214,31 @@ fn mark_at(marks: &[Range], at: usize) -> Range
     marks[at]
 }
 
-// The number of the line of a fault, counted from 0, if so many lines are before its block, and the
+// The number of a line of a block, counted from 0, if so many lines are before the block, and the
 // first block begins on the line `first`, counted from 1.
-fn number_of(first: usize, before: u64, fault: &Fault) -> usize
+fn number_of(first: usize, before: u64, line: usize) -> usize
     requires first { 1 ≤ first }
     requires room { first ≤ 2 ^ 63 }
     requires before { before ≤ 68719476736 }
-    requires line { IsLine fault.now.line }
-    ensures { result ≡ first - 1 + before + (fault.now.line - 1) }
+    requires line { IsLine line }
+    ensures { result ≡ first - 1 + before + (line - 1) }
 {
-    first - 1 + before as usize + (fault.line - 1)
+    first - 1 + before as usize + (line - 1)
 }
 
 // The diagnostics of all faults, if the first block begins on the line of that number, counted from
 // 1.
 fn fault_diagnostics(
     alloc: Global,
+    capabilities: Capabilities,
     database: &Database,
     marked: &MarkedFaults,
     first: usize,
 ) -> Result<Vec<Diagnostic>, AllocError>
     requires first { 1 ≤ first }
     requires room { first ≤ 2 ^ 63 }
-    requires marked { AreMarked database.now (map fault_seen marked.now.faults.items) marked.now.marks.items }
-    ensures { IfOk result (λ all. map diagnostic_seen all.items ≡ spec.fault_diagnostics database.now first None (faults (readings database.now))) }
+    requires marked { AreMarked capabilities database.now (map fault_seen marked.now.faults.items) marked.now.marks.items }
+    ensures { IfOk result (λ all. map diagnostic_seen all.items ≡ spec.fault_diagnostics database.now first None (faults_by capabilities database.now)) }
 {
     let faults = marked.faults.as_slice();
     let marks = marked.marks.as_slice();
@@ -196,7 +246,7 @@ fn fault_diagnostics(
     let mut all = Vec::with_capacity(alloc, faults.len())?;
     for at in 0..faults.len() {
         let fault = &faults[at];
-        let number = number_of(first, starts[fault.block], fault);
+        let number = number_of(first, starts[fault.block()], fault.line());
         let range = on_line(number, mark_at(marks, at));
         all.push(diagnostic_of(alloc, range, fault)?)?;
     }
@@ -247,22 +297,39 @@ fn alone(alloc: Global, diagnostic: Diagnostic) -> Result<Vec<Diagnostic>, Alloc
     Ok(all)
 }
 
-/// What is wrong with a source, whose blocks the database holds, with these faults, and which is
-/// refused for that cause, if it is.
+// What is wrong with a source that is not refused, whose blocks the database holds, if the first
+// block begins on the line of that number, counted from 1.
+fn held_diagnostics(
+    alloc: Global,
+    capabilities: Capabilities,
+    database: &Database,
+    kept: &mut Vec<KeptMarks>,
+    first: usize,
+) -> Result<Vec<Diagnostic>, AllocError>
+    requires first { 1 ≤ first }
+    requires room { first ≤ 2 ^ 63 }
+    ensures { IfOk result (λ all. map diagnostic_seen all.items ≡ spec.fault_diagnostics database.now first None (faults_by capabilities database.now)) }
+{
+    let marked = mark_faults(alloc, capabilities, database, kept)?;
+    fault_diagnostics(alloc, capabilities, database, &marked, first)
+}
+
+/// What is wrong with a source, by which capabilities it may have, whose blocks the database holds,
+/// and which is refused for that cause, if it is. What is shown for the faults of a block is kept.
 pub(crate) fn source_diagnostics(
     alloc: Global,
+    capabilities: Capabilities,
     text: &[u8],
     database: &Database,
-    marked: &MarkedFaults,
+    kept: &mut Vec<KeptMarks>,
     refusal: Option<SourceError>,
 ) -> Result<Vec<Diagnostic>, AllocError>
     requires held { database.now ≡ held text.now }
-    requires marked { AreMarked database.now (map fault_seen marked.now.faults.items) marked.now.marks.items }
     requires refusal { refusal ≡ source_refusal text.now }
-    ensures { IfOk result (λ all. map diagnostic_seen all.items ≡ diagnostics_of text.now) }
+    ensures { IfOk result (λ all. map diagnostic_seen all.items ≡ diagnostics_by capabilities text.now) }
 {
     match refusal {
-        None => fault_diagnostics(alloc, database, marked, first_line(text)),
+        None => held_diagnostics(alloc, capabilities, database, kept, first_line(text)),
         Some(error) => {
             let diagnostic = refusal_diagnostic(alloc, text, error)?;
             alone(alloc, diagnostic)
@@ -275,4 +342,18 @@ pub(crate) fn source_diagnostics(
 /// of its fault.
 pub fn diagnostics_are_the_faults()
     ensures { spec.DiagnosticsAreTheFaults }
+{}
+
+/// A law, with no code: what `tic -x` makes of the blocks of a source is what the definition of the
+/// diagnostics has.
+pub fn states_are_those()
+    ensures { StatesAreThose }
+{}
+
+/// A law, with no code: with user-defined capabilities the diagnostics of a source that is not
+/// refused are the faults that `tic -x` reports, one by one and in the same order, each with the
+/// code, the line, the name and the detail of its fault; of a source of more than 1,024 distinct
+/// user-defined names they are those of the profile.
+pub fn user_defined_diagnostics_are_the_faults()
+    ensures { spec.UserDefinedDiagnosticsAreTheFaults }
 {}

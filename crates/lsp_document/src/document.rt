@@ -2,18 +2,17 @@
 ghost use Rattle.std.specs.Prelude.{◌≡◌, [], None, map, IfErr, IfOk, OnOk, OnErr};
 ghost use Rattle.ti_text.specs.Ascii as ascii;
 ghost use Rattle.ti_source.specs.Cutting.{last_byte};
-ghost use Rattle.base_meaning.specs.Faults.{fault_seen};
 ghost use Rattle.base_meaning.specs.declared.edits.EditError.TheVariants.{Memory};
 ghost use Rattle.tools_sources.specs.Sources.{AreTaken, source_refusal, source_texts};
 ghost use Rattle.lsp_document.specs.Documents.{HeldBlocksFit, held};
 ghost use Rattle.lsp_document.specs.Exchanges.{AtBack, AtFront, Exchanged};
-ghost use Rattle.lsp_document.specs.Diagnostics.{diagnostic_seen, diagnostics_of};
-ghost use Rattle.lsp_document.specs.inside.Marked.{AreMarked};
+ghost use Rattle.lsp_document.specs.Diagnostics.{diagnostic_seen, diagnostics_by, diagnostics_of};
 
+use crate::capabilities::Capabilities;
 use crate::cut::{common_back, common_front};
 use crate::diagnostics::{Diagnostic, source_diagnostics};
 use crate::exchanging::exchange;
-use crate::faults::{MarkedFaults, mark_faults};
+use crate::kept::KeptMarks;
 use crate::recutting::texts_of;
 use crate::taking::refusal_of;
 use std::alloc::{AllocError, Global};
@@ -31,25 +30,22 @@ pub struct Document {
     alloc: Global,
     text: Vec<u8>,
     database: Database,
-    // Its faults, and what is shown for each.
-    marked: MarkedFaults,
+    // What was shown for the faults of its blocks.
+    kept: Vec<KeptMarks>,
     // Why the source is refused, if it is.
     refusal: Option<SourceError>,
 }
 
 impl Model for Document {
-    ghost use Rattle.std.specs.Prelude.{◌≡◌, List, ℕ, map};
-    ghost use Rattle.base_meaning.specs.Faults.{fault_seen};
+    ghost use Rattle.std.specs.Prelude.{◌≡◌, List, ℕ};
     ghost use Rattle.tools_sources.specs.Sources.{source_refusal};
     ghost use Rattle.lsp_document.specs.Documents.{held};
-    ghost use Rattle.lsp_document.specs.inside.Marked.{AreMarked};
 
     ghost Value = { List ℕ };
 
     ghost view = { λ d. d.text.items };
 
-    ghost invariant = { λ d. (d.database ≡ held d.text.items) × (d.refusal ≡ source_refusal d.text.items)
-        × AreMarked d.database (map fault_seen d.marked.faults.items) d.marked.marks.items };
+    ghost invariant = { λ d. (d.database ≡ held d.text.items) × (d.refusal ≡ source_refusal d.text.items) };
 }
 
 // The texts of the blocks of a database.
@@ -173,26 +169,6 @@ fn change_to_text(
     Ok(changed)
 }
 
-// Makes the blocks of a database those of a text, or none if the source is refused, and its faults
-// those of these blocks. The text stays as it is.
-fn change_with_faults(
-    alloc: Global,
-    database: &mut Database,
-    marked: &mut MarkedFaults,
-    text: &mut Vec<u8>,
-) -> Result<Changed, EditError>
-    ensures held { OnOk result (database.new ≡ held text.old.items) }
-    ensures marked { OnOk result (AreMarked (held text.old.items) (map fault_seen marked.new.faults.items) marked.new.marks.items) }
-    ensures text { OnOk result (text.new.items ≡ text.old.items) }
-    ensures refusal { IfOk result (λ changed. changed.refusal ≡ source_refusal text.old.items) }
-    ensures edits { IfOk result (λ changed. source_refusal text.old.items ≡ None → Exchanged database.old (source_texts text.old.items) changed.edits) }
-    ensures refused { IfErr result (λ error. error ≡ Memory) }
-{
-    let changed = change_to_text(alloc, database, text)?;
-    *marked = mark_faults(alloc, database, &mut marked.kept)?;
-    Ok(changed)
-}
-
 // That memory ran out, when there is no other cause.
 fn out_of_memory(error: EditError) -> AllocError
     requires { error ≡ Memory }
@@ -212,7 +188,7 @@ impl Document {
             alloc,
             text: Vec::new(alloc),
             database: Database::new(alloc),
-            marked: MarkedFaults::none(alloc),
+            kept: Vec::new(alloc),
             refusal: None,
         }
     }
@@ -240,7 +216,7 @@ impl Document {
         ensures lost { OnErr result (self.new ≡ []) }
     {
         let mut text = text;
-        match change_with_faults(self.alloc, &mut self.database, &mut self.marked, &mut text) {
+        match change_to_text(self.alloc, &mut self.database, &mut text) {
             Ok(changed) => {
                 self.text = text;
                 self.refusal = changed.refusal;
@@ -249,7 +225,7 @@ impl Document {
             Err(error) => {
                 self.text = Vec::new(self.alloc);
                 self.database = Database::new(self.alloc);
-                self.marked = MarkedFaults::none(self.alloc);
+                self.kept = Vec::new(self.alloc);
                 self.refusal = None;
                 Err(out_of_memory(error))
             }
@@ -270,8 +246,8 @@ impl Document {
         &self.database
     }
 
-    /// What is wrong with the source, in the order of its report, or the one refusal of the whole
-    /// source.
+    /// What is wrong with the source in the profile, in the order of its report, or the one refusal
+    /// of the whole source.
     ///
     /// # Errors
     /// Out of memory.
@@ -280,9 +256,34 @@ impl Document {
     {
         source_diagnostics(
             alloc,
+            Capabilities::Profile,
             &self.text,
             &self.database,
-            &self.marked,
+            &mut Vec::new(alloc),
+            self.refusal,
+        )
+    }
+
+    /// What is wrong with the source, by which capabilities it may have, in the order of its report,
+    /// or the one refusal of the whole source. What is shown is kept for each block while its text
+    /// and its faults stay the same.
+    ///
+    /// # Errors
+    /// Out of memory.
+    pub fn diagnostics_by(
+        &mut self,
+        alloc: Global,
+        capabilities: Capabilities,
+    ) -> Result<Vec<Diagnostic>, AllocError>
+        ensures diagnostics { IfOk result (λ all. map diagnostic_seen all.items ≡ diagnostics_by capabilities self.old) }
+        ensures text { self.new ≡ self.old }
+    {
+        source_diagnostics(
+            alloc,
+            capabilities,
+            &self.text,
+            &self.database,
+            &mut self.kept,
             self.refusal,
         )
     }

@@ -1,39 +1,26 @@
 //! The faults of a database, and what is shown for each.
-ghost use Rattle.std.specs.Prelude.{◌≡◌, ◌≤◌, All, IfOk, IfSome, None, [], length, map};
-ghost use Rattle.base_meaning.specs.Faults.{fault_seen};
-ghost use Rattle.base_meaning.specs.Usable.{IsPlaced};
+ghost use Rattle.std.specs.Prelude.{◌≡◌, ◌≤◌, All, IfOk, IfSome, None, length, map};
+ghost use Rattle.user_compiling.specs.Faults.{fault_seen};
+ghost use Rattle.user_compiling.specs.Report.{IsExtendedPlaced};
 ghost use Rattle.ti_source.specs.Cutting.{OneBlock};
 ghost use Rattle.lsp_document.specs.inside.Kept.{sought_in};
 ghost use Rattle.lsp_document.specs.inside.Marked.{AreMarked, AreOfBlock, source_marks};
 
+use crate::capabilities::Capabilities;
 use crate::kept::KeptMarks;
+use crate::source_faults::faults_by;
 use lsp_types::Range;
 use std::alloc::{AllocError, Global};
-use ti_base::{Database, Fault};
+use ti_base::Database;
+use user_compiling::ExtendedFault;
 
 /// The faults of a database, and what is shown for each.
 #[derive(Drop)]
 pub(crate) struct MarkedFaults {
     /// The faults, in the order of their report.
-    pub(crate) faults: Vec<Fault>,
+    pub(crate) faults: Vec<ExtendedFault>,
     /// What is shown for each, as if its line had the number 0.
     pub(crate) marks: Vec<Range>,
-    /// The same of each block that has faults.
-    pub(crate) kept: Vec<KeptMarks>,
-}
-
-impl MarkedFaults {
-    /// No faults. It takes no memory.
-    pub(crate) fn none(alloc: Global) -> MarkedFaults
-        ensures faults { result.faults.items ≡ [] }
-        ensures marks { result.marks.items ≡ [] }
-    {
-        MarkedFaults {
-            faults: Vec::new(alloc),
-            marks: Vec::new(alloc),
-            kept: Vec::new(alloc),
-        }
-    }
 }
 
 // How many kept blocks are looked through for one. If more than these had faults and have none any
@@ -41,13 +28,13 @@ impl MarkedFaults {
 const LOOKED_THROUGH: usize = 64;
 
 // How many faults at the front are of a block.
-fn block_len(faults: &[Fault], block: usize) -> usize
+fn block_len(faults: &[ExtendedFault], block: usize) -> usize
     ensures block { AreOfBlock block result faults.now }
     ensures within { result ≤ length faults.now }
 {
     for at in 0..faults.len() {
         let fault = &faults[at];
-        if fault.block != block {
+        if fault.block() != block {
             return at;
         }
     }
@@ -55,7 +42,7 @@ fn block_len(faults: &[Fault], block: usize) -> usize
 }
 
 // Takes what is kept of a block with these faults, if that is among the last, and all after it.
-fn taken(kept: &mut Vec<KeptMarks>, text: &[u8], faults: &[Fault]) -> Option<KeptMarks>
+fn taken(kept: &mut Vec<KeptMarks>, text: &[u8], faults: &[ExtendedFault]) -> Option<KeptMarks>
     ensures { IfSome result (λ marks. marks ≡ record { text = text.now; faults = sought_in faults.now }) }
 {
     let count = kept.len();
@@ -76,7 +63,7 @@ fn marks_of(
     alloc: Global,
     kept: &mut Vec<KeptMarks>,
     text: &[u8],
-    faults: &[Fault],
+    faults: &[ExtendedFault],
 ) -> Result<KeptMarks, AllocError>
     requires { OneBlock text.now }
     ensures { IfOk result (λ marks. marks ≡ record { text = text.now; faults = sought_in faults.now }) }
@@ -91,10 +78,10 @@ fn marks_of(
 fn marks_in(
     alloc: Global,
     database: &Database,
-    faults: &[Fault],
+    faults: &[ExtendedFault],
     kept: &mut Vec<KeptMarks>,
 ) -> Result<(Vec<Range>, Vec<KeptMarks>), AllocError>
-    requires { All (IsPlaced (length database.now)) (map fault_seen faults.now) }
+    requires { All (IsExtendedPlaced (length database.now)) (map fault_seen faults.now) }
     ensures { IfOk result (λ r. r.0.items ≡ source_marks database.now None (map fault_seen faults.now)) }
 {
     database.each_is_one_block();
@@ -103,7 +90,7 @@ fn marks_in(
     let mut all = Vec::new(alloc);
     let mut rest = faults;
     while !rest.is_empty() {
-        let block = rest[0].block;
+        let block = rest[0].block();
         let count = block_len(rest, block);
         let (own, others) = rest.split_at(count);
         let found = marks_of(alloc, kept, database.text(block), own)?;
@@ -114,20 +101,19 @@ fn marks_in(
     Ok((marks, all))
 }
 
-/// The faults of a database, and what is shown for each. Of a block with the same faults, for which
-/// this is kept in the order of the blocks, nothing is found anew, and it is taken out.
+/// The faults of a database, by which capabilities its source may have, and what is shown for each.
+/// Of a block with the same faults, for which this is kept in the order of the blocks, nothing is
+/// found anew. What is found is kept.
 pub(crate) fn mark_faults(
     alloc: Global,
+    capabilities: Capabilities,
     database: &Database,
     kept: &mut Vec<KeptMarks>,
 ) -> Result<MarkedFaults, AllocError>
-    ensures { IfOk result (λ marked. AreMarked database.now (map fault_seen marked.faults.items) marked.marks.items) }
+    ensures { IfOk result (λ marked. AreMarked capabilities database.now (map fault_seen marked.faults.items) marked.marks.items) }
 {
-    let faults = database.faults()?;
-    let (marks, kept) = marks_in(alloc, database, &faults, kept)?;
-    Ok(MarkedFaults {
-        faults,
-        marks,
-        kept,
-    })
+    let faults = faults_by(alloc, capabilities, database)?;
+    let (marks, found) = marks_in(alloc, database, &faults, kept)?;
+    *kept = found;
+    Ok(MarkedFaults { faults, marks })
 }

@@ -2,14 +2,15 @@
 ghost use Rattle.std.specs.Prelude.{◌≡◌, ◌-◌, IfOk, option_map, true};
 ghost use Rattle.std.specs.Rc.{rc_slice_items};
 ghost use Rattle.std.specs.Str.{bytes_eq};
-ghost use Rattle.base_meaning.specs.Faults.{fault_seen};
+ghost use Rattle.base_meaning.specs.Faults.{fault_seen as profile_fault_seen};
+ghost use Rattle.user_compiling.specs.Faults.{fault_seen, line_of};
 ghost use Rattle.ti_source.specs.Code.{label_of};
 ghost use Rattle.ti_source.specs.Cutting.{OneBlock};
 ghost use Rattle.lsp_spans.specs.Faulty.{find_sought, search_of};
 ghost use Rattle.lsp_document.specs.Marking.{marked_for, sought_of};
 ghost use Rattle.lsp_document.specs.inside.Kept.{block_marks, kept_marks, sought_in};
 
-use crate::marking::{detail_of, marked_for};
+use crate::marking::{code_of, detail_of, marked_for};
 use lsp_places::PlaceWalk;
 use lsp_spans::FaultFinder;
 use lsp_types::Range;
@@ -18,13 +19,14 @@ use std::marker::Model;
 use std::rc::RcSlice;
 use ti_base::Fault;
 use ti_source::Code;
+use user_compiling::ExtendedFault;
 
 /// What is shown for the faults of a block, kept with the text of the block and its faults. While
 /// both stay the same, so does what is shown.
 #[derive(Drop)]
 pub(crate) struct KeptMarks {
     text: Vec<u8>,
-    faults: Vec<Fault>,
+    faults: Vec<ExtendedFault>,
     marks: Vec<Range>,
 }
 
@@ -50,9 +52,9 @@ fn detail_copy(detail: &Option<RcSlice<u8>>) -> Result<Option<RcSlice<u8>>, Allo
     }
 }
 
-// A copy of a fault.
-fn fault_copy(fault: &Fault) -> Result<Fault, AllocError>
-    ensures { IfOk result (λ copy. sought_of (fault_seen copy) ≡ sought_of (fault_seen fault.now)) }
+// A copy of a fault of the profile.
+fn profile_copy(fault: &Fault) -> Result<Fault, AllocError>
+    ensures { IfOk result (λ copy. profile_fault_seen copy ≡ profile_fault_seen fault.now) }
 {
     Ok(Fault {
         block: fault.block,
@@ -62,8 +64,22 @@ fn fault_copy(fault: &Fault) -> Result<Fault, AllocError>
     })
 }
 
+// A copy of a fault.
+fn fault_copy(fault: &ExtendedFault) -> Result<ExtendedFault, AllocError>
+    ensures { IfOk result (λ copy. sought_of (fault_seen copy) ≡ sought_of (fault_seen fault.now)) }
+{
+    match fault {
+        ExtendedFault::Profile(fault) => Ok(ExtendedFault::Profile(profile_copy(fault)?)),
+        ExtendedFault::BadUserDefined { block, line, name } => Ok(ExtendedFault::BadUserDefined {
+            block: *block,
+            line: *line,
+            name: name.clone()?,
+        }),
+    }
+}
+
 // Copies of faults.
-fn fault_copies(alloc: Global, faults: &[Fault]) -> Result<Vec<Fault>, AllocError>
+fn fault_copies(alloc: Global, faults: &[ExtendedFault]) -> Result<Vec<ExtendedFault>, AllocError>
     ensures { IfOk result (λ copies. sought_in copies.items ≡ sought_in faults.now) }
 {
     let mut copies = Vec::with_capacity(alloc, faults.len())?;
@@ -99,20 +115,20 @@ fn is_same_code(one: Code, other: Code) -> bool
 }
 
 // Whether two faults of a block are sought alike.
-fn is_same(one: &Fault, other: &Fault) -> bool
+fn is_same(one: &ExtendedFault, other: &ExtendedFault) -> bool
     ensures { result ≡ true → sought_of (fault_seen one.now) ≡ sought_of (fault_seen other.now) }
 {
-    if one.line != other.line {
+    if one.line() != other.line() {
         return false;
     }
-    if !is_same_code(one.code, other.code) {
+    if !is_same_code(code_of(one), code_of(other)) {
         return false;
     }
     is_same_detail(detail_of(one), detail_of(other))
 }
 
 // Whether the faults of a block are sought alike, one by one.
-fn are_same(some: &[Fault], others: &[Fault]) -> bool
+fn are_same(some: &[ExtendedFault], others: &[ExtendedFault]) -> bool
     ensures { result ≡ true → sought_in some.now ≡ sought_in others.now }
 {
     if some.len() != others.len() {
@@ -129,17 +145,22 @@ fn are_same(some: &[Fault], others: &[Fault]) -> bool
 }
 
 // What is shown for the next fault of a block.
-fn next_mark(finder: &mut FaultFinder, walk: &mut PlaceWalk<'_>, fault: &Fault) -> Range
-    ensures mark { result ≡ marked_for 0 walk.old (fault.now.line - 1) (find_sought finder.old (sought_of (fault_seen fault.now))).0 }
+fn next_mark(finder: &mut FaultFinder, walk: &mut PlaceWalk<'_>, fault: &ExtendedFault) -> Range
+    ensures mark { result ≡ marked_for 0 walk.old (line_of (fault_seen fault.now) - 1) (find_sought finder.old (sought_of (fault_seen fault.now))).0 }
     ensures left { finder.new ≡ (find_sought finder.old (sought_of (fault_seen fault.now))).1 }
     ensures same { walk.new ≡ walk.old }
 {
-    let part = finder.find(fault.line, fault.code, detail_of(fault));
-    marked_for(walk, 0, fault.line.saturating_sub(1), part)
+    let line = fault.line();
+    let part = finder.find(line, code_of(fault), detail_of(fault));
+    marked_for(walk, 0, line.saturating_sub(1), part)
 }
 
 // What is shown for the faults of a block, one after another.
-fn block_marks(alloc: Global, text: &[u8], faults: &[Fault]) -> Result<Vec<Range>, AllocError>
+fn block_marks(
+    alloc: Global,
+    text: &[u8],
+    faults: &[ExtendedFault],
+) -> Result<Vec<Range>, AllocError>
     requires { OneBlock text.now }
     ensures { IfOk result (λ marks. marks.items ≡ block_marks text.now (search_of text.now) (sought_in faults.now)) }
 {
@@ -155,7 +176,11 @@ fn block_marks(alloc: Global, text: &[u8], faults: &[Fault]) -> Result<Vec<Range
 
 impl KeptMarks {
     /// What is shown for the faults of a block.
-    pub(crate) fn of(alloc: Global, text: &[u8], faults: &[Fault]) -> Result<KeptMarks, AllocError>
+    pub(crate) fn of(
+        alloc: Global,
+        text: &[u8],
+        faults: &[ExtendedFault],
+    ) -> Result<KeptMarks, AllocError>
         requires { OneBlock text.now }
         ensures { IfOk result (λ kept. kept ≡ record { text = text.now; faults = sought_in faults.now }) }
     {
@@ -168,7 +193,7 @@ impl KeptMarks {
     }
 
     /// Whether this is kept of a block with that text and those faults.
-    pub(crate) fn is_of(&self, text: &[u8], faults: &[Fault]) -> bool
+    pub(crate) fn is_of(&self, text: &[u8], faults: &[ExtendedFault]) -> bool
         ensures { result ≡ true → self.now ≡ record { text = text.now; faults = sought_in faults.now } }
     {
         is_equal(self.text.as_slice(), text) && are_same(self.faults.as_slice(), faults)

@@ -1,6 +1,8 @@
 //! A terminfo source as an editor holds it: a text that is exchanged, and what is wrong with it,
 //! reported with the place and a sentence.
 //!
+//! - `capabilities`: which capabilities a source may have
+//! - `source_faults`: the faults of a source, by that
 //! - `marking`: what of a block is shown as faulty for a fault
 //! - `kept`: what is shown for the faults of a block, kept while it and they stay the same
 //! - `faults`: the faults of a database, and what is shown for each
@@ -12,6 +14,7 @@
 //! - `diagnostics`: the faults of a document, with their places
 #![tactic(auto)]
 
+mod capabilities;
 mod cut;
 mod diagnostics;
 mod document;
@@ -21,7 +24,9 @@ mod kept;
 pub mod laws;
 mod marking;
 mod recutting;
+mod source_faults;
 mod taking;
 
+pub use capabilities::Capabilities;
 pub use diagnostics::{Diagnostic, Problem, shown_detail};
 pub use document::Document;

@@ -1,7 +1,7 @@
 //! What of a block is shown as faulty for a fault.
 ghost use Rattle.std.specs.Prelude.{◌≡◌, option_map};
 ghost use Rattle.std.specs.List.{slice_range};
-ghost use Rattle.std.specs.Rc.{rc_slice_items};
+ghost use Rattle.user_compiling.specs.Faults.{fault_seen};
 ghost use Rattle.lsp_document.specs.Marking as spec;
 ghost use Rattle.lsp_places.specs.Position.{position_of};
 ghost use Rattle.lsp_document.specs.Marking.{marked_for};
@@ -9,7 +9,8 @@ ghost use Rattle.lsp_document.specs.Marking.{marked_for};
 use lsp_places::{PlaceWalk, first_of, indent, line_of, width};
 use lsp_spans::Part;
 use lsp_types::{Position, Range};
-use ti_base::Fault;
+use ti_source::Code;
+use user_compiling::ExtendedFault;
 
 /// A line of that number from its first byte that is not white space to its end.
 pub(crate) fn marked(number: usize, line: &[u8]) -> Range
@@ -81,12 +82,25 @@ pub(crate) fn marked_for(
     marked(number, line_of(walk.text(), row))
 }
 
-/// The detail of a fault.
-pub(crate) fn detail_of(fault: &Fault) -> Option<&[u8]>
-    ensures { option_map (λ detail. detail.now) result ≡ option_map rc_slice_items fault.now.detail }
+/// The code by which the part of a fault is sought.
+pub(crate) fn code_of(fault: &ExtendedFault) -> Code
+    ensures { result ≡ spec.code_of (fault_seen fault.now) }
 {
-    match &fault.detail {
-        Some(detail) => Some(detail.as_slice()),
-        None => None,
+    match fault {
+        ExtendedFault::Profile(fault) => fault.code,
+        ExtendedFault::BadUserDefined { .. } => Code::UnknownCapability,
+    }
+}
+
+/// What a fault is about.
+pub(crate) fn detail_of(fault: &ExtendedFault) -> Option<&[u8]>
+    ensures { option_map (λ detail. detail.now) result ≡ spec.detail_of (fault_seen fault.now) }
+{
+    match fault {
+        ExtendedFault::Profile(fault) => match &fault.detail {
+            Some(detail) => Some(detail.as_slice()),
+            None => None,
+        },
+        ExtendedFault::BadUserDefined { name, .. } => Some(name.as_slice()),
     }
 }

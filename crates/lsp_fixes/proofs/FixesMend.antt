@@ -3,10 +3,11 @@ use Rattle.std.proofs.Common.{◌≡◌, ◌≢◌, ℕ, zero, suc, ◌+◌, ◌
 use Rattle.std.proofs.Common.{cond, drop, filter, flat_map, get_or, length, map, take, Option, None, Some, slice_get, slice_set, sum_by, inl, inr, refl}
 use Rattle.std.proofs.Common.{sym, ap, ap₂, subst, ◌∙◌, arith, zero-add}
 use Rattle.std.specs.List.{concat, enumerate_from}
+use Rattle.std.specs.Prelude.{option_and_then, option_map}
 use Rattle.std.specs.Option.{option_map_or}
 use Rattle.std.proofs.lemmas.Bool.{and_parts, cases_Bool, eq-eqb, lt-ltb, ltb-true, ne_eqb}
 use Rattle.std.proofs.lemmas.List.{append-nil}
-use Rattle.std.proofs.lemmas.List.Elements.{All-cons, All-head, All-nil, All-tail, Contains-append_cases}
+use Rattle.std.proofs.lemmas.List.Elements.{All-cons, All-head, All-nil, All-tail, Contains-append_cases, Contains-append_right}
 use Rattle.std.proofs.lemmas.List.Sums.{sum_by-append}
 use Rattle.std.proofs.lemmas.Option.{same_Some}
 use Rattle.ti_text.specs.Lines.{line_count}
@@ -15,7 +16,8 @@ use Rattle.ti_text.proofs.LineLaws.{lines_add}
 use Rattle.ti_source.specs.Cutting.{AreBlocks, Cut, HasOneHead, OneBlock, blocks_from_head, front_of}
 use Rattle.ti_source.specs.Folding.{PlacedByte}
 use Rattle.ti_source.specs.Parsing.{reading_of_text}
-use Rattle.ti_source.specs.Reading.{Reading}
+use Rattle.ti_source.specs.Reading.{ReadFault, Reading}
+use Rattle.ti_source.specs.declared.code.Code.{Code}
 use Rattle.ti_source.proofs.CutLemmas.{each_has_cut, one_cut_law}
 use Rattle.tools_sources.specs.Sources.{preface_of, source_refusal, source_texts, with_last_newline}
 use Rattle.tools_sources.specs.declared.source_error.SourceError.{SourceError}
@@ -23,7 +25,7 @@ use Rattle.tools_sources.proofs.Refusing.{ends_with_newline}
 use Rattle.lsp_types.specs.declared.places.Position.{Position}
 use Rattle.lsp_types.specs.declared.places.Range.{Range}
 use Rattle.lsp_spans.specs.Folding.{folded_of}
-use Rattle.lsp_spans.specs.Subjects.{items_of}
+use Rattle.lsp_spans.specs.Subjects.{items_of, used_name}
 use Rattle.lsp_document.specs.Diagnostics.{text_at}
 use Rattle.lsp_document.specs.Documents.{HeldBlocksFit, held, unless_refused}
 use Rattle.lsp_places.specs.Position.{is_start}
@@ -32,8 +34,10 @@ use Rattle.lsp_blocks.specs.declared.spots.Spot.{Spot}
 use Rattle.lsp_spans.specs.declared.parts.Part.{Part}
 use Rattle.lsp_blocks.specs.Places.{can_be_exchanged, missing_newline}
 use Rattle.lsp_fixes.specs.Applied.{AsciiPlacesAreStarts, FixesHeal, IsHealing, client_edited}
-use Rattle.lsp_fixes.specs.Edits.{EditSeen}
-use Rattle.lsp_fixes.specs.Fixes.{FixSeen, edits_in, fix_of, fixes_from, item_edits, stretch_to, touched_edits, touches}
+use Rattle.lsp_fixes.specs.Edits.{EditSeen, edits_for}
+use Rattle.lsp_fixes.specs.Fixes.{FixSeen, code_unless, edits_in, fault_of_item, fix_of, fixes_from, is_allowed, item_edits, item_edits_by, stretch_to, touched_edits, touches}
+use Rattle.lsp_fixes.specs.Fixes.{used_edits, value_at}
+use Rattle.lsp_document.specs.declared.capabilities.Capabilities.{Capabilities}
 use Rattle.lsp_fixes.specs.Healing.{EditsHeal, IsInLine, IsPartOf, block_after}
 use Rattle.lsp_fixes.specs.declared.fixes.Stretch.{Stretch}
 use Rattle.lsp_blocks.proofs.Placing.{IsMissing, ended_with, missing_is}
@@ -333,16 +337,31 @@ made_at text front block back line edit whole counts ends one placed in_line =
     ] in
     subst (λ (l : ℕ). IsMade text front block back edit (fix_of l block edit)) (sym counts) (record { applied = is.applied; ended_so = closed })
 
--- an item that a stretch touches
-touched : (blocks : List (List ℕ)) (stretch : Stretch) (block : Reading) (placed : ℕ × List PlacedByte) (edit : EditSeen) (b : Bool)
-    → Contains (cond b (item_edits blocks stretch.at placed.0 block placed.1) []) edit → Contains (item_edits blocks stretch.at placed.0 block placed.1) edit
-touched blocks stretch block placed edit true has = has
-touched blocks stretch block placed edit false has = let less = has.1 in absurd (omega (arith, less))
+-- what is offered for an item in a source with some capabilities is offered for it in the profile
+unless_allowed : (item : List PlacedByte) (value : Option (List ℕ)) (used : List EditSeen) (code : Code) (edit : EditSeen) (b : Bool)
+    → Contains (edits_for item (cond b None (Some code)) value ++ used) edit → Contains (edits_for item (Some code) value ++ used) edit
+unless_allowed item value used code edit true has = Contains-append_right (edits_for item (Some code) value) used edit has
+unless_allowed item value used code edit false has = has
 
-by_spot : EditsHeal → HeldBlocksFit → (text : List ℕ) (range : Range) (fix : FixSeen) (o : Option Spot) → AreBytes text → spot_at text range.start ≡ o
-    → Contains (option_map_or (fixes_from (held text) range.end) o []) fix → IsHealing text fix
-by_spot heals fit text range fix None are e has = let less = has.1 in absurd (omega (arith, less))
-by_spot heals fit text range fix (Some spot) are e has =
+by_fault : (capabilities : Capabilities) (item : List PlacedByte) (value : Option (List ℕ)) (used : List EditSeen) (found : Option ReadFault) (edit : EditSeen)
+    → Contains (edits_for item (option_and_then (code_unless capabilities) found) value ++ used) edit
+    → Contains (edits_for item (option_map (λ (fault : ReadFault). fault.code) found) value ++ used) edit
+by_fault capabilities item value used None edit has = has
+by_fault capabilities item value used (Some fault) edit has = unless_allowed item value used fault.code edit (is_allowed capabilities fault) has
+
+-- an item that a stretch touches
+touched : (capabilities : Capabilities) (blocks : List (List ℕ)) (stretch : Stretch) (block : Reading) (placed : ℕ × List PlacedByte) (edit : EditSeen) (b : Bool)
+    → Contains (cond b (item_edits_by capabilities blocks stretch.at placed.0 block placed.1) []) edit
+    → Contains (item_edits blocks stretch.at placed.0 block placed.1) edit
+touched capabilities blocks stretch block placed edit true has =
+    by_fault capabilities placed.1 (value_at placed.0 block.items) (used_edits blocks stretch.at (used_name placed.1)) (fault_of_item placed.0 block.faults)
+    edit has
+touched capabilities blocks stretch block placed edit false has = let less = has.1 in absurd (omega (arith, less))
+
+by_spot : EditsHeal → HeldBlocksFit → (capabilities : Capabilities) (text : List ℕ) (range : Range) (fix : FixSeen) (o : Option Spot) → AreBytes text → spot_at text range.start ≡ o
+    → Contains (option_map_or (fixes_from capabilities (held text) range.end) o []) fix → IsHealing text fix
+by_spot heals fit capabilities text range fix None are e has = let less = has.1 in absurd (omega (arith, less))
+by_spot heals fit capabilities text range fix (Some spot) are e has =
     let blocks = held text in
     let at = spot.at in
     let s = spot_is 0 (head_line text) (settled text range.start) blocks spot e in
@@ -358,12 +377,12 @@ by_spot heals fit text range fix (Some spot) are e has =
     let stretch = stretch_to block range.end spot in
     let items = items_of (folded_of block) in
     let reading = reading_of_text block in
-    let edits = edits_in blocks stretch in
+    let edits = edits_in capabilities blocks stretch in
     let can = λ (e : EditSeen). can_be_exchanged block e.part in
     let made = mapped_at (fix_of spot.line block) (filter can edits) fix has.0 has.1 has.2 in
     let edit = made.of in
     let kept = kept_at can edits edit made.has.0 made.has.1 made.has.2 in
-    let one = of_one (touched_edits blocks stretch reading) (enumerate_from 0 items) edit kept.0 in
+    let one = of_one (touched_edits capabilities blocks stretch reading) (enumerate_from 0 items) edit kept.0 in
     let placed = one.of in
     let numbered = numbered_at 0 items placed one.has.0 one.has.1 one.has.2 in
     let ordinal : placed.0 ≡ numbered.0 = numbered.1 ∙ zero-add numbered.0 in
@@ -372,7 +391,7 @@ by_spot heals fit text range fix (Some spot) are e has =
     let all_bytes = subst AreBytes joined (bytes_both text (missing_newline text) are (missing_bytes (missing_newline text) (missing_is text))) in
     let block_bytes : AreBytes block = bytes_front block back (bytes_back front (block ++ back) all_bytes) in
     let healed = heals blocks at placed.0 placed.1 edit (λ i d w. ((fit text).1 i d w).1) within block_bytes there
-    (touched blocks stretch reading placed edit (touches stretch placed.1) one.is) in
+    (touched capabilities blocks stretch reading placed edit (touches stretch placed.1) one.is) in
     let now : IsMade text front block back edit fix =
     subst (IsMade text front block back edit) made.is
     (made_at text front block back spot.line edit cut.whole line cut.ends (block_ends block single)
@@ -392,7 +411,7 @@ by_spot heals fit text range fix (Some spot) are e has =
     }
 
 pub fixes_mend : EditsHeal → HeldBlocksFit → FixesHeal
-fixes_mend heals fit text range fix are has = by_spot heals fit text range fix (spot_at text range.start) are refl has
+fixes_mend heals fit capabilities text range fix are has = by_spot heals fit capabilities text range fix (spot_at text range.start) are refl has
 
 -- ---- places in ASCII
 

@@ -8,6 +8,7 @@ use Rattle.tools_sources.specs.Sources.{preface_of, source_texts}
 use Rattle.lsp_types.specs.declared.places.Range.{Range}
 use Rattle.lsp_document.specs.Diagnostics.{text_at}
 use Rattle.lsp_document.specs.Documents.{held}
+use Rattle.lsp_document.specs.declared.capabilities.Capabilities.{Capabilities}
 use Rattle.lsp_places.specs.Position.{is_start, offset_of}
 use Rattle.lsp_places.specs.Splicing.{spliced}
 use Rattle.lsp_blocks.specs.Places.{missing_newline}
@@ -38,7 +39,9 @@ pub record IsHealing (text : List ℕ) (fix : FixSeen) : Type 0 where
 
 -- each fix of a text is so
 abbrev pub FixesHeal : Type 0
-FixesHeal = (text : List ℕ) (range : Range) (fix : FixSeen) → AreBytes text → Contains (fixes_of text range) fix → IsHealing text fix
+FixesHeal =
+    (capabilities : Capabilities) (text : List ℕ) (range : Range) (fix : FixSeen) → AreBytes text → Contains (fixes_of capabilities text range) fix
+    → IsHealing text fix
 
 -- in ASCII with no CR each place is the start of a character
 abbrev pub AsciiPlacesAreStarts : Type 0

@@ -12,6 +12,7 @@ use Rattle.ti_source.specs.Items.{bytes}
 use Rattle.ti_source.specs.Parsing.{reading_of_text}
 use Rattle.ti_source.specs.Reading.{Reading, ReadFault, ReadItem, Said, said_text}
 use Rattle.ti_source.specs.declared.code.Code.{Code}
+use Rattle.user_items.specs.Laws.{is_local_warning}
 use Rattle.base_meaning.specs.OwnNames.{own_names}
 use Rattle.base_meaning.specs.Owner.{owner, readings}
 use Rattle.lsp_spans.specs.Folding.{folded_of}
@@ -21,6 +22,8 @@ use Rattle.lsp_spans.specs.declared.parts.Part.{Part}
 use Rattle.lsp_types.specs.declared.places.Position.{Position}
 use Rattle.lsp_types.specs.declared.places.Range.{Range}
 use Rattle.lsp_document.specs.Diagnostics.{text_at}
+use Rattle.lsp_document.specs.declared.capabilities.Capabilities.{Capabilities}
+use Rattle.lsp_document.specs.declared.capabilities.Capabilities.TheVariants.{Profile, UserDefined}
 use Rattle.lsp_document.specs.Documents.{held}
 use Rattle.lsp_places.specs.Position.{units}
 use Rattle.lsp_blocks.specs.Giving.{can_be_given}
@@ -43,10 +46,26 @@ fix_seen fix = record { advice = advice_seen fix.advice; range = fix.range; text
 
 -- ---- the reading of an item, by its place among the items of its block
 
--- its fault, if it has one: the first of that place that is not of the names field
+-- the first fault of that place that is not of the names field
+abbrev pub fault_of_item : ℕ → List ReadFault → Option ReadFault
+fault_of_item ordinal faults = find (λ (fault : ReadFault). fault.ordinal == ordinal && not (is_of_header fault.code)) faults
+
+-- its fault, if it has one
 abbrev pub code_at : ℕ → List ReadFault → Option Code
-code_at ordinal faults =
-    option_map (λ (fault : ReadFault). fault.code) (find (λ (fault : ReadFault). fault.ordinal == ordinal && not (is_of_header fault.code)) faults)
+code_at ordinal faults = option_map (λ (fault : ReadFault). fault.code) (fault_of_item ordinal faults)
+
+-- whether a fault is none of a source with these capabilities: the warning of a user-defined name
+abbrev pub is_allowed : Capabilities → ReadFault → Bool
+is_allowed Profile fault = false
+is_allowed UserDefined fault = is_local_warning fault
+
+-- its code, if it is one
+abbrev pub code_unless : Capabilities → ReadFault → Option Code
+code_unless capabilities fault = if is_allowed capabilities fault then None else Some fault.code
+
+-- the fault of the item in a source with these capabilities, if it has one
+abbrev pub code_by : Capabilities → ℕ → List ReadFault → Option Code
+code_by capabilities ordinal faults = option_and_then (code_unless capabilities) (fault_of_item ordinal faults)
 
 -- the string that an item says, if it says one
 abbrev pub text_said : Said → Option (List ℕ)
@@ -84,22 +103,29 @@ abbrev pub item_edits : List (List ℕ) → (at ordinal : ℕ) → Reading → L
 item_edits blocks at ordinal block item =
     edits_for item (code_at ordinal block.faults) (value_at ordinal block.items) ++ used_edits blocks at (used_name item)
 
+-- the same in a source with these capabilities
+abbrev pub item_edits_by : Capabilities → List (List ℕ) → (at ordinal : ℕ) → Reading → List PlacedByte → List EditSeen
+item_edits_by capabilities blocks at ordinal block item =
+    edits_for item (code_by capabilities ordinal block.faults) (value_at ordinal block.items) ++ used_edits blocks at (used_name item)
+
 -- whether a stretch touches an item of its block: an offset just after the last byte of an item is
 -- on it
 abbrev pub touches : Stretch → List PlacedByte → Bool
 touches stretch item = option_map_or (λ (span : Part). nat_le span.start stretch.end && nat_le stretch.start span.end) (spanned item) false
 
 -- what is offered for an item, which is after its place, if the stretch touches it
-abbrev pub touched_edits : List (List ℕ) → Stretch → Reading → (ℕ × List PlacedByte) → List EditSeen
-touched_edits blocks stretch block placed = if touches stretch placed.1 then item_edits blocks stretch.at placed.0 block placed.1 else []
+abbrev pub touched_edits : Capabilities → List (List ℕ) → Stretch → Reading → (ℕ × List PlacedByte) → List EditSeen
+touched_edits capabilities blocks stretch block placed =
+    if touches stretch placed.1 then item_edits_by capabilities blocks stretch.at placed.0 block placed.1 else []
 
 -- what is offered for those of these items that the stretch touches, in their order
-abbrev pub edits_of : List (List ℕ) → Stretch → Reading → List (List PlacedByte) → List EditSeen
-edits_of blocks stretch block items = flat_map (touched_edits blocks stretch block) (enumerate_from 0 items)
+abbrev pub edits_of : Capabilities → List (List ℕ) → Stretch → Reading → List (List PlacedByte) → List EditSeen
+edits_of capabilities blocks stretch block items = flat_map (touched_edits capabilities blocks stretch block) (enumerate_from 0 items)
 
 -- the same of the items of its block
-abbrev pub edits_in : List (List ℕ) → Stretch → List EditSeen
-edits_in blocks stretch = edits_of blocks stretch (reading_of_text (text_at blocks stretch.at)) (items_of (folded_of (text_at blocks stretch.at)))
+abbrev pub edits_in : Capabilities → List (List ℕ) → Stretch → List EditSeen
+edits_in capabilities blocks stretch =
+    edits_of capabilities blocks stretch (reading_of_text (text_at blocks stretch.at)) (items_of (folded_of (text_at blocks stretch.at)))
 
 -- ---- a document
 
@@ -122,10 +148,11 @@ abbrev pub stretch_to : List ℕ → Position → Spot → Stretch
 stretch_to block end spot = record { at = spot.at; start = spot.offset; end = offset_in spot.line block end }
 
 -- what is offered from a place in a block on to another place
-abbrev pub fixes_from : List (List ℕ) → Position → Spot → List FixSeen
-fixes_from blocks end spot =
-    fixes_in spot.line (text_at blocks spot.at) (edits_in blocks (stretch_to (text_at blocks spot.at) end spot))
+abbrev pub fixes_from : Capabilities → List (List ℕ) → Position → Spot → List FixSeen
+fixes_from capabilities blocks end spot =
+    fixes_in spot.line (text_at blocks spot.at) (edits_in capabilities blocks (stretch_to (text_at blocks spot.at) end spot))
 
--- what is offered for the items that a range touches, of the block in which it begins
-abbrev pub fixes_of : List ℕ → Range → List FixSeen
-fixes_of text range = option_map_or (fixes_from (held text) range.end) (spot_at text range.start) []
+-- what is offered for the items that a range touches, of the block in which it begins, in a source
+-- with these capabilities
+abbrev pub fixes_of : Capabilities → List ℕ → Range → List FixSeen
+fixes_of capabilities text range = option_map_or (fixes_from capabilities (held text) range.end) (spot_at text range.start) []

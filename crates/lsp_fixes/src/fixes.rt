@@ -15,12 +15,13 @@ use crate::pieces::span;
 use crate::texts::last_byte;
 use crate::uses::push_used;
 use lsp_blocks::{Spot, offset_in, range_in, spot_at};
-use lsp_document::Document;
+use lsp_document::{Capabilities, Document};
 use lsp_spans::{Part, folded, visible_items};
 use lsp_types::{Position, Range};
 use std::alloc::{AllocError, Global};
 use ti_base::Database;
 use ti_source::{Code, Item, Local, Parsed, What, parse};
+use user_items::is_user_warning;
 
 /// What is offered against a fault.
 #[derive(Debug, Drop)]
@@ -44,13 +45,35 @@ pub(crate) struct Stretch {
     end: usize,
 }
 
-// The fault of the item of that place among the items of its block.
-fn code_at(faults: &[Local], ordinal: usize) -> Option<Code>
-    ensures { result ≡ spec.code_at ordinal (map fault_of faults.now) }
+// Whether a fault is none of a source with these capabilities: the warning of a user-defined name.
+fn is_allowed(capabilities: Capabilities, fault: &Local) -> bool
+    ensures { result ≡ spec.is_allowed capabilities (fault_of fault.now) }
+{
+    match capabilities {
+        Capabilities::Profile => false,
+        Capabilities::UserDefined => is_user_warning(fault.code, &fault.detail),
+    }
+}
+
+// The code of a fault, if it is one of a source with these capabilities.
+fn code_unless(capabilities: Capabilities, fault: &Local) -> Option<Code>
+    ensures { result ≡ spec.code_unless capabilities (fault_of fault.now) }
+{
+    if is_allowed(capabilities, fault) {
+        None
+    } else {
+        Some(fault.code)
+    }
+}
+
+// The fault of the item of that place among the items of its block, in a source with these
+// capabilities.
+fn code_by(capabilities: Capabilities, faults: &[Local], ordinal: usize) -> Option<Code>
+    ensures { result ≡ spec.code_by capabilities ordinal (map fault_of faults.now) }
 {
     for fault in faults {
         if fault.ordinal == ordinal && !fault.code.is_of_header() {
-            return Some(fault.code);
+            return code_unless(capabilities, fault);
         }
     }
     None
@@ -93,6 +116,7 @@ fn touches(stretch: Stretch, item: &[(u8, usize)]) -> bool
 fn push_item(
     alloc: Global,
     edits: &mut Vec<Edit>,
+    capabilities: Capabilities,
     database: &Database,
     stretch: Stretch,
     ordinal: usize,
@@ -101,12 +125,12 @@ fn push_item(
 ) -> Result<(), AllocError>
     requires { All (λ x. x.1 < 2 ^ 63) item.now }
     ensures { OnOk result (map edit_seen edits.new.items
-        ≡ map edit_seen edits.old.items ++ touched_edits database.now stretch (reading_of parsed.now) (ordinal, item.now)) }
+        ≡ map edit_seen edits.old.items ++ touched_edits capabilities database.now stretch (reading_of parsed.now) (ordinal, item.now)) }
 {
     if !touches(stretch, item) {
         return Ok(());
     }
-    let code = code_at(&parsed.faults, ordinal);
+    let code = code_by(capabilities, &parsed.faults, ordinal);
     let value = value_at(&parsed.items, ordinal);
     push_edits(alloc, edits, item, code, value)?;
     push_used(alloc, edits, database, stretch.at, item)
@@ -115,6 +139,7 @@ fn push_item(
 // What is offered for the items of a block that a stretch of it touches.
 fn edits_of(
     alloc: Global,
+    capabilities: Capabilities,
     database: &Database,
     stretch: Stretch,
     parsed: &Parsed,
@@ -124,28 +149,50 @@ fn edits_of(
     requires within { All (IsWithin text.now) items.now }
     requires offsets { All (λ x. x.1 < 2 ^ 63) text.now }
     ensures { IfOk result (λ edits. map edit_seen edits.items
-        ≡ spec.edits_of database.now stretch (reading_of parsed.now) (map (part_of text.now) items.now)) }
+        ≡ spec.edits_of capabilities database.now stretch (reading_of parsed.now) (map (part_of text.now) items.now)) }
 {
     let mut edits = Vec::new(alloc);
     for ordinal in 0..items.len() {
         let item = items[ordinal];
         let bytes = &text[item.start..item.end];
-        push_item(alloc, &mut edits, database, stretch, ordinal, parsed, bytes)?;
+        push_item(
+            alloc,
+            &mut edits,
+            capabilities,
+            database,
+            stretch,
+            ordinal,
+            parsed,
+            bytes,
+        )?;
     }
     Ok(edits)
 }
 
 // What is offered for the items that a stretch touches.
-fn edits_in(alloc: Global, database: &Database, stretch: Stretch) -> Result<Vec<Edit>, AllocError>
+fn edits_in(
+    alloc: Global,
+    capabilities: Capabilities,
+    database: &Database,
+    stretch: Stretch,
+) -> Result<Vec<Edit>, AllocError>
     requires short { All IsShortBlock database.now }
     requires within { stretch.at < length database.now }
-    ensures { IfOk result (λ edits. map edit_seen edits.items ≡ spec.edits_in database.now stretch) }
+    ensures { IfOk result (λ edits. map edit_seen edits.items ≡ spec.edits_in capabilities database.now stretch) }
 {
     let block = database.text(stretch.at);
     let parsed = parse(alloc, block)?;
     let text = folded(alloc, block)?;
     let items = visible_items(alloc, &text)?;
-    edits_of(alloc, database, stretch, &parsed, &text, &items)
+    edits_of(
+        alloc,
+        capabilities,
+        database,
+        stretch,
+        &parsed,
+        &text,
+        &items,
+    )
 }
 
 // Whether a byte begins a character after another byte: it is none within one, nor the LF of a
@@ -210,6 +257,7 @@ fn stretch_to(block: &[u8], end: Position, spot: Spot) -> Stretch
 // What is offered from a place in a block on to another place.
 fn fixes_from(
     alloc: Global,
+    capabilities: Capabilities,
     database: &Database,
     end: Position,
     spot: Spot,
@@ -217,26 +265,31 @@ fn fixes_from(
     requires short { All IsShortBlock database.now }
     requires within { spot.at < length database.now }
     requires room { spot.line + length (text_at database.now spot.at) < 2 ^ 64 }
-    ensures { IfOk result (λ fixes. map fix_seen fixes.items ≡ spec.fixes_from database.now end spot) }
+    ensures { IfOk result (λ fixes. map fix_seen fixes.items ≡ spec.fixes_from capabilities database.now end spot) }
 {
     let block = database.text(spot.at);
-    let edits = edits_in(alloc, database, stretch_to(block, end, spot))?;
+    let edits = edits_in(alloc, capabilities, database, stretch_to(block, end, spot))?;
     fixes_of_edits(alloc, spot.line, block, edits)
 }
 
 /// What is offered against the faults of the items that a range touches, of the block in which it
 /// begins, in their order. A range touches an item also just after its last byte. Nothing is offered
 /// in place of a part that ends between a CR and its LF, or within a character: no editor has such
-/// a place.
+/// a place. No name is offered in place of a user-defined one if the source may have those.
 ///
 /// # Errors
 /// Out of memory.
-pub fn fixes_of(alloc: Global, document: &Document, range: Range) -> Result<Vec<Fix>, AllocError>
-    ensures { IfOk result (λ fixes. map fix_seen fixes.items ≡ spec.fixes_of document.now range) }
+pub fn fixes_of(
+    alloc: Global,
+    capabilities: Capabilities,
+    document: &Document,
+    range: Range,
+) -> Result<Vec<Fix>, AllocError>
+    ensures { IfOk result (λ fixes. map fix_seen fixes.items ≡ spec.fixes_of capabilities document.now range) }
 {
     lsp_document::laws::held_blocks_fit();
     match spot_at(document, range.start) {
-        Some(spot) => fixes_from(alloc, document.database(), range.end, spot),
+        Some(spot) => fixes_from(alloc, capabilities, document.database(), range.end, spot),
         None => Ok(Vec::new(alloc)),
     }
 }

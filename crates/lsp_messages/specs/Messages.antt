@@ -252,18 +252,41 @@ abilities_of d = do
   capabilities ← get (codes "capabilities") params
   get (codes "textDocument") capabilities
 
+-- ---- what a client wants (own; "InitializeParams", `initializationOptions`)
+
+-- the settings among its options: the member `ti`, or else the options themselves
+abbrev pub settings_in : Data → Data
+settings_in options = unwrap_or (get (codes "ti") options) options
+
+-- whether user-defined capabilities are no unknown ones: unless `userDefined` is `false`
+abbrev pub user_defined_in : Data → Bool
+user_defined_in options = unwrap_or (option_and_then as_bool (get (codes "userDefined") (settings_in options))) true
+
+-- its options, if it has any
+abbrev pub options_of : Data → Option Data
+options_of d = do
+  params ← get (codes "params") d
+  get (codes "initializationOptions") params
+
+-- the same of a client, also of one without options
+abbrev pub wants_user_defined : Data → Bool
+wants_user_defined d = option_map_or user_defined_in (options_of d) true
+
+-- ---- both
+
 -- a client that reports nothing can do none of it
-abbrev pub client_with : Option Data → Client
-client_with None = record { prepares_renames = false; takes_actions = false; nests_symbols = false }
-client_with (Some abilities) = record {
+abbrev pub client_with : Bool → Option Data → Client
+client_with user_defined None = record { prepares_renames = false; takes_actions = false; nests_symbols = false; user_defined = user_defined }
+client_with user_defined (Some abilities) = record {
   prepares_renames = prepares_renames abilities;
   takes_actions = takes_actions abilities;
   nests_symbols = nests_symbols abilities;
+  user_defined = user_defined;
 }
 
--- "InitializeParams": what the client can do
+-- "InitializeParams": what the client can do, and what it wants
 abbrev pub client_of : Data → Client
-client_of d = client_with (abilities_of d)
+client_of d = client_with (wants_user_defined d) (abilities_of d)
 
 -- ---- methods
 

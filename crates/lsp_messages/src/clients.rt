@@ -1,11 +1,12 @@
-//! What a client can do, as it reports when it asks for the server.
-ghost use Rattle.std.specs.Prelude.{◌≡◌, false, is_some, option_map, unwrap_or};
+//! What a client can do and wants, as it reports when it asks for the server.
+ghost use Rattle.std.specs.Prelude.{◌≡◌, false, is_some, option_map, true, unwrap_or};
 ghost use Rattle.serde_json.specs.View.{view};
-ghost use Rattle.lsp_messages.specs.Messages.{abilities_of, client_of, nests_symbols, prepares_renames, takes_actions};
+ghost use Rattle.lsp_messages.specs.Messages.{abilities_of, client_of, nests_symbols, options_of, prepares_renames, settings_in, takes_actions};
+ghost use Rattle.lsp_messages.specs.Messages.{user_defined_in, wants_user_defined};
 
 use serde_json::Value;
 
-/// What a client can do ("ClientCapabilities").
+/// What a client can do ("ClientCapabilities"), and what it wants ("initializationOptions").
 #[derive(Clone, Copy, Debug, PartialEq, Eq)]
 pub struct Client {
     /// Whether it asks which name a rename is of before it renames.
@@ -14,6 +15,9 @@ pub struct Client {
     pub takes_actions: bool,
     /// Whether it takes symbols as a hierarchy, and not as a flat list alone.
     pub nests_symbols: bool,
+    /// Whether user-defined capabilities are no unknown ones: unless the client says
+    /// `{"ti": {"userDefined": false}}`, or the inner object alone.
+    pub user_defined: bool,
 }
 
 // Whether a client that can do this with texts asks which name a rename is of before it renames.
@@ -50,20 +54,57 @@ fn abilities_of(value: &Value) -> Option<&Value>
         .get("textDocument")
 }
 
-/// What the client can do that asks for the server.
+// The settings among the options of a client.
+fn settings_in(options: &Value) -> &Value
+    ensures { view result.now ≡ settings_in (view options.now) }
+{
+    match options.get("ti") {
+        Some(settings) => settings,
+        None => options,
+    }
+}
+
+// Whether options say that user-defined capabilities are wanted, if they say it.
+fn user_defined_in(options: &Value) -> Option<bool>
+    ensures { unwrap_or result true ≡ user_defined_in (view options.now) }
+{
+    settings_in(options).get("userDefined")?.as_bool()
+}
+
+// The options of a client.
+fn options_of(value: &Value) -> Option<&Value>
+    ensures { option_map (λ d. view d.now) result ≡ options_of (view value.now) }
+{
+    value.get("params")?.get("initializationOptions")
+}
+
+// Whether a client wants user-defined capabilities.
+fn wants_user_defined(value: &Value) -> bool
+    ensures { result ≡ wants_user_defined (view value.now) }
+{
+    match options_of(value) {
+        None => true,
+        Some(options) => user_defined_in(options).unwrap_or(true),
+    }
+}
+
+/// What the client can do and wants that asks for the server.
 pub(crate) fn read_client(value: &Value) -> Client
     ensures { result ≡ client_of (view value.now) }
 {
+    let user_defined = wants_user_defined(value);
     match abilities_of(value) {
         None => Client {
             prepares_renames: false,
             takes_actions: false,
             nests_symbols: false,
+            user_defined,
         },
         Some(abilities) => Client {
             prepares_renames: prepares_renames(abilities).unwrap_or(false),
             takes_actions: action_support(abilities).is_some(),
             nests_symbols: nests_symbols(abilities).unwrap_or(false),
+            user_defined,
         },
     }
 }

@@ -13,7 +13,7 @@ use Rattle.lsp_types.specs.declared.failures.Failure.{Failure}
 use Rattle.lsp_types.specs.declared.failures.Failure.TheVariants.{BadParameters, NoJson, NoMethod, NoRequest, NotInitialized}
 use Rattle.lsp_server.specs.Answers.{answer_data, found_among, found_in}
 use Rattle.lsp_server.specs.Sayings.{HasNoFloats, SaidHasNoFloat, Sayings}
-use Rattle.lsp_server.specs.Steps.{Answer, ready, done, refused, answered, searched, shown, cleared, warned, Open, Places, State, answered_of, current_of, open_at}
+use Rattle.lsp_server.specs.Steps.{Answer, ready, done, refused, answered, searched, shown, cleared, warned, Open, Places, State, answered_of, current_of, open_at, opened_for}
 use Rattle.lsp_messages.specs.declared.clients.Client.{Client}
 use Rattle.lsp_server.specs.Steps.{replied, requested, requested_fresh, requested_running, shown_by_change, step, can_apply, told, told_in, with_edits}
 use Rattle.lsp_server.specs.declared.phase.Phase.{Phase}
@@ -142,7 +142,8 @@ plain_answer says (refused id failure) plain h = plain_refusal id failure h
 plain_answer says (answered id client document query) plain h =
     plain_reply id (says.answers client document.text document.uri query) h (plain.answers client document.text document.uri query)
 plain_answer says (searched id documents held) plain h = rw h (rw (plain_found says held documents plain) refl)
-plain_answer says (shown document) plain h = plain_published document.uri document.version (says.diagnostics document.text) (plain.diagnostics document.text)
+plain_answer says (shown document) plain h =
+    plain_published document.uri document.version (says.diagnostics document.client document.text) (plain.diagnostics document.client document.text)
 plain_answer says (cleared uri) plain h = refl
 plain_answer says (warned uri) plain h = refl
 
@@ -195,18 +196,19 @@ plain_closed : (says : Sayings) (uri : List ℕ) (found : Option Open) → IsPla
 plain_closed says uri None = tt
 plain_closed says uri (Some document) = refl
 
-plain_told : (says : Sayings) (places : Places) (notice : Told) (documents : List Open) → HasNoFloats says → IsPlain says (told places notice documents).1
-plain_told says places exited documents plain = tt
-plain_told says places (opened uri version text) documents plain = plain_answer says (shown (record { uri = uri; version = version; text = text; current = true })) plain tt
-plain_told says places (changed uri version edits) documents plain = plain_changed says places version edits (open_at uri documents) plain
-plain_told says places (closed uri) documents plain = plain_closed says uri (open_at uri documents)
-plain_told says places (unreadable uri) documents plain = plain_answer says (warned uri) plain tt
-plain_told says places nothing documents plain = tt
+plain_told : (says : Sayings) (places : Places) (client : Client) (notice : Told) (documents : List Open) → HasNoFloats says
+    → IsPlain says (told places client notice documents).1
+plain_told says places client exited documents plain = tt
+plain_told says places client (opened uri version text) documents plain = plain_answer says (shown (opened_for client uri version text)) plain tt
+plain_told says places client (changed uri version edits) documents plain = plain_changed says places version edits (open_at uri documents) plain
+plain_told says places client (closed uri) documents plain = plain_closed says uri (open_at uri documents)
+plain_told says places client (unreadable uri) documents plain = plain_answer says (warned uri) plain tt
+plain_told says places client nothing documents plain = tt
 
 plain_told_in : (says : Sayings) (places : Places) (phase : Phase) (notice : Told) (documents : List Open) → HasNoFloats says
     → IsPlain says (told_in places phase notice documents).1
 plain_told_in says places Fresh notice documents plain = tt
-plain_told_in says places (Running client) notice documents plain = plain_told says places notice documents plain
+plain_told_in says places (Running client) notice documents plain = plain_told says places client notice documents plain
 plain_told_in says places Finished notice documents plain = tt
 plain_told_in says places (Ended status) notice documents plain = tt
 

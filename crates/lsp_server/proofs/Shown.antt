@@ -10,7 +10,7 @@ use Rattle.lsp_messages.specs.Messages.{response, faulty, Told, exited, opened, 
 use Rattle.lsp_messages.specs.declared.clients.Client.{Client}
 use Rattle.lsp_server.specs.Runs.{AnswersAreOfShownTexts, answers_to, last_shown, shown_by, state_after, OpenDocumentsAreShown}
 use Rattle.lsp_server.specs.Serving.{ServedDocumentsAreShown, replies_to, served_state}
-use Rattle.lsp_server.specs.Steps.{Answer, shown, cleared, warned, Open, Places, State, answered_of, at_start, changed_by, current_of, outdated_at, open_at, outdated}
+use Rattle.lsp_server.specs.Steps.{Answer, shown, cleared, warned, Open, Places, State, answered_of, at_start, changed_by, current_of, opened_for, outdated_at, open_at, outdated}
 use Rattle.lsp_server.specs.Steps.{requested, requested_fresh, requested_running, replied, shown_by_change, step, can_apply, told, told_in, with_change}
 use Rattle.lsp_server.specs.Steps.{with_document, with_edits, without}
 use Rattle.lsp_server.specs.declared.phase.Phase.{Phase}
@@ -207,19 +207,19 @@ closed_by uri other ds false e = cleared_other uri other (open_at uri ds) (open_
 
 -- ---- messages
 
-shown_told : (places : Places) (uri : List ℕ) (notice : Told) (ds : List Open) → shown_after uri (open_at uri ds) (told places notice ds).1
-    ≡ open_at uri (told places notice ds).0
-shown_told places uri exited ds = refl
-shown_told places uri (opened other version text) ds = sym (open_at-with_document uri (record { uri = other; version = version; text = text; current = true }) ds)
-shown_told places uri (changed other version edits) ds = shown_changed places version edits uri other ds
-shown_told places uri (closed other) ds = closed_by uri other ds (bytes_eq other uri) refl
-shown_told places uri (unreadable other) ds = shown_unreadable uri other ds
-shown_told places uri nothing ds = refl
+shown_told : (places : Places) (client : Client) (uri : List ℕ) (notice : Told) (ds : List Open) → shown_after uri (open_at uri ds) (told places client notice ds).1
+    ≡ open_at uri (told places client notice ds).0
+shown_told places client uri exited ds = refl
+shown_told places client uri (opened other version text) ds = sym (open_at-with_document uri (opened_for client other version text) ds)
+shown_told places client uri (changed other version edits) ds = shown_changed places version edits uri other ds
+shown_told places client uri (closed other) ds = closed_by uri other ds (bytes_eq other uri) refl
+shown_told places client uri (unreadable other) ds = shown_unreadable uri other ds
+shown_told places client uri nothing ds = refl
 
 shown_in : (places : Places) (uri : List ℕ) (phase : Phase) (notice : Told) (ds : List Open)
     → shown_after uri (open_at uri ds) (told_in places phase notice ds).1 ≡ open_at uri (told_in places phase notice ds).0
 shown_in places uri Fresh notice ds = refl
-shown_in places uri (Running client) notice ds = shown_told places uri notice ds
+shown_in places uri (Running client) notice ds = shown_told places client uri notice ds
 shown_in places uri Finished notice ds = refl
 shown_in places uri (Ended status) notice ds = refl
 

@@ -26,6 +26,6 @@ answer_data says (done id) = response_data id null
 answer_data says (refused id failure) = refusal_data id failure
 answer_data says (answered id client document query) = reply_data id (says.answers client document.text document.uri query)
 answer_data says (searched id documents held) = response_data id (array (items_of (found_among says held documents)))
-answer_data says (shown document) = publish_data document.uri document.version (says.diagnostics document.text)
+answer_data says (shown document) = publish_data document.uri document.version (says.diagnostics document.client document.text)
 answer_data says (cleared uri) = publish_data uri None no_items
 answer_data says (warned uri) = unreadable_data uri

@@ -13,7 +13,13 @@ use Rattle.lsp_server.specs.declared.server.Server.{Server}
 
 -- a document that is held in memory, as plain data
 abbrev pub open_view : {D : Type 0} → (D → List ℕ) → Opened D → Open
-open_view text_of document = record { uri = string_bytes document.uri; version = document.version; text = text_of document.source; current = document.is_current }
+open_view text_of document = record {
+  uri = string_bytes document.uri;
+  version = document.version;
+  text = text_of document.source;
+  current = document.is_current;
+  client = document.client;
+}
 
 -- the documents that are held in memory, as plain data
 abbrev pub documents_view : {D : Type 0} → (D → List ℕ) → List (Opened D) → List Open

@@ -16,12 +16,13 @@ use Rattle.lsp_server.specs.declared.phase.Phase.{Phase}
 use Rattle.lsp_server.specs.declared.phase.Phase.TheVariants.{Fresh, Running, Finished, Ended}
 
 -- an open document; its version may not be known; it is current if its text is that of the client,
--- or out of date since a message about it was not read
+-- or out of date since a message about it was not read; its client says what it wants of it
 pub record Open : Type 0 where
   pub uri : List ℕ
   pub version : Option ℕ
   pub text : List ℕ
   pub current : Bool
+  pub client : Client
 
 -- where the server is in its life, and the documents that are open
 pub record State : Type 0 where
@@ -127,7 +128,7 @@ without uri documents = filter (λ document. not (bytes_eq document.uri uri)) do
 -- a document whose text is edited
 abbrev pub with_edits : Places → Option ℕ → List Edit → Open → Open
 with_edits places version edits document =
-    record { uri = document.uri; version = version; text = edited places document.text edits; current = true }
+    record { uri = document.uri; version = version; text = edited places document.text edits; current = true; client = document.client }
 
 -- one of the edits sends the whole text
 abbrev pub send_whole : List Edit → Bool
@@ -155,7 +156,7 @@ changed_at places uri version edits documents = (
 
 -- a document that is not current any more
 abbrev pub outdated : Open → Open
-outdated document = record { uri = document.uri; version = document.version; text = document.text; current = false }
+outdated document = record { uri = document.uri; version = document.version; text = document.text; current = false; client = document.client }
 
 abbrev pub outdated_at : Option (List ℕ) → List Open → List Open
 outdated_at None documents = documents
@@ -164,16 +165,20 @@ outdated_at (Some uri) documents = with_change uri outdated documents
 abbrev pub closed_at : List ℕ → List Open → List Open × Option Answer
 closed_at uri documents = (without uri documents, option_map (λ document. cleared uri) (open_at uri documents))
 
-abbrev pub told : Places → Told → List Open → List Open × Option Answer
-told places exited documents = (documents, None)
-told places (opened uri version text) documents = (
-  with_document (record { uri = uri; version = version; text = text; current = true }) documents,
-  Some (shown (record { uri = uri; version = version; text = text; current = true })),
+-- a document that a client opens
+abbrev pub opened_for : Client → List ℕ → Option ℕ → List ℕ → Open
+opened_for client uri version text = record { uri = uri; version = version; text = text; current = true; client = client }
+
+abbrev pub told : Places → Client → Told → List Open → List Open × Option Answer
+told places client exited documents = (documents, None)
+told places client (opened uri version text) documents = (
+  with_document (opened_for client uri version text) documents,
+  Some (shown (opened_for client uri version text)),
 )
-told places (changed uri version edits) documents = changed_at places uri version edits documents
-told places (closed uri) documents = closed_at uri documents
-told places (unreadable uri) documents = (outdated_at uri documents, Some (warned uri))
-told places nothing documents = (documents, None)
+told places client (changed uri version edits) documents = changed_at places uri version edits documents
+told places client (closed uri) documents = closed_at uri documents
+told places client (unreadable uri) documents = (outdated_at uri documents, Some (warned uri))
+told places client nothing documents = (documents, None)
 
 -- ---- messages
 
@@ -196,7 +201,7 @@ phase_told phase nothing = phase
 -- documents are told about notifications while the server runs
 abbrev pub told_in : Places → Phase → Told → List Open → List Open × Option Answer
 told_in places Fresh notice documents = (documents, None)
-told_in places (Running client) notice documents = told places notice documents
+told_in places (Running client) notice documents = told places client notice documents
 told_in places Finished notice documents = (documents, None)
 told_in places (Ended status) notice documents = (documents, None)
 

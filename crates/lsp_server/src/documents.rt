@@ -5,7 +5,7 @@ ghost use Rattle.lsp_messages.specs.Shapes.{publish_data};
 ghost use Rattle.lsp_messages.specs.Views.{edit_view, question_view, reply_view};
 ghost use Rattle.lsp_server.specs.Answers.{answer_data, found_among, found_in};
 ghost use Rattle.lsp_server.specs.States.{documents_view, open_view};
-ghost use Rattle.lsp_server.specs.Steps.{changed_at, changed_by, closed_at, current_of, outdated_at, open_at, outdated, shown, shown_by_change, can_apply, warned, with_change, with_document, with_edits, without};
+ghost use Rattle.lsp_server.specs.Steps.{changed_at, changed_by, closed_at, current_of, opened_for, outdated_at, open_at, outdated, shown, shown_by_change, can_apply, warned, with_change, with_document, with_edits, without};
 ghost use Rattle.lsp_server.specs.inside.Views.{Tells, place_of};
 
 use crate::editing::{edited, send_whole};
@@ -26,6 +26,8 @@ pub struct Opened<D> {
     pub source: D,
     /// Whether that is the client's text; it is not once a message about it was not read.
     pub is_current: bool,
+    /// The client that opened it, which says what it wants of it.
+    pub client: Client,
 }
 
 // Where the document of that URI is.
@@ -55,36 +57,39 @@ fn put<D: HeldText + Drop>(documents: &mut Vec<Opened<D>>, new: Opened<D>) -> Re
     }
 }
 
-// What is published of a text.
+// What is published of a text for a client.
 fn show<D: HeldText>(
     alloc: Global,
+    client: Client,
     uri: &str,
     version: Option<u32>,
-    source: &D,
+    source: &mut D,
 ) -> Result<Value, AllocError>
-    ensures { IfOk result (λ v. view v ≡ publish_data uri.now version (D.says.diagnostics (D.text_of source.now))) }
+    ensures shown { IfOk result (λ v. view v ≡ publish_data uri.now version (D.says.diagnostics client (D.text_of source.old))) }
+    ensures text { OnOk result (D.text_of source.new ≡ D.text_of source.old) }
 {
-    let diagnostics = source.diagnostics(alloc)?;
+    let diagnostics = source.diagnostics(alloc, client)?;
     publish_value(alloc, uri, version, diagnostics)
 }
 
-/// Opens a document, or opens it anew. The answer is what is published of it.
+/// Opens a document for a client, or opens it anew. The answer is what is published of it.
 ///
 /// # Errors
 /// Out of memory.
 pub fn open<D: HeldText + Drop>(
     alloc: Global,
+    client: Client,
     documents: &mut Vec<Opened<D>>,
     uri: &str,
     version: Option<u32>,
     text: &str,
 ) -> Result<Value, AllocError>
     ensures documents { OnOk result (documents_view D.text_of documents.new.items
-        ≡ with_document (record { uri = uri.now; version = version; text = text.now; current = true }) (documents_view D.text_of documents.old.items)) }
-    ensures shown { IfOk result (λ v. view v ≡ answer_data D.says (shown (record { uri = uri.now; version = version; text = text.now; current = true }))) }
+        ≡ with_document (opened_for client uri.now version text.now) (documents_view D.text_of documents.old.items)) }
+    ensures shown { IfOk result (λ v. view v ≡ answer_data D.says (shown (opened_for client uri.now version text.now))) }
 {
-    let source = D::open(alloc, Vec::from_slice(alloc, text.as_bytes())?)?;
-    let shown = show(alloc, uri, version, &source)?;
+    let mut source = D::open(alloc, Vec::from_slice(alloc, text.as_bytes())?)?;
+    let shown = show(alloc, client, uri, version, &mut source)?;
     let uri = String::from_str(alloc, uri)?;
     put(
         documents,
@@ -93,6 +98,7 @@ pub fn open<D: HeldText + Drop>(
             version,
             source,
             is_current: true,
+            client,
         },
     )?;
     Ok(shown)
@@ -114,7 +120,9 @@ fn change_one<D: HeldText>(
     document.source.set(text)?;
     document.version = version;
     document.is_current = true;
-    show(alloc, document.uri.as_str(), version, &document.source)
+    let client = document.client;
+    let uri = document.uri.as_str();
+    show(alloc, client, uri, version, &mut document.source)
 }
 
 // Whether changes are made in a document: in one that is out of date only if one of them sends the

@@ -12,7 +12,7 @@ use crate::requests;
 pub use crate::requests::VERSION;
 use crate::source::HeldText;
 use lsp_messages::writing::refusal_value;
-use lsp_messages::{Message, Notice, read_message};
+use lsp_messages::{Client, Message, Notice, read_message};
 use lsp_types::Failure;
 use serde_json::Value;
 use std::alloc::{AllocError, Global};
@@ -46,19 +46,20 @@ fn phase_told(phase: Phase, notice: &Notice<'_>) -> Phase
     }
 }
 
-// Tells the documents about a notification. The answer is what is sent.
+// Tells the documents about a notification of a client. The answer is what is sent.
 fn tell<D: HeldText + Drop>(
     alloc: Global,
+    client: Client,
     documents: &mut Vec<Opened<D>>,
     notice: &Notice<'_>,
 ) -> Result<Option<Value>, AllocError>
     ensures { IfOk result (λ answer. Tells D.text_of D.says documents.new.items answer
-        (told D.place_in (told_view notice.now) (documents_view D.text_of documents.old.items))) }
+        (told D.place_in client (told_view notice.now) (documents_view D.text_of documents.old.items))) }
 {
     match notice {
-        Notice::Opened { uri, version, text } => {
-            Ok(Some(documents::open(alloc, documents, uri, *version, text)?))
-        }
+        Notice::Opened { uri, version, text } => Ok(Some(documents::open(
+            alloc, client, documents, uri, *version, text,
+        )?)),
         Notice::Changed {
             uri,
             version,
@@ -84,7 +85,7 @@ fn tell_in<D: HeldText + Drop>(
         (told_in D.place_in phase (told_view notice.now) (documents_view D.text_of documents.old.items))) }
 {
     match phase {
-        Phase::Running(_) => tell(alloc, documents, notice),
+        Phase::Running(client) => tell(alloc, client, documents, notice),
         _ => Ok(None),
     }
 }

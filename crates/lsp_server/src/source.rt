@@ -46,12 +46,14 @@ pub trait HeldText {
         ensures offset { result ≡ place_in text.now place }
         ensures within { result ≤ length text.now };
 
-    /// Its diagnostics, as values of the protocol.
+    /// Its diagnostics for a client, as values of the protocol. What was found may be kept for the
+    /// next time.
     ///
     /// # Errors
-    /// Out of memory.
-    fn diagnostics(&self, alloc: Global) -> Result<Vec<Value>, AllocError>
-        ensures { IfOk result (λ values. items_view values.items ≡ says.diagnostics (text_of self.now)) };
+    /// Out of memory. It is not used any more after that.
+    fn diagnostics(&mut self, alloc: Global, client: Client) -> Result<Vec<Value>, AllocError>
+        ensures values { IfOk result (λ values. items_view values.items ≡ says.diagnostics client (text_of self.old)) }
+        ensures text { OnOk result (text_of self.new ≡ text_of self.old) };
 
     /// What comes of a question of a client about it: the answer, which may have its URI in it, as a
     /// value of the protocol, or why the question is refused.

@@ -1,5 +1,5 @@
 //! What is wrong with a text, and where.
-use lsp_document::{Diagnostic, Document, Problem};
+use lsp_document::{Capabilities, Diagnostic, Document, Problem};
 use lsp_types::{Position, Range, Severity};
 use std::alloc::{AllocError, Global};
 use std::process::Abort;
@@ -72,16 +72,28 @@ const ROWS: [Row; 12] = [
     Row { line: 11, start: 3, end: 8, label: "E8", severity: Severity::Error, message: "Unresolved a: " },
 ];
 
+// Whether diagnostics are these.
+fn are_rows(all: &[Diagnostic], rows: &[Row]) -> bool {
+    all.len() == rows.len()
+        && all
+            .iter()
+            .zip(rows)
+            .all(|(shown, row)| is_shown(shown, row))
+}
+
 // Whether the diagnostics of a document are these.
 fn has_shown(alloc: Global, document: &Document, rows: &[Row]) -> Result<bool, AllocError> {
-    let all = document.diagnostics(alloc)?;
-    Ok(
-        all.len() == rows.len()
-            && all
-                .iter()
-                .zip(rows)
-                .all(|(shown, row)| is_shown(shown, row)),
-    )
+    Ok(are_rows(&document.diagnostics(alloc)?, rows))
+}
+
+// Whether the diagnostics of a document that may have these capabilities are these.
+fn has_shown_by(
+    alloc: Global,
+    document: &mut Document,
+    capabilities: Capabilities,
+    rows: &[Row],
+) -> Result<bool, AllocError> {
+    Ok(are_rows(&document.diagnostics_by(alloc, capabilities)?, rows))
 }
 
 // Whether the diagnostics of a source are these.
@@ -234,16 +246,18 @@ fn faults_stay_at_their_places(rt: HostRuntime) -> Result<(), AllocError> {
     let mut document = Document::new(rt.alloc());
     for (source, rows) in TEXTS {
         document.set(Vec::from_slice(rt.alloc(), source)?)?;
-        assert!(rt; has_shown(rt.alloc(), &document, rows)?);
+        let profile = Capabilities::Profile;
+        assert!(rt; has_shown_by(rt.alloc(), &mut document, profile, rows)?);
     }
     Ok(())
 }
 
 // A problem, its label and how grave it is.
 #[rattlefmt::skip]
-const PROBLEMS: [(Problem, &str, Severity); 4] = [
+const PROBLEMS: [(Problem, &str, Severity); 5] = [
     (Problem::Fault(Code::TooLarge), "E9", Severity::Error),
     (Problem::Fault(Code::DuplicateName), "W4", Severity::Warning),
+    (Problem::BadUserDefined, "W5", Severity::Warning),
     (Problem::BlockTooLong, "BlockTooLong", Severity::Error),
     (Problem::TooManyBlocks, "TooManyBlocks", Severity::Error),
 ];

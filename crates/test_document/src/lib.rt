@@ -14,3 +14,5 @@ mod documents;
 mod places;
 #[cfg(test)]
 mod sources;
+#[cfg(test)]
+mod user_defined;

@@ -1,6 +1,6 @@
 //! What is offered for parts of documents.
 use crate::documents::document_of;
-use lsp_document::Document;
+use lsp_document::{Capabilities, Document};
 use lsp_fixes::{Advice, Fix, fixes_of};
 use lsp_types::{Position, Range};
 use std::alloc::{AllocError, Global};
@@ -194,7 +194,7 @@ fn what_is_offered(rt: HostRuntime) -> Result<(), AllocError> {
     let alloc = rt.alloc();
     let document = document_of(alloc, SOURCE)?;
     for (range, wanted) in &ROWS {
-        let found = fixes_of(alloc, &document, range_of(*range))?;
+        let found = fixes_of(alloc, Capabilities::Profile, &document, range_of(*range))?;
         assert!(rt; are_wanted(&found, wanted));
     }
     Ok(())
@@ -205,7 +205,41 @@ fn what_is_offered_in_other_sources(rt: HostRuntime) -> Result<(), AllocError> {
     let alloc = rt.alloc();
     for (source, (range, wanted)) in &CASES {
         let document = document_of(alloc, source)?;
-        let found = fixes_of(alloc, &document, range_of(*range))?;
+        let found = fixes_of(alloc, Capabilities::Profile, &document, range_of(*range))?;
+        assert!(rt; are_wanted(&found, wanted));
+    }
+    Ok(())
+}
+
+// Items of user-defined names, one of an unknown name that is not, and a use of a name that nobody
+// has.
+const USER_DEFINED: &[u8] = b"k|kitty,
+\tTc, Smulx=x, kDC5=x, colour#8, bad=\\400, cols!#8, co-ls#8,
+\tuse=kitt,
+kitt2,
+";
+
+#[rattlefmt::skip]
+const ALLOWED: [Row; 6] = [
+    (((1, 1), (1, 3)), &[]),
+    (((1, 5), (1, 12)), &[]),
+    (((1, 22), (1, 30)), &[]),
+    (((1, 32), (1, 40)), &[]),
+    (((1, 51), (1, 58)), &[(Wanted::Name("co-ls"), ((1, 51), (1, 56)), "cols")]),
+    (((2, 1), (2, 9)), &[(Wanted::Name("kitt"), ((2, 5), (2, 9)), "kitt2")]),
+];
+
+#[test]
+fn no_name_is_offered_for_a_user_defined_one(rt: HostRuntime) -> Result<(), AllocError> {
+    let alloc = rt.alloc();
+    let document = document_of(alloc, USER_DEFINED)?;
+    for (range, wanted) in &ALLOWED {
+        let found = fixes_of(
+            alloc,
+            Capabilities::UserDefined,
+            &document,
+            range_of(*range),
+        )?;
         assert!(rt; are_wanted(&found, wanted));
     }
     Ok(())

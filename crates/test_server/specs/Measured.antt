@@ -47,8 +47,12 @@ flag_of client (rename place name) = false
 flag_of client (prepare_rename place) = false
 flag_of client (fixes range wanted) = wanted
 
-abbrev pub diagnostics_of : List ℕ → Items
-diagnostics_of text = item (number (unsigned (length text))) no_items
+-- how long a text is, for a client that wants user-defined capabilities
+abbrev pub len_for : Client → List ℕ → ℕ
+len_for client text = if client.user_defined then length text else 0
+
+abbrev pub diagnostics_of : Client → List ℕ → Items
+diagnostics_of client text = item (number (unsigned (len_for client text))) no_items
 
 abbrev pub answer_of : Client → List ℕ → List ℕ → Query → Data
 answer_of client text uri query =
@@ -77,7 +81,7 @@ no_float_if false client text uri query = refl
 
 pub sayings_have_no_floats : HasNoFloats sayings
 sayings_have_no_floats = record {
-  diagnostics = λ text. refl;
+  diagnostics = λ client text. refl;
   answers = λ client text uri query. no_float_if (nat_eq (length (word_of query)) 0) client text uri query;
   symbols = λ text uri held. refl;
 }

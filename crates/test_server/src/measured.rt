@@ -1,9 +1,11 @@
-//! A source for tests: its one diagnostic is the length of its text, and lines do not count. The
+//! A source for tests: its one diagnostic is the length of its text, or 0 for a client that does not
+//! want user-defined capabilities, and lines do not count. The
 //! answer to a question about it has the URI, the text, and what was asked: of a rename the new
 //! name, of fixes the start of the range and whether they are wanted, of symbols whether the client
 //! takes them as a hierarchy. A rename to an empty name is refused. Its one symbol has the URI, the
 //! length and what names are to hold.
 ghost use Rattle.std.specs.Prelude.{◌≡◌};
+ghost use Rattle.test_server.specs.Measured as spec;
 ghost use Rattle.test_server.specs.Measured.{flag_of, place_of, word_of};
 ghost use Rattle.lsp_messages.specs.Views.{question_view};
 
@@ -44,6 +46,14 @@ fn parts_of(client: Client, question: Question<'_>) -> (&str, Position, bool)
     }
 }
 
+// What is reported about a text: how long it is, for a client that wants user-defined
+// capabilities, else 0.
+fn len_for(client: Client, text: &[u8]) -> usize
+    ensures { result ≡ spec.len_for client text.now }
+{
+    if client.user_defined { text.len() } else { 0 }
+}
+
 impl HeldText for Measured {
     ghost use Rattle.std.specs.Prelude.{ℕ, List, length, min};
     ghost use Rattle.test_server.specs.Measured.{sayings, sayings_have_no_floats};
@@ -73,9 +83,9 @@ impl HeldText for Measured {
         place.column.min(text.len())
     }
 
-    fn diagnostics(&self, alloc: Global) -> Result<Vec<Value>, AllocError> {
+    fn diagnostics(&mut self, alloc: Global, client: Client) -> Result<Vec<Value>, AllocError> {
         let mut values = Vec::new(alloc);
-        let len = self.text.len();
+        let len = len_for(client, self.text.as_slice());
         values.push(json!(in alloc; len)?)?;
         Ok(values)
     }

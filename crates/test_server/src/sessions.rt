@@ -291,7 +291,7 @@ fn requests_that_are_refused(rt: HostRuntime) -> Result<(), Fail> {
     expect_all(&rt, rt.alloc(), &REQUESTS)
 }
 
-const QUESTIONS: [Session; 6] = [
+const QUESTIONS: [Session; 9] = [
     Session {
         name: "questions about two documents",
         sent: &[
@@ -338,6 +338,39 @@ const QUESTIONS: [Session; 6] = [
             OPENED,
             r#"{"id":2,"jsonrpc":"2.0","result":["u",3,"symbols",0,0,true]}"#,
         ],
+        end: Err(FrameError::Broken),
+    },
+    Session {
+        name: "a client that does not want user-defined capabilities",
+        sent: &[
+            r#"{"jsonrpc":"2.0","id":1,"method":"initialize","params":{"capabilities":{},"initializationOptions":{"ti":{"userDefined":false}}}}"#,
+            OPEN,
+        ],
+        answers: &[
+            READY,
+            r#"{"jsonrpc":"2.0","method":"textDocument/publishDiagnostics","params":{"diagnostics":[0],"uri":"u","version":1}}"#,
+        ],
+        end: Err(FrameError::Broken),
+    },
+    Session {
+        name: "the settings as the options themselves",
+        sent: &[
+            r#"{"jsonrpc":"2.0","id":1,"method":"initialize","params":{"initializationOptions":{"userDefined":false},"capabilities":{}}}"#,
+            OPEN,
+        ],
+        answers: &[
+            READY,
+            r#"{"jsonrpc":"2.0","method":"textDocument/publishDiagnostics","params":{"diagnostics":[0],"uri":"u","version":1}}"#,
+        ],
+        end: Err(FrameError::Broken),
+    },
+    Session {
+        name: "a setting that is no boolean counts as absent",
+        sent: &[
+            r#"{"jsonrpc":"2.0","id":1,"method":"initialize","params":{"initializationOptions":{"ti":{"userDefined":0}},"capabilities":{}}}"#,
+            OPEN,
+        ],
+        answers: &[READY, OPENED],
         end: Err(FrameError::Broken),
     },
     Session {

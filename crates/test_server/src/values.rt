@@ -162,6 +162,7 @@ const ABLE: Client = Client {
     prepares_renames: true,
     takes_actions: true,
     nests_symbols: true,
+    user_defined: true,
 };
 
 // A client that does neither.
@@ -169,6 +170,7 @@ const LESS: Client = Client {
     prepares_renames: false,
     takes_actions: false,
     nests_symbols: false,
+    user_defined: false,
 };
 
 #[test]

@@ -22,7 +22,7 @@ use Rattle.ti_lsp.specs.Hovers.{hover_shown}
 use Rattle.ti_lsp.specs.Laying.{folds_data, layout_data}
 use Rattle.ti_lsp.specs.Offers.{all_capabilities, capability_item}
 use Rattle.ti_lsp.specs.Searching.{searched}
-use Rattle.ti_lsp.specs.Shown.{shown_of}
+use Rattle.ti_lsp.specs.Shown.{capabilities_of, shown_of}
 
 -- a block in the outline, for a client that takes symbols as a hierarchy ("DocumentSymbol") or not
 -- ("SymbolInformation")
@@ -88,7 +88,7 @@ answer_of client text uri folding = said_answer (folds_data (folds_of text))
 answer_of client text uri formatting = said_answer (layout_data (layout_of text))
 answer_of client text uri (rename place name) = renamed_said uri name (renaming_of text place name)
 answer_of client text uri (prepare_rename place) = said_answer (renamable_data (renamable_at text place))
-answer_of client text uri (fixes range wanted) = said_answer (fixes_data uri wanted (fixes_of text range))
+answer_of client text uri (fixes range wanted) = said_answer (fixes_data uri wanted (fixes_of (capabilities_of client) text range))
 
 abbrev pub sayings : Sayings
 sayings = record { diagnostics = shown_of; answers = answer_of; symbols = searched }

@@ -3,7 +3,7 @@ use Rattle.std.specs.Prelude.{ℕ, ◌≡◌, Bool, cond, List, [], ◌∷◌, �
 use Rattle.serde_json.specs.View.{items_of}
 use Rattle.serde_json.specs.Written.{has_float, items_have_float}
 use Rattle.ti_caps.specs.Tables.{Capability, name_of}
-use Rattle.lsp_document.specs.Diagnostics.{Shown, diagnostics_of}
+use Rattle.lsp_document.specs.Diagnostics.{Shown, diagnostics_by}
 use Rattle.lsp_blocks.specs.Symbols.{SymbolSeen, symbols_of}
 use Rattle.lsp_features.specs.Completions.{CompletionSeen, OffersSeen, completion_of, offers_capabilities, offers_names}
 use Rattle.lsp_features.specs.Formatting.{LayoutSeen, layout_of}
@@ -24,14 +24,14 @@ use Rattle.ti_lsp.specs.Hovers.{hover_shown}
 use Rattle.ti_lsp.specs.Laying.{fold_data, layout_data}
 use Rattle.ti_lsp.specs.Offers.{all_capabilities, capability_item, described_item, is_obsolete}
 use Rattle.ti_lsp.specs.Searching.{holds, symbols_found}
-use Rattle.ti_lsp.specs.Shown.{shown_data, shown_of}
+use Rattle.ti_lsp.specs.Shown.{capabilities_of, shown_data, shown_of}
 
 none_in : (all : List Shown) → items_have_float (items_of (map shown_data all)) ≡ false
 none_in [] = refl
 none_in (shown ∷ all) = none_in all
 
-shown_have_no_floats : (text : List ℕ) → items_have_float (shown_of text) ≡ false
-shown_have_no_floats text = none_in (diagnostics_of text)
+shown_have_no_floats : (client : Client) (text : List ℕ) → items_have_float (shown_of client text) ≡ false
+shown_have_no_floats client text = none_in (diagnostics_by (capabilities_of client) text)
 
 none_in_outline : (nests : Bool) (uri : List ℕ) (all : List SymbolSeen) → items_have_float (items_of (map (symbol_shown nests uri) all)) ≡ false
 none_in_outline nests uri [] = refl
@@ -122,7 +122,7 @@ answers_have_no_floats client text uri folding = none_in_folds (folds_of text)
 answers_have_no_floats client text uri formatting = none_in_layout (layout_of text)
 answers_have_no_floats client text uri (rename place name) = none_in_renaming uri name (renaming_of text place name)
 answers_have_no_floats client text uri (prepare_rename place) = none_in_renamable (renamable_at text place)
-answers_have_no_floats client text uri (fixes range wanted) = none_in_wanted uri wanted (fixes_of text range)
+answers_have_no_floats client text uri (fixes range wanted) = none_in_wanted uri wanted (fixes_of (capabilities_of client) text range)
 
 none_in_found : (uri held : List ℕ) (all : List SymbolSeen) → items_have_float (items_of (symbols_found uri held all)) ≡ false
 none_in_found uri held [] = refl

@@ -7,7 +7,7 @@ ghost use Rattle.lsp_fixes.specs.Fixes as offered;
 ghost use Rattle.lsp_fixes.specs.Fixes.{fix_seen};
 ghost use Rattle.ti_lsp.specs.Fixes.{advice_title, fix_shown, fixes_data, is_certain, sign_title};
 
-use lsp_document::Document;
+use lsp_document::{Capabilities, Document};
 use lsp_fixes::{Advice, Fix, fixes_of};
 use lsp_messages::answers::action_value;
 use lsp_types::Range;
@@ -77,32 +77,35 @@ fn fix_values(alloc: Global, uri: &str, all: &[Fix]) -> Result<Vec<Value>, Alloc
 // What is offered for a part of a source.
 fn fixes_in(
     alloc: Global,
+    capabilities: Capabilities,
     document: &Document,
     uri: &str,
     range: Range,
 ) -> Result<Vec<Value>, AllocError>
-    ensures { IfOk result (λ values. map view values.items ≡ map (fix_shown uri.now) (offered.fixes_of document.now range)) }
+    ensures { IfOk result (λ values. map view values.items ≡ map (fix_shown uri.now) (offered.fixes_of capabilities document.now range)) }
 {
-    let all = fixes_of(alloc, document, range)?;
+    let all = fixes_of(alloc, capabilities, document, range)?;
     fix_values(alloc, uri, &all)
 }
 
-/// What is offered against the faults of a part of a source, if quick fixes are asked for.
+/// What is offered against the faults of a part of a source, which may have these capabilities, if
+/// quick fixes are asked for.
 ///
 /// # Errors
 /// Out of memory.
 pub fn fixes(
     alloc: Global,
+    capabilities: Capabilities,
     document: &Document,
     uri: &str,
     range: Range,
     wanted: bool,
 ) -> Result<Value, AllocError>
-    ensures { IfOk result (λ v. view v ≡ fixes_data uri.now wanted (offered.fixes_of document.now range)) }
+    ensures { IfOk result (λ v. view v ≡ fixes_data uri.now wanted (offered.fixes_of capabilities document.now range)) }
 {
     if !wanted {
         return Ok(Value::Array(Vec::new(alloc)));
     }
-    let values = fixes_in(alloc, document, uri, range)?;
+    let values = fixes_in(alloc, capabilities, document, uri, range)?;
     Ok(Value::Array(values))
 }

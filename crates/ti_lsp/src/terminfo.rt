@@ -2,7 +2,7 @@
 ghost use Rattle.std.specs.Prelude.{◌≡◌, IfOk, map};
 ghost use Rattle.serde_json.specs.View.{view};
 ghost use Rattle.lsp_document.specs.Diagnostics.{diagnostic_seen};
-ghost use Rattle.ti_lsp.specs.Shown.{shown_data};
+ghost use Rattle.ti_lsp.specs.Shown.{capabilities_of, shown_data};
 
 use crate::answering::{completion, definition, highlights, outline, references};
 use crate::fixing::fixes;
@@ -10,7 +10,7 @@ use crate::hovering::hover;
 use crate::laying::{folds, layout};
 use crate::renaming::{renamable, renamed};
 use crate::searching::search;
-use lsp_document::{Diagnostic, Document};
+use lsp_document::{Capabilities, Diagnostic, Document};
 use lsp_messages::writing::diagnostic_value;
 use lsp_messages::{Client, Question, Reply};
 use lsp_places::offset_of;
@@ -45,6 +45,17 @@ fn values_of(alloc: Global, all: &[Diagnostic]) -> Result<Vec<Value>, AllocError
     Ok(values)
 }
 
+// Which capabilities a source of a client may have.
+fn capabilities_of(client: Client) -> Capabilities
+    ensures { result ≡ capabilities_of client }
+{
+    if client.user_defined {
+        Capabilities::UserDefined
+    } else {
+        Capabilities::Profile
+    }
+}
+
 impl HeldText for Terminfo {
     ghost use Rattle.lsp_places.specs.Position.{offset_of as place_of};
     ghost use Rattle.ti_lsp.specs.Answers.{sayings};
@@ -76,8 +87,10 @@ impl HeldText for Terminfo {
         offset_of(text, place)
     }
 
-    fn diagnostics(&self, alloc: Global) -> Result<Vec<Value>, AllocError> {
-        let all = self.document.diagnostics(alloc)?;
+    fn diagnostics(&mut self, alloc: Global, client: Client) -> Result<Vec<Value>, AllocError> {
+        let all = self
+            .document
+            .diagnostics_by(alloc, capabilities_of(client))?;
         values_of(alloc, all.as_slice())
     }
 
@@ -104,9 +117,14 @@ impl HeldText for Terminfo {
                 return renamed(alloc, &self.document, uri, place, name);
             }
             Question::PrepareRename(place) => renamable(alloc, &self.document, place)?,
-            Question::Fixes { range, wanted } => {
-                fixes(alloc, &self.document, uri, range, wanted)?
-            }
+            Question::Fixes { range, wanted } => fixes(
+                alloc,
+                capabilities_of(client),
+                &self.document,
+                uri,
+                range,
+                wanted,
+            )?,
         };
         Ok(Reply::Answer(answer))
     }

@@ -1,13 +1,13 @@
 -- What is shown for the faults of one block (own).
 use Rattle.std.specs.Prelude.{ℕ, ◌-◌, List, [], ◌∷◌, map}
-use Rattle.base_meaning.specs.Faults.{fault_seen}
-use Rattle.base_meaning.specs.declared.faults.Fault.{Fault}
+use Rattle.user_compiling.specs.Faults.{fault_seen}
+use Rattle.user_compiling.specs.declared.fault.ExtendedFault.{ExtendedFault}
 use Rattle.lsp_spans.specs.Faulty.{Search, Sought, find_sought, search_of}
 use Rattle.lsp_document.specs.Marking.{marked_for, sought_of}
 use Rattle.lsp_types.specs.declared.places.Range.{Range}
 
 -- faults that hold their details in memory, as their parts are sought
-abbrev pub sought_in : List Fault → List Sought
+abbrev pub sought_in : List ExtendedFault → List Sought
 sought_in faults = map (λ fault. sought_of (fault_seen fault)) faults
 
 -- what is shown for faults of a block, one after another, each on its line as if that had the number

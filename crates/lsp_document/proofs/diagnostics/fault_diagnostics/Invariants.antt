@@ -1,6 +1,6 @@
 use Rattle.std.proofs.Common.{◌≡◌, ◌++◌, None, drop, map}
-use Rattle.base_meaning.specs.Faults.{fault_seen, faults}
-use Rattle.base_meaning.specs.Owner.{readings}
+use Rattle.user_compiling.specs.Faults.{fault_seen}
+use Rattle.lsp_document.specs.SourceFaults.{faults_by}
 use Rattle.lsp_document.specs.Diagnostics.{diagnostic_seen, fault_diagnostics}
 use Rattle.lsp_document.specs.inside.Marked.{marked_diagnostics}
 use Rattle.lsp_document.proofs.diagnostics.fault_diagnostics.Given as goal
@@ -9,4 +9,4 @@ use Rattle.lsp_document.proofs.diagnostics.fault_diagnostics.Given as goal
 abbrev pub invariant-loop-at : goal.invariant-loop-at
 invariant-loop-at l =
     map diagnostic_seen l.all.items ++ marked_diagnostics l.database l.first (drop l.at l.marks) (map fault_seen (drop l.at l.faults))
-    ≡ fault_diagnostics l.database l.first None (faults (readings l.database))
+    ≡ fault_diagnostics l.database l.first None (faults_by l.fn.capabilities l.database)

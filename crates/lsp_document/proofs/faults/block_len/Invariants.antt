@@ -1,6 +1,7 @@
 use Rattle.std.proofs.Common.{◌≡◌, All, take}
-use Rattle.base_meaning.specs.declared.faults.Fault.{Fault}
+use Rattle.user_compiling.specs.Faults.{block_of, fault_seen}
+use Rattle.user_compiling.specs.declared.fault.ExtendedFault.{ExtendedFault}
 use Rattle.lsp_document.proofs.faults.block_len.Given as goal
 
 abbrev pub invariant-loop-at : goal.invariant-loop-at
-invariant-loop-at l = All (λ (fault : Fault). fault.block ≡ l.block) (take l.at l.faults)
+invariant-loop-at l = All (λ (fault : ExtendedFault). block_of (fault_seen fault) ≡ l.block) (take l.at l.faults)

@@ -1,14 +1,16 @@
-use Rattle.std.proofs.Common.{◌<◌, arith, length, rules, subst}
+use Rattle.std.proofs.Common.{arith, length, rules}
 use Rattle.std.proofs.lemmas.Grind.{common_steps}
-use Rattle.base_meaning.specs.declared.faults.Fault.{Fault}
 use Rattle.lsp_document.proofs.BlockFaults.{block_added, first_placed, others_placed}
 use Rattle.lsp_document.proofs.faults.marks_in.Goals as goal
 
 pub text-requires : goal.text-requires
 text-requires c =
-    subst (λ (fault : Fault). fault.block < length c.args.database.now) c.index-rest-0.is
-    (first_placed (length c.args.database.now) c.loop-rest.rest.now c.index-rest-0.result (first_of (search rules, grind (arith, common_steps)))
-    c.index-rest-0.is c.loop-rest.invariant.placed)
+    omega (
+      arith,
+      c.block-block.ensures,
+      first_placed (length c.args.database.now) c.loop-rest.rest.now c.index-rest-0.result (first_of (search rules, grind (arith, common_steps)))
+          c.index-rest-0.is c.loop-rest.invariant.placed,
+    )
 
 pub loop-rest-preserved : goal.loop-rest-preserved
 loop-rest-preserved c = record {

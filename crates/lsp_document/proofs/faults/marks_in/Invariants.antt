@@ -1,6 +1,6 @@
 use Rattle.std.proofs.Common.{◌≡◌, ◌++◌, All, None, length, map}
-use Rattle.base_meaning.specs.Faults.{fault_seen}
-use Rattle.base_meaning.specs.Usable.{IsPlaced}
+use Rattle.user_compiling.specs.Faults.{fault_seen}
+use Rattle.user_compiling.specs.Report.{IsExtendedPlaced}
 use Rattle.lsp_document.specs.inside.Marked.{source_marks}
 use Rattle.lsp_document.proofs.faults.marks_in.Given as goal
 
@@ -8,7 +8,7 @@ use Rattle.lsp_document.proofs.faults.marks_in.Given as goal
 abbrev pub invariant-loop-rest : goal.invariant-loop-rest
 invariant-loop-rest l = record {
   shown : l.marks.items ++ source_marks l.database None (map fault_seen l.rest) ≡ source_marks l.database None (map fault_seen l.faults);
-  placed : All (IsPlaced (length l.database)) (map fault_seen l.rest);
+  placed : All (IsExtendedPlaced (length l.database)) (map fault_seen l.rest);
 }
 
 abbrev pub decreases-loop-rest : goal.decreases-loop-rest

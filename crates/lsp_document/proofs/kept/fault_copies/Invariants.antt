@@ -1,5 +1,5 @@
 use Rattle.std.proofs.Common.{◌≡◌, map, take}
-use Rattle.base_meaning.specs.Faults.{fault_seen}
+use Rattle.user_compiling.specs.Faults.{fault_seen}
 use Rattle.lsp_document.specs.Marking.{sought_of}
 use Rattle.lsp_document.proofs.kept.fault_copies.Given as goal
 

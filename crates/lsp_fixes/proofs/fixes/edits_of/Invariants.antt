@@ -8,6 +8,6 @@ use Rattle.lsp_fixes.proofs.fixes.edits_of.Given as goal
 
 -- what is offered so far, and for the items that are left, is all
 abbrev pub invariant-loop-ordinal : goal.invariant-loop-ordinal
-invariant-loop-ordinal l = map edit_seen l.edits.items ++ flat_map (touched_edits l.database l.stretch (reading_of l.parsed))
+invariant-loop-ordinal l = map edit_seen l.edits.items ++ flat_map (touched_edits l.fn.capabilities l.database l.stretch (reading_of l.parsed))
     (enumerate_from l.ordinal (map (part_of l.text) (drop l.ordinal l.items)))
-    ≡ edits_of l.database l.stretch (reading_of l.parsed) (map (part_of l.text) l.items)
+    ≡ edits_of l.fn.capabilities l.database l.stretch (reading_of l.parsed) (map (part_of l.text) l.items)

@@ -1,4 +1,4 @@
-use Rattle.std.proofs.Common.{◌≡◌, Some, get_or, map, refl, sym, ap, ◌∙◌}
+use Rattle.std.proofs.Common.{◌≡◌, get_or, map, refl, sym, ap, ◌∙◌}
 use Rattle.std.proofs.Math.ListN.{get_or-map, set}
 use Rattle.std.proofs.lemmas.List.{map-set}
 use Rattle.lsp_messages.specs.Views.{edit_view}
