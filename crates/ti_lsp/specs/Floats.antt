@@ -82,9 +82,9 @@ none_in_completion : (found : Option CompletionSeen) → has_float (completion_d
 none_in_completion None = refl
 none_in_completion (Some found) = rw (none_in_offers found.range found.offers) refl
 
-none_in_hover : (hover : Option HoverSeen) → has_float (hover_shown hover) ≡ false
+none_in_hover : (shown : Option HoverSeen) → has_float (hover_shown shown) ≡ false
 none_in_hover None = refl
-none_in_hover (Some hover) = refl
+none_in_hover (Some shown) = refl
 
 none_in_edits : (name : List ℕ) (parts : List Range) → items_have_float (items_of (map (text_edit_data name) parts)) ≡ false
 none_in_edits name [] = refl
