@@ -59,7 +59,8 @@ invariant_of-self c =
     let order = i.components.order.items in
     let new = c.drop_unused.new.tables.items in
     let table = c.in_ok-table.table in
-    let listed : slice_get order i.made ≡ Some at = found_at i.components.order.items c.deref.result.now i.made c.in-Some.at.now c.deref.ensures.value c.in-Some.ensures.lookup.1 c.in-Some.ensures.lookup.3.0 in
+    let listed : slice_get order i.made ≡ Some at =
+    found_at i.components.order.items c.deref.result.now i.made c.in-Some.at.now c.deref.ensures.value c.in-Some.ensures.lookup.1 c.in-Some.ensures.lookup.3.0 in
     let dropped = subst (λ (xs : List ℕ). DropsUnused xs (i.made + 1) i.tables.items new) c.deref-4.ensures.value c.drop_unused.ensures in
     record {
       read = inv.read;
@@ -81,7 +82,8 @@ invariant_of-self-then-index-self-2 c =
     let order = i.components.order.items in
     let new = c.drop_unused.new.tables.items in
     let table = c.in_ok-table.table in
-    let listed : slice_get order i.made ≡ Some at = found_at i.components.order.items c.deref.result.now i.made c.in-Some.at.now c.deref.ensures.value c.in-Some.ensures.lookup.1 c.in-Some.ensures.lookup.3.0 in
+    let listed : slice_get order i.made ≡ Some at =
+    found_at i.components.order.items c.deref.result.now i.made c.in-Some.at.now c.deref.ensures.value c.in-Some.ensures.lookup.1 c.in-Some.ensures.lookup.3.0 in
     let dropped = subst (λ (xs : List ℕ). DropsUnused xs (i.made + 1) i.tables.items new) c.deref-4.ensures.value c.drop_unused.ensures in
     record {
       read = inv.read;
@@ -103,7 +105,8 @@ invariant_of-self-else-index-self c =
     let order = i.components.order.items in
     let new = c.drop_unused.new.tables.items in
     let table = c.in_ok-table.table in
-    let listed : slice_get order i.made ≡ Some at = found_at i.components.order.items c.deref.result.now i.made c.in-Some.at.now c.deref.ensures.value c.in-Some.ensures.lookup.1 c.in-Some.ensures.lookup.3.0 in
+    let listed : slice_get order i.made ≡ Some at =
+    found_at i.components.order.items c.deref.result.now i.made c.in-Some.at.now c.deref.ensures.value c.in-Some.ensures.lookup.1 c.in-Some.ensures.lookup.3.0 in
     let dropped = subst (λ (xs : List ℕ). DropsUnused xs (i.made + 1) i.tables.items new) c.deref-4.ensures.value c.drop_unused.ensures in
     record {
       read = inv.read;
@@ -127,7 +130,8 @@ invariant_of-self-else-index-self-2 c =
     let order = i.components.order.items in
     let new = c.drop_unused.new.tables.items in
     let table = c.in_ok-table.table in
-    let listed : slice_get order i.made ≡ Some at = found_at i.components.order.items c.deref.result.now i.made c.in-Some.at.now c.deref.ensures.value c.in-Some.ensures.lookup.1 c.in-Some.ensures.lookup.3.0 in
+    let listed : slice_get order i.made ≡ Some at =
+    found_at i.components.order.items c.deref.result.now i.made c.in-Some.at.now c.deref.ensures.value c.in-Some.ensures.lookup.1 c.in-Some.ensures.lookup.3.0 in
     let dropped = subst (λ (xs : List ℕ). DropsUnused xs (i.made + 1) i.tables.items new) c.deref-4.ensures.value c.drop_unused.ensures in
     record {
       read = inv.read;
