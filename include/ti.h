@@ -246,6 +246,22 @@ struct ti_parameter {
     struct ti_text text;
 };
 
+/* The parameters that a string takes. */
+struct ti_parameters {
+    size_t named;    /* the greatest number of a `%p1` to `%p9`; 0 if there is none */
+    size_t popped;   /* how many values, at most 9, are popped without having been pushed */
+    bool strings[9]; /* for each parameter, whether it is a string: see ti_parameters */
+};
+#define TI_PARAMETERS_EMPTY { 0, 0, { false } }
+
+/*
+ * Stores which parameters a string takes in *taken. A parameter is a string if a `%s` or `%l` comes
+ * after its `%p` and only bytes are written between them. A string of termcap has no `%p` and takes
+ * its parameters from the stack: there are `popped` of them if all its parts are expanded in order.
+ * Returns false and leaves *taken unchanged if the string is malformed.
+ */
+bool ti_parameters(const uint8_t *format, size_t format_size, struct ti_parameters *taken);
+
 /* The static variables `A` to `Z`, initially 0. They keep their values between expansions. */
 struct ti_variables {
     int32_t values[26];

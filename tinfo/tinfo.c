@@ -4,8 +4,9 @@
  * programs that are built for that run on libti unchanged. tinfo.map has the symbols.
  *
  * This file is C over ti.h. It is tested (tests/tinfo) and not proved. libti reads entries, finds
- * capabilities, expands and pads; what is here is the current terminal, the types of C, and what
- * ti.h does not give, `taken_by`. names.h, which build/tinfo.py writes, has the tables of names.
+ * capabilities and the parameters that a string takes, expands and pads; what is here is the
+ * current terminal and the types of C. names.h, which build/tinfo.py writes, has the tables of
+ * names.
  *
  * As in ncurses there is one current terminal, and no two threads may call at once.
  */
@@ -448,77 +449,17 @@ EXPORTED char *tigetstr(const char *name) {
 
 /* ---- strings with parameters: tparm(3x) */
 
-/* What a format takes. */
-struct taken {
-    int count;      /* how many parameters */
-    unsigned texts; /* which are texts, a bit for each */
-    bool by_number; /* by `%p`, and not from the stack, as those of termcap do */
-};
-
-/*
- * How many values a code takes from the stack; `last` says which parameter `%p` put there just
- * before, if it was one.
- */
-static int pops_of(char code, int last) {
-    switch (code) {
-    case 'd': case 'o': case 'x': case 'X': case 'c': case 's': case 'l':
-        return last ? 0 : 1;
-    case '+': case '-': case '*': case '/': case 'm': case '&': case '|': case '^': case '=':
-    case '<': case '>': case 'A': case 'O':
-        return 2;
-    case '!': case '~': case 'P':
-        return 1;
-    default:
-        return 0;
-    }
-}
-
-/* Whether a code leaves what was put on the stack where it is. */
-static bool is_quiet(char code) {
-    return code == 'i' || code == '?' || code == 't' || code == 'e' || code == ';';
-}
-
-/* The letter of a code, after its flags, width and precision. */
-static const char *letter_of(const char *at) {
-    bool has_sign = *at == ':';
-    while ((*at >= '0' && *at <= '9') || *at == '.' || *at == '#' || *at == ' ' ||
-           (has_sign && (*at == ':' || *at == '+' || *at == '-')))
-        at++;
-    return at;
-}
-
-/* The text after a code of a format, of which `at` is the letter. */
-static const char *after_code(const char *at) {
-    int more = *at == '\'' ? 3 : *at == 'p' || *at == 'P' || *at == 'g' ? 2 : 1;
-    if (*at == '{')
-        while (*at && *at != '}') at++;
-    while (*at && more-- > 0) at++;
-    return at;
-}
-
-/*
- * What a format takes: ti.h does not say, and here it has to be known, since the types of the
- * arguments are not those that ti_expand is given.
- */
-static struct taken taken_by(const char *format) {
-    struct taken taken = { 0, 0, false };
-    int pops = 0, last = 0;
-    for (const char *at = format; *at;) {
-        if (*at++ != '%') continue;
-        at = letter_of(at);
-        if (*at == 'p' && at[1] >= '1' && at[1] <= '9') {
-            last = at[1] - '0';
-            taken.by_number = true;
-            if (last > taken.count) taken.count = last;
-        } else {
-            pops += pops_of(*at, last);
-            if (last && (*at == 's' || *at == 'l')) taken.texts |= 1u << (last - 1);
-            if (!is_quiet(*at)) last = 0;
-        }
-        at = after_code(at);
-    }
-    if (!taken.by_number) taken.count = pops < PARAMETERS ? pops : PARAMETERS;
+/* The parameters that a format takes: none if it is malformed. */
+static struct ti_parameters taken_by(const char *format) {
+    struct ti_parameters taken = TI_PARAMETERS_EMPTY;
+    struct ti_text text = ti_text_of(format);
+    ti_parameters(text.bytes, text.size, &taken);
     return taken;
+}
+
+/* How many: by `%p`, or from the stack, as formats of termcap take them. */
+static size_t count_of(struct ti_parameters taken) {
+    return taken.named ? taken.named : taken.popped;
 }
 
 /* A buffer of these calls, and how much it has room for. */
@@ -541,19 +482,26 @@ static bool grow(struct buffer *buffer, size_t room) {
  * The format that takes by `%p` what a format of termcap takes from the stack: the parameters are
  * pushed first, the last one below. NULL if memory is refused.
  */
-static const char *by_number(const char *format, int count) {
+static const char *by_number(const char *format, size_t count) {
     static struct buffer buffer;
     enum { PUSHES = sizeof "%i%p9%p8%p7%p6%p5%p4%p3%p2%p1" };
     if (!grow(&buffer, strlen(format) + PUSHES)) return NULL;
     char *at = stpcpy(buffer.bytes, strstr(format, "%i") ? "%i" : "");
-    for (int i = count; i > 0; i--) at += sprintf(at, "%%p%d", i);
+    for (size_t i = count; i > 0; i--) at += sprintf(at, "%%p%zu", i);
     strcpy(at, format);
     return buffer.bytes;
 }
 
-/* The result for a malformed format: the text itself if it has no parameters; else nothing. */
-static char *answer_refused(struct buffer *buffer, const char *given, struct taken taken) {
-    const char *meant = taken.by_number ? "" : given;
+/* Whether a text has a `%p1` to `%p9`. */
+static bool names_a_parameter(const char *text) {
+    for (const char *at = text; (at = strstr(at, "%p")); at += 2)
+        if (at[2] >= '1' && at[2] <= '9') return true;
+    return false;
+}
+
+/* The result for a format that is refused: the text itself if it names no parameter; else nothing. */
+static char *answer_refused(struct buffer *buffer, const char *given) {
+    const char *meant = names_a_parameter(given) ? "" : given;
     return grow(buffer, strlen(meant) + 1) ? strcpy(buffer->bytes, meant) : NULL;
 }
 
@@ -561,18 +509,19 @@ static char *answer_refused(struct buffer *buffer, const char *given, struct tak
  * Expands a format into a buffer that the next call uses again. NULL if memory is refused, but not
  * for a malformed format, since programs do not check for it.
  */
-static char *expand(const char *given, struct taken taken, const struct ti_parameter *params) {
+static char *expand(const char *given, struct ti_parameters taken,
+                    const struct ti_parameter *params) {
     static struct buffer buffer;
     static struct ti_variables without_terminal;
     struct ti_variables *variables = cur_term ? &cur_term->variables : &without_terminal;
-    const char *format = !taken.by_number && taken.count ? by_number(given, taken.count) : given;
+    const char *format = !taken.named && taken.popped ? by_number(given, taken.popped) : given;
     if (!format || !grow(&buffer, 256)) return NULL;
     struct ti_text text = ti_text_of(format);
     for (;;) {
         struct ti_outcome outcome = ti_expand(text.bytes, text.size, params, PARAMETERS, variables,
                                               (uint8_t *)buffer.bytes, buffer.room - 1);
         if (outcome.status == TI_BAD_FORMAT || outcome.status == TI_STACK_FULL)
-            return answer_refused(&buffer, given, taken);
+            return answer_refused(&buffer, given);
         if (outcome.status == TI_OK) {
             buffer.bytes[outcome.size] = '\0';
             return buffer.bytes;
@@ -585,11 +534,11 @@ static char *expand(const char *given, struct taken taken, const struct ti_param
 static char *expand_for(const char *format, bool is_long, va_list *given) {
     if (!is_string(format)) return NULL;
     struct ti_parameter params[PARAMETERS];
-    struct taken taken = taken_by(format);
-    for (int i = 0; i < PARAMETERS; i++) {
+    struct ti_parameters taken = taken_by(format);
+    for (size_t i = 0; i < PARAMETERS; i++) {
         params[i] = ti_number_given(0);
-        if (i >= taken.count) continue;
-        if (taken.texts >> i & 1) {
+        if (i >= count_of(taken)) continue;
+        if (taken.strings[i]) {
             const char *text = va_arg(*given, const char *);
             if (text) params[i] = ti_text_given((const uint8_t *)text, strlen(text));
         } else {
@@ -617,7 +566,7 @@ EXPORTED char *tiparm(const char *format, ...) {
 }
 
 /* Expands a format for two numbers, and 0 for each further one. */
-static char *expand_two(const char *format, struct taken taken, int first, int second) {
+static char *expand_two(const char *format, struct ti_parameters taken, int first, int second) {
     struct ti_parameter params[PARAMETERS];
     for (int i = 0; i < PARAMETERS; i++) params[i] = ti_number_given(0);
     params[0].number = first;
@@ -628,8 +577,8 @@ static char *expand_two(const char *format, struct taken taken, int first, int s
 /* A format of more than two parameters is not for this call. */
 EXPORTED char *tgoto(const char *format, int column, int line) {
     if (!is_string(format)) return NULL;
-    struct taken taken = taken_by(format);
-    return taken.count > 2 ? NULL : expand_two(format, taken, line, column);
+    struct ti_parameters taken = taken_by(format);
+    return count_of(taken) > 2 ? NULL : expand_two(format, taken, line, column);
 }
 
 /* ---- writing: tputs(3x) */

@@ -94,6 +94,14 @@ class _Parameter(ctypes.Structure):
     _fields_ = [("kind", ctypes.c_uint32), ("number", ctypes.c_int32), ("text", _Text)]
 
 
+class _Parameters(ctypes.Structure):
+    _fields_ = [
+        ("named", ctypes.c_size_t),
+        ("popped", ctypes.c_size_t),
+        ("strings", ctypes.c_bool * 9),
+    ]
+
+
 class _Variables(ctypes.Structure):
     _fields_ = [("values", ctypes.c_int32 * _VARIABLES)]
 
@@ -138,6 +146,7 @@ def _library() -> ctypes.CDLL:
         "ti_user_defined": (ctypes.c_bool, [extension, size, text, found]),
         "ti_user_defined_named": (ctypes.c_bool, [extension, data, size, found]),
         "ti_line": (None, [entry, u32, ctypes.POINTER(_Line)]),
+        "ti_parameters": (ctypes.c_bool, [data, size, ctypes.POINTER(_Parameters)]),
         "ti_expand": (
             _Outcome,
             [data, size, ctypes.POINTER(_Parameter), size, ctypes.POINTER(_Variables), data, size],
@@ -222,6 +231,15 @@ class String(bytes):
         """The bytes that drive the terminal for these parameters, padded. A parameter that is not
         given is 0, and those after the ninth are not looked at."""
         return self.expanded(*parameters).padded(lines, rate)
+
+    @property
+    def parameters(self) -> tuple[type, ...]:
+        """The type of each parameter that the string takes, `int` or `bytes`; none for a string
+        that is not a format, as one with a plain `%`."""
+        taken = _Parameters()
+        _ti.ti_parameters(self, len(self), ctypes.byref(taken))
+        count = taken.named or taken.popped
+        return tuple(bytes if taken.strings[at] else int for at in range(count))
 
     def expanded(self, *parameters: Union[int, bytes, str]) -> "String":
         """The bytes that drive the terminal for these parameters, with their delays as they are."""

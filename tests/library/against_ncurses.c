@@ -66,6 +66,16 @@ static bool is_apart(const char *format) {
     return takes_none || (increment && strstr(increment + 1, "%i"));
 }
 
+/* Compares the parameters that are strings with those that are by the capability's name. */
+static void compare_parameters(const char *name, struct ti_text text) {
+    struct ti_parameters taken = TI_PARAMETERS_EMPTY;
+    if (!ti_parameters(text.bytes, text.size, &taken) || taken.named == 0) return;
+    unsigned found = 0, wanted = texts_of(name) & ((1u << taken.named) - 1);
+    for (int i = 0; i < 9; i++) found |= (unsigned)taken.strings[i] << i;
+    compared++;
+    if (found != wanted) differences++, printf("%s: strings %x, by its name %x\n", name, found, wanted);
+}
+
 /* Both keep the variables from string to string of an entry. */
 static struct ti_variables variables;
 
@@ -146,6 +156,7 @@ static void compare_string(const struct ti_entry *entry, uint32_t i) {
         differ(name, "the string", -1, text.bytes, text.size, (const uint8_t *)theirs, strlen(theirs));
     /* nothing expands these: what the terminal answers, as scanf would read it, and pairs */
     if (!strcmp(name, "u6") || !strcmp(name, "u8") || !strcmp(name, "acsc")) return;
+    compare_parameters(name, text);
     for (int set = 0; set < SETS; set++) expand(name, theirs, set);
 }
 

@@ -297,6 +297,29 @@ static void expansion(void) {
     CHECK(outcome.status == TI_OK && outcome.size == 3 && wrote("a\0b", 3));
 }
 
+/* ---- parameters */
+
+/* Whether a string takes these parameters; `strings` has a bit for each that is a string. */
+static bool takes(const char *format, size_t named, unsigned strings, size_t popped) {
+    struct ti_parameters taken = { 77, 77, { false } };
+    if (!ti_parameters((const uint8_t *)format, strlen(format), &taken)) return false;
+    unsigned found = 0;
+    for (int i = 0; i < 9; i++) found |= (unsigned)taken.strings[i] << i;
+    return taken.named == named && found == strings && taken.popped == popped;
+}
+
+static void parameters(void) {
+    CHECK(takes("", 0, 0, 0) && takes("plain", 0, 0, 0) && takes("\033[%i%p1%d;%p2%dH", 2, 0, 0));
+    CHECK(takes("\033]4;%p1%d;%p2%s", 2, 1u << 1, 0) && takes("%p9%l%d%p2%5.3s", 9, 1u << 8 | 1u << 1, 0));
+    CHECK(takes("%p2\"%%%s\"", 2, 1u << 1, 0) && takes("%p1%i%s", 1, 0, 0));
+    CHECK(takes("%p1%p2%s%s", 2, 1u << 1, 0));
+    CHECK(takes("%i%d;%d", 0, 0, 2) && takes("%{32}%+%c", 0, 0, 1) && takes("%s", 0, 0, 1));
+    CHECK(takes("%+%+%+%+%+%+%+%+%+%c", 0, 0, 9));
+    struct ti_parameters taken = { 5, 6, { true } }, kept = taken;
+    CHECK(!ti_parameters((const uint8_t *)"%p1%d%", 6, &taken) && !memcmp(&taken, &kept, sizeof kept));
+    CHECK(ti_parameters(NULL, 0, &taken) && taken.named == 0 && taken.popped == 0 && !taken.strings[0]);
+}
+
 /* ---- padding */
 
 static struct ti_outcome pad(const char *text, uint32_t lines, struct ti_line line, size_t room) {
@@ -575,6 +598,7 @@ int main(void) {
     refusals();
     values();
     expansion();
+    parameters();
     padding();
     lines();
     places();

@@ -48,6 +48,8 @@ def faults_of(name):
             yield f"{name}: {cap}: {value}, {asked(cap)}"
     for cap, parameters in EXPANDED.items():
         text = entry.get(cap)
+        if text is not None and text.parameters[2:] + text.parameters.count(bytes) * (bytes,):
+            yield f"{name}: {cap} takes {text.parameters}"
         # curses leaves padding as it is, and counts a second `%i` for nothing (docs/COMPARED.md)
         if text is not None and b"$<" not in text and b"%p" in text and text.count(b"%i") < 2:
             if text(*parameters) != curses.tparm(bytes(text), *parameters):

@@ -1,6 +1,6 @@
 //! Formats as their tokens, and where they stop.
 use std::process::Abort;
-use ti_formats::{Code, Lexer, Placed, Token, Variable};
+use ti_formats::{Code, Lexer, Placed, Token, Variable, parameters};
 
 // A format that is stuck at its last `%`, since no code is `%q`.
 const FORMAT: &str = "a%p9%Pz%gZ%?%t%e%;%%%q";
@@ -65,4 +65,49 @@ fn formats_are_tokens_up_to_where_they_are_stuck(rt: HostRuntime) {
 #[test]
 fn formats_with_a_tree_have_no_stop(rt: HostRuntime) {
     assert!(rt; Lexer::new(b"%?%p1%tA%eB%;").end() == None);
+}
+
+// A string, the greatest number of its `%p`, the numbers of those that are strings, and how many
+// values it pops that it does not push.
+type Taken = (&'static str, usize, [usize; 2], usize);
+
+static TAKEN: [Taken; 14] = [
+    ("\x1b[H", 0, [0, 0], 0),
+    ("\x1b[%i%p1%d;%p2%dH", 2, [0, 0], 0),
+    ("\x1b]4;%p1%d;%p2%s", 2, [2, 0], 0),
+    ("%p9%l%d%p2%:-5.3s", 9, [2, 9], 0),
+    ("%p1%p2%s%s", 2, [2, 0], 0),
+    ("%p1%d:%p2x%%%s", 2, [2, 0], 0),
+    ("%p1%i%s", 1, [0, 0], 0),
+    ("%?%p1%{8}%<%t%p1%d%e%p3%s%;", 3, [3, 0], 0),
+    ("%i%d;%d", 0, [0, 0], 2),
+    ("%{32}%+%c", 0, [0, 0], 1),
+    ("%s", 0, [0, 0], 1),
+    ("%?%t%;", 0, [0, 0], 1),
+    ("%gz%PA%m%p2%d", 2, [0, 0], 2),
+    ("%+%+%+%+%+%+%+%+%+%c", 0, [0, 0], 9),
+];
+
+// Whether a string takes these parameters.
+fn takes(taken: &Taken) -> bool {
+    let (format, named, strings, popped) = taken;
+    let [first, second] = *strings;
+    let Some(found) = parameters(format.as_bytes()) else {
+        return false;
+    };
+    for place in 0..9 {
+        let is_string = place + 1 == first || place + 1 == second;
+        if found.strings[place] != is_string {
+            return false;
+        }
+    }
+    found.named == *named && found.popped == *popped
+}
+
+#[test]
+fn strings_take_parameters_by_their_codes(rt: HostRuntime) {
+    for taken in TAKEN.iter() {
+        assert!(rt; takes(taken), "at {}", taken.0);
+    }
+    assert!(rt; parameters(b"%p1%d%q").is_none());
 }

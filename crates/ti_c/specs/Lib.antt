@@ -6,5 +6,6 @@ pub mod Entries
 pub mod Expanding
 pub mod OtherNames
 pub mod Padding
+pub mod Parameters
 pub mod Places
 pub mod UserDefined

@@ -7,6 +7,7 @@
 //!   copy, and its values
 //! - `extension`: user-defined capabilities as C holds them; `user_defined`: reads them from an
 //!   entry, and their names and values
+//! - `parameters`: which parameters a string takes
 //! - `expanding`: a string with parameters as the bytes for the terminal
 //! - `padding`: such bytes with their delays as pad bytes, and the line to the terminal of an entry
 //! - `delays`: such bytes up to a delay, and its time
@@ -28,6 +29,7 @@ mod extension;
 pub mod laws;
 mod other_names;
 mod padding;
+mod parameters;
 mod places;
 mod user_defined;
 
@@ -45,6 +47,7 @@ pub use other_names::{
     ti_capability_by_code, ti_capability_by_variable, ti_termcap_code, ti_variable_name,
 };
 pub use padding::{TerminalLine, ti_line, ti_pad};
+pub use parameters::{FormatParameters, ti_parameters};
 pub use places::{ti_path, ti_places, ti_system_directories};
 pub use user_defined::{
     FoundValue, ti_extension_read, ti_user_defined, ti_user_defined_count, ti_user_defined_named,

@@ -7,7 +7,8 @@ use Rattle.ti_formats.specs.declared.codes.Token.TheVariants.{Literal, Operation
 use Rattle.ti_formats.specs.declared.codes.Placed.{Placed}
 use Rattle.ti_formats.specs.Formats.{FormatTree, nothing, byte, code, group, choice, placed_token, Closes, by_mark, by_end, IsSequence, no_piece, byte_piece}
 use Rattle.ti_formats.specs.Formats.{code_piece, conditional_piece, IsConditional, test_alone, test_then, test_then_else, AreTokensOf}
-use Rattle.ti_formats.specs.inside.Formats.{Phase, in_test, in_taken, phases_after, refusal}
+use Rattle.ti_formats.specs.Reading.{Phase, in_test, in_taken}
+use Rattle.ti_formats.specs.inside.Formats.{phases_after, refusal}
 use Rattle.ti_formats.proofs.Fronts.{chosen}
 
 -- ---- the acceptor over a list of tokens

@@ -4,7 +4,8 @@ use Rattle.std.specs.Prelude.{Some, None, ◌==◌, nat_lt, if◌then◌else◌}
 use Rattle.std.proofs.Math.Nat.{pow-le-pow_right, pow-suc}
 use Rattle.std.proofs.lemmas.Bool.Decides.{nat_tests, Decides-eqb}
 use Rattle.ti_formats.specs.declared.codes.Token.TheVariants.{If, Then, Else, EndIf}
-use Rattle.ti_formats.specs.inside.Formats.{in_test, in_taken, phases_after, phases_of}
+use Rattle.ti_formats.specs.Reading.{in_test, in_taken}
+use Rattle.ti_formats.specs.inside.Formats.{phases_after, phases_of}
 use Rattle.ti_formats.proofs.Fronts.{fails}
 
 length-phases_of : (depth taken : ℕ) → length (phases_of depth taken) ≡ depth

@@ -10,7 +10,9 @@ use Rattle.ti_formats.specs.Formats.{placed_token}
 use Rattle.ti_formats.specs.Codes.{IsCode, simple_code, parameter_code, store_code, fetch_code, byte_code, number_code, print_code, simple_tokens}
 use Rattle.ti_formats.specs.inside.Codes.{Front, code_of, token_after, letter_after}
 use Rattle.ti_formats.specs.Reading.{Scan}
-use Rattle.ti_formats.specs.inside.Formats.{Phase, Unread, with_token, scan, phases_after, accepted, accepted_of, left_of, first_token, front_of, refusal}
+use Rattle.ti_formats.specs.Reading.{Phase, Unread}
+use Rattle.ti_formats.specs.Left.{left_of}
+use Rattle.ti_formats.specs.inside.Formats.{with_token, scan, phases_after, accepted, accepted_of, first_token, front_of, refusal}
 use Rattle.ti_formats.proofs.Accepting.{advanced_all, gone_on}
 use Rattle.ti_formats.proofs.Fronts.{found-row}
 use Rattle.ti_formats.proofs.Reading.{code_so}

@@ -7,3 +7,4 @@ pub mod Numbers
 pub mod Parsing
 pub mod Reading
 pub mod Scanning
+pub mod Taking

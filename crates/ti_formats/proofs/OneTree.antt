@@ -13,7 +13,8 @@ use Rattle.ti_formats.specs.inside.Codes.{Front, token_after}
 use Rattle.ti_formats.specs.Formats.{FormatTree, placed_token, IsCutIntoTokens, no_tokens, then_byte, then_code, AreTokensOf, IsTree, BeginsFormat, IsStuck}
 use Rattle.ti_formats.specs.Formats.{HasOneTree}
 use Rattle.ti_formats.specs.Reading.{Scan, IsReadingOf}
-use Rattle.ti_formats.specs.inside.Formats.{Phase, with_token, scan, scan_of, phases_after, accepted_of, refusal, stuck_place, tree_and_marks, tree_of}
+use Rattle.ti_formats.specs.Reading.{Phase}
+use Rattle.ti_formats.specs.inside.Formats.{with_token, scan, scan_of, phases_after, accepted_of, refusal, stuck_place, tree_and_marks, tree_of}
 use Rattle.ti_formats.specs.inside.Formats.{IsFormatComputed}
 use Rattle.ti_formats.proofs.Reading.{code_read, code_so}
 use Rattle.ti_formats.proofs.Scanning.{scan-byte, scan-stop, scan-code}

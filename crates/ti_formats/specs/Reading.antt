@@ -14,3 +14,18 @@ pub record Scan : Type 0 where
 pub record IsReadingOf (format : List ℕ) (reading : Scan) : Type 0 where
   pub whole : (t : FormatTree) (tree : IsTree format t) → (reading.stop ≡ None) × (reading.tokens ≡ tree.tokens)
   pub stuck : (place : ℕ) (before : IsStuck format place) → (reading.stop ≡ Some place) × (reading.tokens ≡ before.tokens)
+
+-- ---- what is left
+
+-- what may come in an open conditional: the test, which a `%t` ends, or the part taken, which an
+-- `%e` ends
+pub data Phase : Type 0 where
+  in_test : Phase
+  in_taken : Phase
+
+-- what is left of a format: the text from a place on, inside these open conditionals, the innermost
+-- first
+pub record Unread : Type 0 where
+  pub place : ℕ
+  pub text : List ℕ
+  pub phases : List Phase

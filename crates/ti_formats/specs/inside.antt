@@ -2,4 +2,5 @@
 -- and proofs use.
 pub mod Codes
 pub mod Formats
+pub mod Parameters
 pub mod Reader

@@ -22,7 +22,8 @@ pub(crate) struct Conditionals {
 impl Model for Conditionals {
     ghost use Rattle.std.specs.Prelude.{List, ◌≤◌, ◌<◌, ◌^◌};
     ghost use Rattle.ti_formats.specs.Formats.{open_max};
-    ghost use Rattle.ti_formats.specs.inside.Formats.{Phase, phases_of};
+    ghost use Rattle.ti_formats.specs.Reading.{Phase};
+    ghost use Rattle.ti_formats.specs.inside.Formats.{phases_of};
 
     ghost Value = { List Phase };
 

@@ -1,6 +1,7 @@
 //! The bytes that a parameter string sends to the terminal.
 ghost use Rattle.std.specs.Prelude.{◌≡◌, ℕ, ◌+◌, ◌^◌, ◌<◌, ◌≤◌, ◌↔◌, IfOk, OnErr, IsErrOf, map, length};
 ghost use Rattle.ti_formats.specs.Formats.{FormatTree, AreTokensOf, IsTree, IsStuck};
+ghost use Rattle.ti_formats.specs.Left.{left_of};
 ghost use Rattle.ti_param.specs.inside.Skipping.{after_part, level_after};
 ghost use Rattle.ti_param.specs.Meaning.{argument_of, meaning};
 ghost use Rattle.ti_param.specs.Expansion.{Expands, Overflows};
@@ -55,7 +56,8 @@ pub fn expand(
     }
 }
 
-/// The bytes of a format for its parameters, as `expand` has them: up to 64 of them take no memory.
+/// The bytes of a format for its parameters, as `expand` has them. Up to 64 of them take no memory if
+/// each printf form of the format is `%d` alone.
 ///
 /// # Errors
 ///
@@ -85,10 +87,10 @@ pub fn expand_output(
 // Runs the tokens that are left.
 #[inline(always)]
 fn run(lexer: &mut Lexer<'_>, machine: &mut Machine<'_>) -> Result<(), ParamError>
-    requires { length lexer.old.tokens < 2 ^ 64 }
-    ensures ran { (t : FormatTree) → AreTokensOf lexer.old.tokens t → HasOutcome result machine.new (meaning t machine.old) }
-    ensures stop { lexer.new.stop ≡ lexer.old.stop }
-    ensures fewer { length lexer.new.tokens ≤ length lexer.old.tokens }
+    requires { length (left_of lexer.old).tokens < 2 ^ 64 }
+    ensures ran { (t : FormatTree) → AreTokensOf (left_of lexer.old).tokens t → HasOutcome result machine.new (meaning t machine.old) }
+    ensures stop { (left_of lexer.new).stop ≡ (left_of lexer.old).stop }
+    ensures fewer { length (left_of lexer.new).tokens ≤ length (left_of lexer.old).tokens }
 {
     while let Some(Placed { place, token }) = lexer.next_token() {
         match token {
@@ -111,10 +113,10 @@ fn run(lexer: &mut Lexer<'_>, machine: &mut Machine<'_>) -> Result<(), ParamErro
 // to the end of the tokens.
 #[inline(always)]
 fn skip(lexer: &mut Lexer<'_>, to_else: bool)
-    requires { length lexer.old.tokens < 2 ^ 64 }
-    ensures tokens { lexer.new.tokens ≡ after_part 0 to_else lexer.old.tokens }
-    ensures stop { lexer.new.stop ≡ lexer.old.stop }
-    ensures fewer { length lexer.new.tokens ≤ length lexer.old.tokens }
+    requires { length (left_of lexer.old).tokens < 2 ^ 64 }
+    ensures tokens { (left_of lexer.new).tokens ≡ after_part 0 to_else (left_of lexer.old).tokens }
+    ensures stop { (left_of lexer.new).stop ≡ (left_of lexer.old).stop }
+    ensures fewer { length (left_of lexer.new).tokens ≤ length (left_of lexer.old).tokens }
 {
     let mut level = 0;
     while let Some(Placed { token, .. }) = lexer.next_token() {

@@ -1,4 +1,4 @@
-//! The bytes that an expansion writes. Few of them take no memory.
+//! The bytes that an expansion writes. Up to 64 take no memory if each printf form is `%d` alone.
 ghost use Rattle.std.specs.Prelude.{◌≡◌, [], ◌∷◌, ◌++◌, OnOk, IfOk};
 ghost use Rattle.std.specs.Fmt.{signed_decimal};
 ghost use Rattle.ti_printing.specs.Printf.{form_bytes};

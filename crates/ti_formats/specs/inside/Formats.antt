@@ -6,7 +6,7 @@ use Rattle.ti_formats.specs.declared.codes.Token.TheVariants.{Literal, Operation
 use Rattle.ti_formats.specs.declared.codes.Placed.{Placed}
 use Rattle.ti_text.specs.Ascii as ascii
 use Rattle.ti_formats.specs.inside.Codes.{Front, token_after}
-use Rattle.ti_formats.specs.Reading.{Scan}
+use Rattle.ti_formats.specs.Reading.{Scan, Phase, in_test, in_taken}
 use Rattle.ti_formats.specs.Formats.{IsStuck, IsTree, FormatTree, byte, choice, code, group, open_max, nothing, placed_token}
 
 -- the token that a byte and the text after it begin with, and the text after the token: the code
@@ -34,12 +34,6 @@ scan zero place (b ∷ text) =
 -- the scan of a whole format
 abbrev pub scan_of : List ℕ → Scan
 scan_of format = scan 0 0 format
-
--- what may come in an open conditional: the test, which a `%t` ends, or the part taken, which an
--- `%e` ends
-pub data Phase : Type 0 where
-  in_test : Phase
-  in_taken : Phase
 
 -- what may come in each open conditional, the innermost first, by as many bits: the lowest for the
 -- innermost, 1 in a part taken
@@ -80,17 +74,6 @@ accepted phases (p ∷ tokens) stop = elim (phases_after phases p.token) [
 -- the tokens of a scan that goes on inside these open conditionals
 abbrev pub accepted_of : List Phase → Scan → Scan
 accepted_of phases s = accepted phases s.tokens s.stop
-
--- what is left of a format: the text from a place on, inside these open conditionals, the innermost
--- first
-pub record Unread : Type 0 where
-  pub place : ℕ
-  pub text : List ℕ
-  pub phases : List Phase
-
--- the tokens that are left, up to the first that may not come where it is
-abbrev pub left_of : Unread → Scan
-left_of unread = accepted_of unread.phases (scan 0 unread.place unread.text)
 
 -- the token at the front of a text, and the text after it
 abbrev pub front_of : List ℕ → Front Token

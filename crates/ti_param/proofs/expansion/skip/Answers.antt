@@ -1,4 +1,5 @@
 use Rattle.std.proofs.Common.{ap, sym, ◌∙◌, arith, length}
+use Rattle.ti_formats.specs.Left.{left_of}
 use Rattle.ti_param.proofs.Steps.{after_part-go, after_part-here, after_part-end, level_after-le}
 use Rattle.ti_param.proofs.expansion.skip.Goals as goal
 
@@ -21,5 +22,5 @@ returns-in_default-level_after-clause-tokens c =
 
 pub returns-in_default-clause-tokens : goal.returns-in_default-clause-tokens
 returns-in_default-clause-tokens c =
-    ap (λ u. u.tokens) c.in_default.ensures.end ∙ c.in_default.ensures.token ∙ sym (after_part-end _ c.args.to_else _ c.in_default.ensures.token)
+    ap (λ u. (left_of u).tokens) c.in_default.ensures.end ∙ c.in_default.ensures.token ∙ sym (after_part-end _ c.args.to_else _ c.in_default.ensures.token)
     ∙ c.loop-token.invariant.left

@@ -3,7 +3,7 @@ use Rattle.std.proofs.lemmas.List.{nil_from_length}
 use Rattle.ti_formats.specs.inside.Codes.{token_after}
 use Rattle.ti_formats.specs.inside.Formats.{front_of}
 use Rattle.ti_formats.proofs.Lexing.{front-percent, front-mark, if-read, then-read, else-read, end-read, code-none, left-nothing}
-use Rattle.ti_formats.proofs.cursor.Cursor.next_token.Goals as goal
+use Rattle.ti_formats.proofs.lexer.Lexer.next_token.Goals as goal
 
 pub returns-in_err-byte-clause-token : goal.returns-in_err-byte-clause-token
 returns-in_err-byte-clause-token c =

@@ -1,6 +1,6 @@
 use Rattle.std.proofs.Common.{refl, ◌∙◌}
 use Rattle.ti_formats.proofs.Lexing.{one-less}
-use Rattle.ti_formats.proofs.cursor.Cursor.end.Goals as goal
+use Rattle.ti_formats.proofs.lexer.Lexer.end.Goals as goal
 
 pub loop-init : goal.loop-init
 loop-init c = refl

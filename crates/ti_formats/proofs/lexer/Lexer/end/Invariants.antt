@@ -1,6 +1,6 @@
 use Rattle.std.proofs.Common.{◌≡◌, length}
-use Rattle.ti_formats.specs.inside.Formats.{left_of}
-use Rattle.ti_formats.proofs.cursor.Cursor.end.Given as goal
+use Rattle.ti_formats.specs.Left.{left_of}
+use Rattle.ti_formats.proofs.lexer.Lexer.end.Given as goal
 
 -- the tokens that are left end where all tokens do
 abbrev pub invariant-loop : goal.invariant-loop

@@ -1,8 +1,10 @@
 use Rattle.std.proofs.Common.{◌≡◌, ◌-◌, arith, refl, ap, sym, ◌∙◌, length}
 use Rattle.std.specs.Prelude.{None}
-use Rattle.ti_formats.specs.inside.Formats.{Unread, with_token, phases_after, left_of}
+use Rattle.ti_formats.specs.Reading.{Unread}
+use Rattle.ti_formats.specs.Left.{left_of}
+use Rattle.ti_formats.specs.inside.Formats.{with_token, phases_after}
 use Rattle.ti_formats.proofs.Lexing.{front-shorter, left-taken, left-refused}
-use Rattle.ti_formats.proofs.cursor.Cursor.take.Goals as goal
+use Rattle.ti_formats.proofs.lexer.Lexer.take.Goals as goal
 
 pub returns-then-not-advance-clause-token : goal.returns-then-not-advance-clause-token
 returns-then-not-advance-clause-token c =
