@@ -499,7 +499,7 @@ static bool names_a_parameter(const char *text) {
     return false;
 }
 
-/* The result for a format that is refused: the text itself if it names no parameter; else nothing. */
+/* The result for a refused format: the text itself if it names no parameter; else nothing. */
 static char *answer_refused(struct buffer *buffer, const char *given) {
     const char *meant = names_a_parameter(given) ? "" : given;
     return grow(buffer, strlen(meant) + 1) ? strcpy(buffer->bytes, meant) : NULL;
