@@ -33,7 +33,7 @@ const ENTRY: &[u8] = b"k|kitty,
 // By user_caps(5) only the name with a space is unknown; `\400` is no byte, and `\q` no escape.
 const EXTENDED: [Row; 3] = [
     (2, (25, 33), "W5", "BadUserDefined bad: "),
-    (2, (35, 38), "W1", "UnknownCapability a b: "),
+    (2, (35, 38), "W1", "UnknownCapability a?b: "),
     (2, (40, 46), "W3", "UnknownEscape odd: "),
 ];
 
@@ -43,7 +43,7 @@ const PROFILE: [Row; 7] = [
     (2, (1, 13), "W1", "UnknownCapability kDC5: "),
     (2, (15, 23), "W1", "UnknownCapability colour: "),
     (2, (25, 33), "W1", "UnknownCapability bad: "),
-    (2, (35, 38), "W1", "UnknownCapability a b: "),
+    (2, (35, 38), "W1", "UnknownCapability a?b: "),
     (2, (40, 46), "W1", "UnknownCapability odd: "),
 ];
 
@@ -90,16 +90,13 @@ fn a_whole_message(rt: HostRuntime) -> Result<(), AllocError> {
     Ok(())
 }
 
-// A block of so many user-defined names, each of two letters.
+// A block of so many user-defined names.
 fn with_names(alloc: Global, count: usize) -> Result<Vec<u8>, AllocError> {
     let mut text = Vec::new(alloc);
     text.extend_from_slice(b"many,\n")?;
     for number in 0..count {
-        text.extend_from_slice(b"\tX")?;
-        text.push(b'A' + (number / 26 % 26) as u8)?;
-        text.push(b'a' + (number % 26) as u8)?;
-        text.push(b'0' + (number / 676 % 10) as u8)?;
-        text.extend_from_slice(b",\n")?;
+        let item = format!(in alloc; "\tX{number},\n")?;
+        text.extend_from_slice(item.as_bytes())?;
     }
     Ok(text)
 }
