@@ -91,6 +91,7 @@ impl<'a> Lexer<'a> {
     }
 
     /// Takes all tokens that are left, and returns where the format is stuck, if it is.
+    #[inline(always)]
     pub fn end(&mut self) -> Option<usize>
         ensures { result ≡ (left_of self.old).stop }
     {
