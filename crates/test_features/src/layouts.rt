@@ -6,20 +6,20 @@ use std::alloc::AllocError;
 use std::process::Abort;
 
 // A text, where it ends, and its layout.
-type Row = (&'static [u8], (usize, usize), &'static str);
+type Row = (&'static [u8], (usize, usize), &'static [u8]);
 
 #[rattlefmt::skip]
 const LAID_OUT: [Row; 5] = [
-    (b"t, am,\n   bw, xenl,\n", (2, 0), "t,\n\tam, bw, xenl,\n"),
+    (b"t, am,\n   bw, xenl,\n", (2, 0), b"t,\n\tam, bw, xenl,\n"),
     // The whole text is exchanged, whether a newline ends it or not.
-    (b"t,am", (0, 4), "t,\n\tam\n"),
+    (b"t,am", (0, 4), b"t,\n\tam\n"),
     // Columns are UTF-16 units.
-    (b"t,\n\tam,\n# \xF0\x9F\x98\x80", (2, 4), "t,\n\tam,\n# \u{1F600}\n"),
+    (b"t,\n\tam,\n# \xF0\x9F\x98\x80", (2, 4), b"t,\n\tam,\n# \xF0\x9F\x98\x80\n"),
     // Lines of 80 columns: a tab takes 8, and seven more items with their commas and spaces fit.
     (b"t,\n\tcols#1234567, lines#123456,\n\tit#1234567890, lm#123456789, xmc#12345678, pb#12345678,\n", (3, 0),
-        "t,\n\tcols#1234567, lines#123456, it#1234567890, lm#123456789, xmc#12345678,\n\tpb#12345678,\n"),
+        b"t,\n\tcols#1234567, lines#123456, it#1234567890, lm#123456789, xmc#12345678,\n\tpb#12345678,\n"),
     // A source with an entry that is refused has a layout too.
-    (b"#\n\n|,am,\n\n", (4, 0), "#\n\n|,\n\tam,\n\n"),
+    (b"#\n\n|,am,\n\n", (4, 0), b"#\n\n|,\n\tam,\n\n"),
 ];
 
 #[test]
@@ -29,14 +29,14 @@ fn layouts(rt: HostRuntime) -> Result<(), AllocError> {
         let document = document_of(rt.alloc(), text)?;
         match layout_of(rt.alloc(), &document)? {
             Some(edit) => {
-                assert!(rt; edit.text.as_str() == wanted, "{wanted}");
+                assert!(rt; edit.text.as_bytes() == wanted, "{text:?}");
                 assert!(rt;
                     edit.range.start == Position { line: 0, column: 0 },
-                    "{wanted}"
+                    "{text:?}"
                 );
-                assert!(rt; edit.range.end == Position { line, column }, "{wanted}");
+                assert!(rt; edit.range.end == Position { line, column }, "{text:?}");
             }
-            None => assert!(rt; false, "{wanted}"),
+            None => assert!(rt; false, "{text:?}"),
         }
     }
     Ok(())
