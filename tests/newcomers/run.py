@@ -157,10 +157,14 @@ def neovim_files(room):
 
 
 def try_neovim(room):
-    """Opens README's first source in Neovim, which has to show the errors and warnings that README shows."""
+    """
+    Opens README's first source in Neovim, which has to show the errors and warnings that README shows, but that of a
+    user-defined name (W1), which the server accepts.
+    """
     command, shown = next(pair for pair in transcript.commands(os.path.join(TOP, "README.md")) if "tic -c" in pair[0])
     room.user_does(command.replace("| ti tic -c", ">source.ti"))
-    wanted = "".join(re.sub(r"^(\d+): (\w+) .*", r"\1 \2", line) + "\n" for line in shown.split("\n") if line)
+    lines = [re.sub(r"^(\d+): (\w+) .*", r"\1 \2", line) for line in shown.split("\n") if line]
+    wanted = "".join(f"{line}\n" for line in lines if not line.endswith(" W1"))
     room.write("show.lua", SHOW.replace("COUNT", str(wanted.count("\n"))))
     for at, (page, place, text) in enumerate(neovim_files(room)):
         room.write(f"home{at}/{place}", text)
