@@ -3,24 +3,27 @@ ghost use Rattle.std.specs.Prelude.{◌≡◌, ◌^◌, ◌<◌, All, IfOk, IfSo
 ghost use Rattle.std.specs.Option.{option_map};
 ghost use Rattle.ti_source.specs.Cutting.{OneBlock};
 ghost use Rattle.ti_source.specs.Folding.{PlacedByte};
+ghost use Rattle.ti_source.specs.Parsing.{reading_of_text};
 ghost use Rattle.ti_source.specs.Reading.{ReadFault, ReadItem, fault_of, item_of};
 ghost use Rattle.lsp_spans.specs.Faulty as spec;
 ghost use Rattle.lsp_spans.specs.Faulty.{find, find_named, first_and_rest, found_fault, found_name, found_use, ordinal_and_faults, ordinal_and_items, search_of};
 ghost use Rattle.lsp_spans.specs.Found.{FaultsAreOfTheirItems};
 ghost use Rattle.lsp_spans.specs.Parts.{IsWithin, part_of, spanned};
+ghost use Rattle.lsp_spans.specs.inside.Readings.{faults_in, items_in};
 
 use crate::folding::folded;
 use crate::items::{begins_with, visible_items};
 use crate::names::own_parts;
 use crate::parts::{Part, field_len, span_of};
+use crate::reading::BlockReading;
 use std::alloc::{AllocError, Global};
 use std::marker::Model;
-use ti_source::{Code, Item, Local, Parsed, What, parse};
+use ti_source::{Code, Item, Local, What, parse};
 
 /// Finds the part of a block that each of its faults is of, one fault after another. The faults of
 /// a block come in order, so all of them are found in time linear in the block.
 #[derive(Drop)]
-pub struct FaultFinder {
+pub struct FaultFinder<'a> {
     // The folded text of the block.
     text: Vec<(u8, usize)>,
     // Its names field and its first name, where they are.
@@ -29,18 +32,19 @@ pub struct FaultFinder {
     // Its names and items, as parts of the text.
     names: Vec<Part>,
     items: Vec<Part>,
-    parsed: Parsed,
+    reading: BlockReading<'a>,
     // How many names, faults and items are passed.
     names_passed: usize,
     faults_passed: usize,
     items_passed: usize,
 }
 
-impl Model for FaultFinder {
+impl<'a> Model for FaultFinder<'a> {
     ghost use Rattle.std.specs.Prelude.{◌^◌, ◌<◌, All, drop, map};
     ghost use Rattle.ti_source.specs.Reading.{fault_of, item_of};
     ghost use Rattle.lsp_spans.specs.Faulty.{Search};
     ghost use Rattle.lsp_spans.specs.Parts.{IsWithin, part_of};
+    ghost use Rattle.lsp_spans.specs.inside.Readings.{faults_in, items_in};
 
     ghost Value = { Search };
 
@@ -49,8 +53,8 @@ impl Model for FaultFinder {
       first = f.first;
       items = map (part_of f.text.items) f.items.items;
       names = map (part_of f.text.items) (drop f.names_passed f.names.items);
-      faults = map fault_of (drop f.faults_passed f.parsed.faults.items);
-      uses = map item_of (drop f.items_passed f.parsed.items.items);
+      faults = map fault_of (drop f.faults_passed (faults_in f.reading));
+      uses = map item_of (drop f.items_passed (items_in f.reading));
     } };
 
     ghost invariant = { λ f. All (IsWithin f.text.items) f.names.items × All (IsWithin f.text.items) f.items.items × All (λ x. x.1 < 2 ^ 63) f.text.items };
@@ -164,13 +168,47 @@ fn span_at(text: &[(u8, usize)], parts: &[Part], at: usize) -> Option<Part>
     span_of(text, *parts.get(at)?)
 }
 
-impl FaultFinder {
+impl<'a> FaultFinder<'a> {
     /// Before the first fault of a block.
     ///
     /// # Errors
     /// Out of memory.
-    pub fn of(alloc: Global, block: &[u8]) -> Result<FaultFinder, AllocError>
+    pub fn of(alloc: Global, block: &[u8]) -> Result<FaultFinder<'a>, AllocError>
         requires { OneBlock block.now }
+        ensures { IfOk result (λ finder. finder ≡ search_of block.now) }
+    {
+        let parsed = parse(alloc, block)?;
+        FaultFinder::before_first(alloc, block, BlockReading::Read(parsed))
+    }
+
+    /// The same of a block whose accepted items are known, and the faults that its own text gives,
+    /// as a `Database` has them: it is not read again.
+    ///
+    /// # Errors
+    /// Out of memory.
+    pub fn of_known(
+        alloc: Global,
+        block: &[u8],
+        items: &'a [Item],
+        faults: &'a [Local],
+    ) -> Result<FaultFinder<'a>, AllocError>
+        requires one { OneBlock block.now }
+        requires items { map item_of items.now ≡ (reading_of_text block.now).items }
+        requires faults { map fault_of faults.now ≡ (reading_of_text block.now).faults }
+        ensures { IfOk result (λ finder. finder ≡ search_of block.now) }
+    {
+        FaultFinder::before_first(alloc, block, BlockReading::Known(items, faults))
+    }
+
+    // Before the first fault of a block that was read.
+    fn before_first(
+        alloc: Global,
+        block: &[u8],
+        reading: BlockReading<'a>,
+    ) -> Result<FaultFinder<'a>, AllocError>
+        requires one { OneBlock block.now }
+        requires items { map item_of (items_in reading) ≡ (reading_of_text block.now).items }
+        requires faults { map fault_of (faults_in reading) ≡ (reading_of_text block.now).faults }
         ensures { IfOk result (λ finder. finder ≡ search_of block.now) }
     {
         let text = folded(alloc, block)?;
@@ -186,7 +224,7 @@ impl FaultFinder {
             text,
             names,
             items,
-            parsed: parse(alloc, block)?,
+            reading,
             names_passed: 0,
             faults_passed: 0,
             items_passed: 0,
@@ -234,7 +272,7 @@ impl FaultFinder {
     fn find_fault(&mut self, line: usize, code: Code, name: &[u8]) -> Option<Part>
         ensures { (result, self.new) ≡ found_fault self.old (option_map ordinal_and_faults (first_and_rest (spec.is_fault line code name.now) self.old.faults)) }
     {
-        let faults = self.parsed.faults.as_slice();
+        let faults = self.reading.faults();
         let (ordinal, passed) = next_fault(faults, self.faults_passed, line, code, name)?;
         self.faults_passed = passed;
         span_at(&self.text, &self.items, ordinal)
@@ -244,7 +282,7 @@ impl FaultFinder {
     fn find_use(&mut self, line: usize, name: &[u8]) -> Option<Part>
         ensures { (result, self.new) ≡ found_use self.old (option_map ordinal_and_items (first_and_rest (spec.is_use line name.now) self.old.uses)) }
     {
-        let items = self.parsed.items.as_slice();
+        let items = self.reading.items();
         let (ordinal, passed) = next_use(items, self.items_passed, line, name)?;
         self.items_passed = passed;
         span_at(&self.text, &self.items, ordinal)

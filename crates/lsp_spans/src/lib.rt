@@ -19,6 +19,7 @@ mod items;
 pub mod laws;
 mod names;
 mod parts;
+mod reading;
 mod replacing;
 mod sentences;
 mod subjects;

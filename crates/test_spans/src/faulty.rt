@@ -2,7 +2,7 @@
 use lsp_spans::{FaultFinder, Part};
 use std::alloc::{AllocError, Global};
 use std::test::Fail;
-use ti_source::{Code, is_block};
+use ti_source::{Code, is_block, parse};
 
 // A fault, by its line, code and detail, and where the part is that it is of.
 type Row = (usize, Code, Option<&'static [u8]>, Option<(usize, usize)>);
@@ -66,19 +66,26 @@ static BLOCKS: [(&'static [u8], &'static [Row]); 7] = [
     (b",am,\n", &[(1, Code::BadHeader, None, None), (1, Code::TooLarge, None, None)]),
 ];
 
-// Whether the faults of a block are found, one after the other, where the rows say.
+// Whether faults are found, one after the other, where the rows say.
+fn are_there(finder: &mut FaultFinder<'_>, rows: &[Row]) -> bool {
+    for (line, code, detail, wanted) in rows {
+        let found = finder.find(*line, *code, *detail);
+        if found != wanted.map(|(start, end)| Part { start, end }) {
+            return false;
+        }
+    }
+    true
+}
+
+// Whether the faults of a block are found so, by its text alone and by what it was read as.
 fn are_found(alloc: Global, block: &[u8], rows: &[Row]) -> Result<bool, AllocError> {
     if !is_block(block) {
         return Ok(false);
     }
     let mut finder = FaultFinder::of(alloc, block)?;
-    for (line, code, detail, wanted) in rows {
-        let found = finder.find(*line, *code, *detail);
-        if found != wanted.map(|(start, end)| Part { start, end }) {
-            return Ok(false);
-        }
-    }
-    Ok(true)
+    let read = parse(alloc, block)?;
+    let mut known = FaultFinder::of_known(alloc, block, &read.items, &read.faults)?;
+    Ok(are_there(&mut finder, rows) && are_there(&mut known, rows))
 }
 
 #[test]
