@@ -1,4 +1,3 @@
 pub mod Bodies
 pub mod Messages
-pub mod Shapes
 pub mod Views

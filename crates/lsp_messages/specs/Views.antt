@@ -3,7 +3,6 @@ use Rattle.std.specs.Prelude.{map, option_map}
 use Rattle.serde_json.specs.View.{view}
 use Rattle.lsp_messages.specs.Messages as means
 use Rattle.lsp_messages.specs.Messages.{Asked, Edit, Meaning, Query, Told}
-use Rattle.lsp_messages.specs.Shapes.{Said, said_answer, said_refusal}
 use Rattle.lsp_messages.specs.declared.messages.Change.{Change}
 use Rattle.lsp_messages.specs.declared.messages.Call.{Call}
 use Rattle.lsp_messages.specs.declared.messages.Call.TheVariants as call
@@ -11,8 +10,6 @@ use Rattle.lsp_messages.specs.declared.messages.Notice.{Notice}
 use Rattle.lsp_messages.specs.declared.messages.Notice.TheVariants.{Exited, Opened, Changed, Closed, Unreadable, Nothing}
 use Rattle.lsp_messages.specs.declared.messages.Question.{Question}
 use Rattle.lsp_messages.specs.declared.messages.Question.TheVariants.{Completion, Hover, Definition, References, Symbols, Highlights, Folding, Formatting, Rename, PrepareRename, Fixes}
-use Rattle.lsp_messages.specs.declared.messages.Reply.{Reply}
-use Rattle.lsp_messages.specs.declared.messages.Reply.TheVariants.{Answer, Refusal}
 use Rattle.lsp_messages.specs.declared.messages.Message.{Message}
 use Rattle.lsp_messages.specs.declared.messages.Message.TheVariants.{Request, Notification, Response, Faulty}
 
@@ -32,11 +29,6 @@ question_view Formatting = means.formatting
 question_view (Rename place name) = means.rename place name.now
 question_view (PrepareRename place) = means.prepare_rename place
 question_view (Fixes range wanted) = means.fixes range wanted
-
--- what comes of a question, held in memory
-abbrev pub reply_view : Reply → Said
-reply_view (Answer value) = said_answer (view value)
-reply_view (Refusal failure) = said_refusal failure
 
 -- what a request that is held in memory asks
 abbrev pub asked_view : Call → Asked

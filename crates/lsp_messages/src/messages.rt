@@ -1,6 +1,6 @@
 //! What a client asks for or reports. The strings are those of the value that was read.
 use crate::clients::Client;
-use lsp_types::{Failure, Position, Range};
+use lsp_types::{Position, Range};
 use serde_json::Value;
 
 /// A new text of a part of a document ("TextDocumentContentChangeEvent").
@@ -52,15 +52,6 @@ pub enum Question<'a> {
         /// Whether quick fixes are asked for, and not only actions of other kinds.
         wanted: bool,
     },
-}
-
-/// What comes of a question about a document.
-#[derive(Drop)]
-pub enum Reply {
-    /// Its answer.
-    Answer(Value),
-    /// Nothing: it is refused.
-    Refusal(Failure),
 }
 
 /// What a request asks for.

@@ -3,7 +3,7 @@ use Rattle.std.specs.Prelude.{ℕ, List, [], None, codes, if◌then◌else◌}
 use Rattle.std.specs.List.{flat_map}
 use Rattle.serde_json.specs.Data.{Data, array, no_items, null}
 use Rattle.serde_json.specs.View.{items_of}
-use Rattle.lsp_messages.specs.Shapes.{initialized_data, unreadable_data, publish_data, refusal_data, reply_data, response_data}
+use Rattle.lsp_values.specs.Shapes.{initialized_data, unreadable_data, publish_data, refusal_data, reply_data, response_data}
 use Rattle.lsp_server.specs.Sayings.{Sayings}
 use Rattle.lsp_server.specs.Steps.{Answer, Open, ready, done, refused, answered, searched, shown, cleared, warned}
 

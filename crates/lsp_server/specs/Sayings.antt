@@ -5,7 +5,7 @@ use Rattle.serde_json.specs.View.{items_of}
 use Rattle.serde_json.specs.Written.{has_float, items_have_float}
 use Rattle.lsp_messages.specs.Messages.{Query}
 use Rattle.lsp_messages.specs.declared.clients.Client.{Client}
-use Rattle.lsp_messages.specs.Shapes.{Said, said_answer, said_refusal}
+use Rattle.lsp_values.specs.Shapes.{Said, said_answer, said_refusal}
 
 -- the diagnostics of a text for a client, and what comes of questions of a client about it, under the
 -- URI of its document; the symbols of it whose names hold another text, under the same

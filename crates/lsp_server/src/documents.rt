@@ -1,8 +1,9 @@
 //! The documents that are open.
 ghost use Rattle.std.specs.Prelude.{◌≡◌, ◌<◌, ◌++◌, IfOk, IfSome, OnOk, Some, length, map, option_map, true};
 ghost use Rattle.serde_json.specs.View.{view};
-ghost use Rattle.lsp_messages.specs.Shapes.{publish_data};
-ghost use Rattle.lsp_messages.specs.Views.{edit_view, question_view, reply_view};
+ghost use Rattle.lsp_messages.specs.Views.{edit_view, question_view};
+ghost use Rattle.lsp_values.specs.Shapes.{publish_data};
+ghost use Rattle.lsp_values.specs.Views.{reply_view};
 ghost use Rattle.lsp_server.specs.Answers.{answer_data, found_among, found_in};
 ghost use Rattle.lsp_server.specs.States.{documents_view, open_view};
 ghost use Rattle.lsp_server.specs.Steps.{changed_at, changed_by, closed_at, current_of, opened_for, outdated_at, open_at, outdated, shown, shown_by_change, can_apply, warned, with_change, with_document, with_edits, without};
@@ -10,8 +11,9 @@ ghost use Rattle.lsp_server.specs.inside.Views.{Tells, place_of};
 
 use crate::editing::{edited, send_whole};
 use crate::source::HeldText;
-use lsp_messages::writing::{publish_value, unreadable_value};
-use lsp_messages::{Change, Client, Question, Reply};
+use lsp_messages::{Change, Client, Question};
+use lsp_values::Reply;
+use lsp_values::writing::{publish_value, unreadable_value};
 use serde_json::Value;
 use std::alloc::{AllocError, Global};
 

@@ -11,9 +11,9 @@ ghost use Rattle.lsp_server.specs.inside.Views.{IsAnswer};
 use crate::documents::{self, Opened};
 use crate::phase::Phase;
 use crate::source::HeldText;
-use lsp_messages::writing::{initialized_value, refusal_value, reply_value, response_value};
 use lsp_messages::{Call, Client, Question};
 use lsp_types::Failure;
+use lsp_values::writing::{initialized_value, refusal_value, reply_value, response_value};
 use serde_json::Value;
 use std::alloc::{AllocError, Global};
 

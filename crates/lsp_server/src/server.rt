@@ -11,9 +11,9 @@ use crate::phase::Phase;
 use crate::requests;
 pub use crate::requests::VERSION;
 use crate::source::HeldText;
-use lsp_messages::writing::refusal_value;
 use lsp_messages::{Client, Message, Notice, read_message};
 use lsp_types::Failure;
+use lsp_values::writing::refusal_value;
 use serde_json::Value;
 use std::alloc::{AllocError, Global};
 

@@ -1,6 +1,7 @@
 //! What a text has to offer that is open in an editor.
-use lsp_messages::{Client, Question, Reply};
+use lsp_messages::{Client, Question};
 use lsp_types::Position;
+use lsp_values::Reply;
 use serde_json::Value;
 use std::alloc::{AllocError, Global};
 
@@ -8,7 +9,8 @@ use std::alloc::{AllocError, Global};
 pub trait HeldText {
     ghost use Rattle.std.specs.Prelude.{◌≡◌, ◌++◌, ◌≤◌, ℕ, List, IfOk, OnOk, length, map};
     ghost use Rattle.serde_json.specs.View.{items_view, view};
-    ghost use Rattle.lsp_messages.specs.Views.{question_view, reply_view};
+    ghost use Rattle.lsp_messages.specs.Views.{question_view};
+    ghost use Rattle.lsp_values.specs.Views.{reply_view};
     ghost use Rattle.lsp_types.specs.declared.places.Position.{Position};
     ghost use Rattle.lsp_server.specs.Sayings.{HasNoFloats, Sayings};
 

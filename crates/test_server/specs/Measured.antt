@@ -2,7 +2,7 @@
 use Rattle.std.specs.Prelude.{ℕ, List, [], ◌∷◌, Bool, codes, false, length, nat_eq, refl, true, if◌then◌else◌}
 use Rattle.serde_json.specs.Data.{Data, Items, array, boolean, item, no_items, number, string, unsigned}
 use Rattle.lsp_messages.specs.Messages.{Query, completion, hover, definition, references, symbols, highlights, folding, formatting, rename, prepare_rename, fixes}
-use Rattle.lsp_messages.specs.Shapes.{Said, said_answer, said_refusal}
+use Rattle.lsp_values.specs.Shapes.{Said, said_answer, said_refusal}
 use Rattle.lsp_types.specs.declared.failures.Failure.TheVariants.{NoName}
 use Rattle.lsp_messages.specs.declared.clients.Client.{Client}
 use Rattle.lsp_types.specs.declared.places.Position.{Position}

@@ -9,9 +9,10 @@ ghost use Rattle.test_server.specs.Measured as spec;
 ghost use Rattle.test_server.specs.Measured.{flag_of, place_of, word_of};
 ghost use Rattle.lsp_messages.specs.Views.{question_view};
 
-use lsp_messages::{Client, Question, Reply};
+use lsp_messages::{Client, Question};
 use lsp_server::HeldText;
 use lsp_types::{Failure, Position};
+use lsp_values::Reply;
 use serde_json::{Value, json};
 use std::alloc::{AllocError, Global};
 

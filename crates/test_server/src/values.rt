@@ -1,15 +1,16 @@
 //! The values that are sent, as the protocol has them.
-use lsp_messages::answers::{
+use lsp_messages::{Client, Message, Notice, parse, read_message};
+use lsp_types::{Failure, ItemKind, Position, Range, Severity};
+use lsp_values::Reply;
+use lsp_values::answers::{
     action_value, folding_value, highlight_value, hover_value, item_value, list_value,
     location_value, obsolete_item_value, symbol_information_value, symbol_value, text_edit_value,
     workspace_edit_value,
 };
-use lsp_messages::writing::{
+use lsp_values::writing::{
     diagnostic_value, initialized_value, position_value, publish_value, range_value, refusal_value,
     reply_value, response_value, unreadable_value,
 };
-use lsp_messages::{Client, Message, Notice, Reply, parse, read_message};
-use lsp_types::{Failure, ItemKind, Position, Range, Severity};
 use serde_json::Value;
 use std::process::Abort;
 use std::test::Fail;

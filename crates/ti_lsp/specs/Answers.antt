@@ -3,8 +3,8 @@ use Rattle.std.specs.Prelude.{ℕ, List, [], Bool, false, true, Option, None, So
 use Rattle.serde_json.specs.Data.{Data, array, null}
 use Rattle.serde_json.specs.View.{items_of}
 use Rattle.lsp_messages.specs.Messages.{Query, completion, hover, definition, references, symbols, highlights, folding, formatting, rename, prepare_rename, fixes}
-use Rattle.lsp_messages.specs.Shapes.{Said, said_answer, said_refusal, highlight_data, item_data, list_data, location_data, range_data, symbol_data, symbol_information_data}
-use Rattle.lsp_messages.specs.Shapes.{text_edit_data, workspace_edit_data}
+use Rattle.lsp_values.specs.Shapes.{Said, said_answer, said_refusal, highlight_data, item_data, list_data, location_data, range_data, symbol_data, symbol_information_data}
+use Rattle.lsp_values.specs.Shapes.{text_edit_data, workspace_edit_data}
 use Rattle.lsp_messages.specs.declared.clients.Client.{Client}
 use Rattle.lsp_types.specs.declared.items.ItemKind.TheVariants as items
 use Rattle.lsp_types.specs.declared.places.Range.{Range}

@@ -4,7 +4,7 @@ use Rattle.serde_json.specs.Data.{Data, array}
 use Rattle.serde_json.specs.View.{items_of}
 use Rattle.ti_caps.specs.declared.capability.Kind.{Kind}
 use Rattle.ti_caps.specs.declared.capability.Kind.TheVariants.{Flag, Number, Text}
-use Rattle.lsp_messages.specs.Shapes.{action_data}
+use Rattle.lsp_values.specs.Shapes.{action_data}
 use Rattle.lsp_fixes.specs.Edits.{AdviceSeen, advises_name, advises_sign, advises_spelling, advises_caret}
 use Rattle.lsp_fixes.specs.Fixes.{FixSeen}
 

@@ -15,7 +15,7 @@ use Rattle.lsp_format.specs.Folds.{folds_of}
 use Rattle.lsp_format.specs.declared.folding.Fold.{Fold}
 use Rattle.ti_lsp.specs.Fixes.{advice_title, fix_shown, fixes_data, is_certain}
 use Rattle.lsp_messages.specs.Messages.{Query, completion, hover, definition, references, symbols, highlights, folding, formatting, rename, prepare_rename, fixes}
-use Rattle.lsp_messages.specs.Shapes.{action_data, folding_data, highlight_data, location_data, symbol_information_data, text_edit_data}
+use Rattle.lsp_values.specs.Shapes.{action_data, folding_data, highlight_data, location_data, symbol_information_data, text_edit_data}
 use Rattle.lsp_messages.specs.declared.clients.Client.{Client}
 use Rattle.lsp_types.specs.declared.places.Range.{Range}
 use Rattle.lsp_server.specs.Sayings.{HasNoFloats, SaidHasNoFloat}

@@ -4,7 +4,7 @@ use Rattle.std.specs.Prelude.{ℕ, List, [], ◌∷◌, ◌++◌, Option, None, 
 use Rattle.std.specs.Fmt.{decimal}
 use Rattle.serde_json.specs.Data.{Data, null}
 use Rattle.ti_caps.specs.Tables.{Capability, name_of}
-use Rattle.lsp_messages.specs.Shapes.{hover_data}
+use Rattle.lsp_values.specs.Shapes.{hover_data}
 use Rattle.lsp_document.specs.Diagnostics.{Shown, label_of_problem}
 use Rattle.lsp_blocks.specs.Deciding.{SourceSeen}
 use Rattle.lsp_blocks.specs.Holdings.{EntrySeen, entry_missing, entry_faulty, entry_held}

@@ -3,7 +3,7 @@ use Rattle.std.specs.Prelude.{List, [], ◌∷◌, Option, None, Some, map}
 use Rattle.serde_json.specs.Data.{Data, array}
 use Rattle.serde_json.specs.View.{items_of}
 use Rattle.lsp_format.specs.declared.folding.Fold.{Fold}
-use Rattle.lsp_messages.specs.Shapes.{folding_data, text_edit_data}
+use Rattle.lsp_values.specs.Shapes.{folding_data, text_edit_data}
 use Rattle.lsp_features.specs.Formatting.{LayoutSeen}
 
 -- the edits that lay out a source ("TextEdit"): none if nothing changes

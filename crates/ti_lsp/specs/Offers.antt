@@ -4,7 +4,7 @@ use Rattle.serde_json.specs.Data.{Data}
 use Rattle.ti_caps.specs.NameOrder.{in_name_order}
 use Rattle.ti_caps.specs.Tables.{Capability, name_of}
 use Rattle.ti_caps.specs.declared.capability.Kind.TheVariants.{Flag, Number, Text}
-use Rattle.lsp_messages.specs.Shapes.{item_data, obsolete_item_data}
+use Rattle.lsp_values.specs.Shapes.{item_data, obsolete_item_data}
 use Rattle.lsp_types.specs.declared.items.ItemKind.TheVariants as items
 use Rattle.lsp_types.specs.declared.places.Range.{Range}
 use Rattle.lsp_descriptions.specs.Words.{detail_of, documentation_of}

@@ -4,7 +4,7 @@ use Rattle.std.specs.Prelude.{ℕ, ◌==◌, ◌&&◌, ◌||◌, Bool, true, fal
 use Rattle.std.specs.Char.{to_ascii_lowercase}
 use Rattle.std.specs.List.{flat_map}
 use Rattle.serde_json.specs.Data.{Data}
-use Rattle.lsp_messages.specs.Shapes.{symbol_information_data}
+use Rattle.lsp_values.specs.Shapes.{symbol_information_data}
 use Rattle.lsp_blocks.specs.Symbols.{SymbolSeen, symbols_of}
 
 -- whether a text begins with one

@@ -6,7 +6,7 @@ use Rattle.lsp_document.specs.Diagnostics.{Shown, diagnostics_by, label_of_probl
 use Rattle.lsp_document.specs.declared.capabilities.Capabilities.{Capabilities}
 use Rattle.lsp_document.specs.declared.capabilities.Capabilities.TheVariants.{Profile, UserDefined}
 use Rattle.lsp_messages.specs.declared.clients.Client.{Client}
-use Rattle.lsp_messages.specs.Shapes.{diagnostic_data}
+use Rattle.lsp_values.specs.Shapes.{diagnostic_data}
 
 -- a diagnostic
 abbrev pub shown_data : Shown → Data

@@ -6,16 +6,16 @@ ghost use Rattle.lsp_blocks.specs.Symbols.{symbol_seen, symbols_of};
 ghost use Rattle.lsp_features.specs.Completions.{completion_of, offers_seen};
 ghost use Rattle.lsp_features.specs.Names.{definition_of, references_of};
 ghost use Rattle.ti_lsp.specs.Answers.{completion_data, definition_data, entry_item, highlights_data, offered_items, outline_data, references_data, symbol_shown};
-ghost use Rattle.lsp_messages.specs.Shapes.{highlight_data, location_data};
+ghost use Rattle.lsp_values.specs.Shapes.{highlight_data, location_data};
 
 use crate::offers::capability_items;
 use lsp_blocks::{Symbol, symbols_of};
 use lsp_document::Document;
 use lsp_features::{Offers, completion_of, definition_of, references_of};
-use lsp_messages::answers::{
+use lsp_types::{ItemKind, Position, Range};
+use lsp_values::answers::{
     highlight_value, item_value, list_value, location_value, symbol_information_value, symbol_value,
 };
-use lsp_types::{ItemKind, Position, Range};
 use serde_json::Value;
 use std::alloc::{AllocError, Global};
 

@@ -9,8 +9,8 @@ ghost use Rattle.ti_lsp.specs.Fixes.{advice_title, fix_shown, fixes_data, is_cer
 
 use lsp_document::{Capabilities, Document};
 use lsp_fixes::{Advice, Fix, fixes_of};
-use lsp_messages::answers::action_value;
 use lsp_types::Range;
+use lsp_values::answers::action_value;
 use serde_json::Value;
 use std::alloc::{AllocError, Global};
 use ti_caps::Kind;

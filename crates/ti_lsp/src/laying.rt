@@ -8,7 +8,7 @@ ghost use Rattle.ti_lsp.specs.Laying.{edits_of, fold_data, folds_data, layout_da
 use lsp_document::Document;
 use lsp_features::{LayoutEdit, layout_of};
 use lsp_format::{Fold, folds_of};
-use lsp_messages::answers::{folding_value, text_edit_value};
+use lsp_values::answers::{folding_value, text_edit_value};
 use serde_json::Value;
 use std::alloc::{AllocError, Global};
 

@@ -6,8 +6,8 @@ ghost use Rattle.ti_caps.specs.Tables.{count_of};
 ghost use Rattle.ti_lsp.specs.Offers.{all_capabilities, byte_at, capability_item, is_obsolete};
 
 use lsp_descriptions::{detail_of, documentation_of};
-use lsp_messages::answers::{item_value, obsolete_item_value};
 use lsp_types::{ItemKind, Range};
+use lsp_values::answers::{item_value, obsolete_item_value};
 use serde_json::Value;
 use std::alloc::{AllocError, Global};
 use ti_caps::{Cap, Kind, by_name, count, name};

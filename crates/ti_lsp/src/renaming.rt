@@ -3,15 +3,15 @@ ghost use Rattle.std.specs.Prelude.{◌≡◌, IfOk, map};
 ghost use Rattle.serde_json.specs.View.{view};
 ghost use Rattle.lsp_features.specs.Renaming as features;
 ghost use Rattle.ti_lsp.specs.Answers.{renamable_data, renamed_said};
-ghost use Rattle.lsp_messages.specs.Shapes.{text_edit_data};
-ghost use Rattle.lsp_messages.specs.Views.{reply_view};
+ghost use Rattle.lsp_values.specs.Shapes.{text_edit_data};
+ghost use Rattle.lsp_values.specs.Views.{reply_view};
 
 use lsp_document::Document;
 use lsp_features::{Renaming, renamable_at, renaming_of};
-use lsp_messages::Reply;
-use lsp_messages::answers::{text_edit_value, workspace_edit_value};
-use lsp_messages::writing::range_value;
 use lsp_types::{Position, Range};
+use lsp_values::Reply;
+use lsp_values::answers::{text_edit_value, workspace_edit_value};
+use lsp_values::writing::range_value;
 use serde_json::Value;
 use std::alloc::{AllocError, Global};
 

@@ -7,7 +7,7 @@ ghost use Rattle.ti_lsp.specs.Searching.{begins_alike, found_symbols, symbols_fo
 
 use lsp_blocks::{Symbol, symbols_of};
 use lsp_document::Document;
-use lsp_messages::answers::symbol_information_value;
+use lsp_values::answers::symbol_information_value;
 use serde_json::Value;
 use std::alloc::{AllocError, Global};
 

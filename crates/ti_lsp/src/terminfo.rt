@@ -11,11 +11,12 @@ use crate::laying::{folds, layout};
 use crate::renaming::{renamable, renamed};
 use crate::searching::search;
 use lsp_document::{Capabilities, Diagnostic, Document};
-use lsp_messages::writing::diagnostic_value;
-use lsp_messages::{Client, Question, Reply};
+use lsp_messages::{Client, Question};
 use lsp_places::offset_of;
 use lsp_server::HeldText;
 use lsp_types::Position;
+use lsp_values::Reply;
+use lsp_values::writing::diagnostic_value;
 use serde_json::Value;
 use std::alloc::{AllocError, Global};
 

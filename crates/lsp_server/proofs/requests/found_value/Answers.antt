@@ -3,7 +3,7 @@ use Rattle.std.proofs.lemmas.Result.{IfOk-weaker}
 use Rattle.serde_json.proofs.Views.{view-Array}
 use Rattle.serde_json.specs.Data.{Data, array}
 use Rattle.serde_json.specs.View.{items_of, view}
-use Rattle.lsp_messages.specs.Shapes.{response_data}
+use Rattle.lsp_values.specs.Shapes.{response_data}
 use Rattle.lsp_server.proofs.requests.found_value.Goals as goal
 
 pub returns : goal.returns

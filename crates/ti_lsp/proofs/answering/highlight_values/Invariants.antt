@@ -1,6 +1,6 @@
 use Rattle.std.proofs.Common.{◌≡◌, map, take}
 use Rattle.serde_json.specs.View.{view}
-use Rattle.lsp_messages.specs.Shapes.{highlight_data}
+use Rattle.lsp_values.specs.Shapes.{highlight_data}
 use Rattle.ti_lsp.proofs.answering.highlight_values.Given as goal
 
 -- the values so far

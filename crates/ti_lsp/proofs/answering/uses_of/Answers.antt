@@ -1,6 +1,6 @@
 use Rattle.std.proofs.Common.{ap, map, ◌∙◌}
 use Rattle.std.proofs.lemmas.Result.{IfOk-weaker}
-use Rattle.lsp_messages.specs.Shapes.{location_data}
+use Rattle.lsp_values.specs.Shapes.{location_data}
 use Rattle.ti_lsp.proofs.answering.uses_of.Goals as goal
 
 pub returns : goal.returns

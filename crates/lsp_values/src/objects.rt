@@ -3,7 +3,7 @@
 ghost use Rattle.std.specs.Prelude.{◌≡◌, IfOk};
 ghost use Rattle.serde_json.specs.Data.{put, string};
 ghost use Rattle.serde_json.specs.View.{members_view, view};
-ghost use Rattle.lsp_messages.specs.Shapes.{natural};
+ghost use Rattle.lsp_values.specs.Shapes.{natural};
 
 use serde_json::{Map, Value};
 use std::alloc::{AllocError, Global};

@@ -2,7 +2,7 @@
 ghost use Rattle.std.specs.Prelude.{◌≡◌, IfOk, option_map};
 ghost use Rattle.serde_json.specs.Data.{item, no_items};
 ghost use Rattle.serde_json.specs.View.{items_view, view};
-ghost use Rattle.lsp_messages.specs.Shapes.{action_data, folding_data, highlight_data, hover_data, item_data, list_data, location_data, obsolete_item_data, plain_data, symbol_data, symbol_information_data, text_edit_data, workspace_edit_data};
+ghost use Rattle.lsp_values.specs.Shapes.{action_data, folding_data, highlight_data, hover_data, item_data, list_data, location_data, obsolete_item_data, plain_data, symbol_data, symbol_information_data, text_edit_data, workspace_edit_data};
 
 use crate::objects::{with_number, with_text, with_value};
 use crate::writing::range_value;

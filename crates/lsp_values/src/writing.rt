@@ -3,13 +3,13 @@ ghost use Rattle.std.specs.Prelude.{◌≡◌, IfOk, option_map, unwrap_or};
 ghost use Rattle.std.specs.String.{string_bytes};
 ghost use Rattle.serde_json.specs.Data.{null};
 ghost use Rattle.serde_json.specs.View.{items_view, members_view, view};
-ghost use Rattle.lsp_messages.specs.Views.{reply_view};
-ghost use Rattle.lsp_messages.specs.Shapes.{action_options_data, capabilities_data, completion_options_data, document_members, initialized_data, rename_options_data, server_data, sync_data};
-ghost use Rattle.lsp_messages.specs.Shapes.{diagnostic_data, failure_data, unreadable_data, unreadable_sentence, notification_data, position_data, publish_data, published_data, range_data, refusal_data, reply_data, response_data};
+ghost use Rattle.lsp_values.specs.Views.{reply_view};
+ghost use Rattle.lsp_values.specs.Shapes.{action_options_data, capabilities_data, completion_options_data, document_members, initialized_data, rename_options_data, server_data, sync_data};
+ghost use Rattle.lsp_values.specs.Shapes.{diagnostic_data, failure_data, unreadable_data, unreadable_sentence, notification_data, position_data, publish_data, published_data, range_data, refusal_data, reply_data, response_data};
 
-use crate::clients::Client;
-use crate::messages::Reply;
 use crate::objects::{with_number, with_text, with_value};
+use crate::replies::Reply;
+use lsp_messages::Client;
 use lsp_types::{Failure, Position, Range, Severity};
 use serde_json::{Map, Value, json};
 use std::alloc::{AllocError, Global};
