@@ -181,9 +181,14 @@ def files_of(crate):
 
 
 def homes():
-    """Where a name that a file makes public for another one is defined, by file and name."""
+    """Where a name that a file makes public for another one is defined, by file and name; by the
+    file alone if Lib.antt makes all of another crate's file public."""
     given = {}
     for crate in read_crates():
+        root = os.path.join(TOP, "crates", crate, "specs", "Lib.antt")
+        if os.path.isfile(root):
+            whole = re.findall(r"^pub use Rattle\.(\w+\.specs)\.(\w+)$", "\n".join(lines_of(root)), re.M)
+            given.update({f"{crate}.specs.{name}": f"{of}.{name}" for of, name in whole})
         for name, path in files_of(crate):
             text = "\n".join(lines_of(path))
             uses = r"^(?:unfoldable )?pub use Rattle\.(\w+\.specs\.[\w.]+)\.\{([^}]*)\}"
@@ -193,9 +198,10 @@ def homes():
 
 
 def home_of(definition, given):
-    while definition in given:
-        definition = given[definition]
-    return definition
+    at, word = definition
+    while at in given or (at, word) in given:
+        at, word = given[at, word] if (at, word) in given else (given[at], word)
+    return at, word
 
 
 def in_order(section):

@@ -1,14 +1,8 @@
-pub mod BlockFaults
-pub mod FaultLines
 pub mod Fitting
 pub mod HeldBlocks
 pub mod HeldTexts
 pub mod ListEdits
 pub mod LocalCuts
 pub mod PartsExchanged
-pub mod PublishedFaults
-pub mod SameFaults
-pub mod ShownDetails
 pub mod SmallExchanges
-pub mod SourceStates
 pub mod TextLists

@@ -1,5 +1,5 @@
 -- Cutting is local: the blocks of a text, from those of two parts of it.
-use Rattle.std.proofs.Common.{◌≡◌, ◌<◌, ℕ, true, false, All, Bor, List, [], ◌∷◌, ◌++◌, cond, drop, get_or, length, map, reverse, take, refl, sym, ap, ap₂, subst, ◌∙◌, inl, inr, arith}
+use Rattle.std.proofs.Common.{◌≡◌, ◌<◌, ℕ, All, Bor, List, [], ◌∷◌, ◌++◌, cond, drop, get_or, length, map, reverse, take, refl, sym, ap, ap₂, subst, ◌∙◌, inl, inr, arith}
 use Rattle.std.proofs.lemmas.Bool.{cases_Bool}
 use Rattle.std.proofs.lemmas.List.{append-nil, append_assoc, get_or-map, length-map, map-append, reverse-append, take-append-drop}
 use Rattle.std.proofs.Math.Seq.{drop-append_seam}

@@ -6,15 +6,13 @@ ghost use Rattle.base_meaning.specs.declared.edits.EditError.TheVariants.{Memory
 ghost use Rattle.tools_sources.specs.Sources.{AreTaken, source_refusal, source_texts};
 ghost use Rattle.lsp_document.specs.Documents.{HeldBlocksFit, held};
 ghost use Rattle.lsp_document.specs.Exchanges.{AtBack, AtFront, Exchanged};
-ghost use Rattle.lsp_document.specs.Diagnostics.{diagnostic_seen, diagnostics_by, diagnostics_of};
+ghost use Rattle.lsp_diagnostics.specs.Diagnostics.{diagnostic_seen, diagnostics_by, diagnostics_of};
 
-use crate::capabilities::Capabilities;
 use crate::cut::{common_back, common_front};
-use crate::diagnostics::{Diagnostic, source_diagnostics};
 use crate::exchanging::exchange;
-use crate::kept::KeptMarks;
 use crate::recutting::texts_of;
 use crate::taking::refusal_of;
+use lsp_diagnostics::{Capabilities, Diagnostic, KeptMarks, source_diagnostics};
 use std::alloc::{AllocError, Global};
 use std::marker::Model;
 use ti_base::{Database, EditError};

@@ -5,10 +5,16 @@ ghost use Rattle.ti_source.specs.Cutting.{OneBlock, blocks_from_head, front_of, 
 ghost use Rattle.tools_sources.specs.Sources.{source_texts};
 ghost use Rattle.lsp_document.specs.Recutting.{CuttingIsLocal};
 
-use crate::kept::is_equal;
 use std::alloc::{AllocError, Global};
 use ti_source::blocks;
 use tools_sources::is_ended;
+
+// Whether two texts are the same.
+fn is_equal(one: &[u8], other: &[u8]) -> bool
+    ensures { result ≡ true → one.now ≡ other.now }
+{
+    one == other
+}
 
 // Whether a block begins at the start of a text, or the text is empty.
 fn begins_block(text: &[u8]) -> bool

@@ -37,7 +37,7 @@ use Rattle.lsp_fixes.specs.Applied.{AsciiPlacesAreStarts, FixesHeal, IsHealing, 
 use Rattle.lsp_fixes.specs.Edits.{EditSeen, edits_for}
 use Rattle.lsp_fixes.specs.Fixes.{FixSeen, code_unless, edits_in, fault_of_item, fix_of, fixes_from, is_allowed, item_edits, item_edits_by, stretch_to, touched_edits, touches}
 use Rattle.lsp_fixes.specs.Fixes.{used_edits, value_at}
-use Rattle.lsp_document.specs.declared.capabilities.Capabilities.{Capabilities}
+use Rattle.lsp_diagnostics.specs.declared.capabilities.Capabilities.{Capabilities}
 use Rattle.lsp_fixes.specs.Healing.{EditsHeal, IsInLine, IsPartOf, block_after}
 use Rattle.lsp_fixes.specs.declared.fixes.Stretch.{Stretch}
 use Rattle.lsp_blocks.proofs.Placing.{IsMissing, ended_with, missing_is}

@@ -8,7 +8,7 @@ use Rattle.tools_sources.specs.Sources.{preface_of, source_texts}
 use Rattle.lsp_types.specs.declared.places.Range.{Range}
 use Rattle.lsp_document.specs.Diagnostics.{text_at}
 use Rattle.lsp_document.specs.Documents.{held}
-use Rattle.lsp_document.specs.declared.capabilities.Capabilities.{Capabilities}
+use Rattle.lsp_diagnostics.specs.declared.capabilities.Capabilities.{Capabilities}
 use Rattle.lsp_places.specs.Position.{is_start, offset_of}
 use Rattle.lsp_places.specs.Splicing.{spliced}
 use Rattle.lsp_blocks.specs.Places.{missing_newline}

@@ -22,8 +22,8 @@ use Rattle.lsp_spans.specs.declared.parts.Part.{Part}
 use Rattle.lsp_types.specs.declared.places.Position.{Position}
 use Rattle.lsp_types.specs.declared.places.Range.{Range}
 use Rattle.lsp_document.specs.Diagnostics.{text_at}
-use Rattle.lsp_document.specs.declared.capabilities.Capabilities.{Capabilities}
-use Rattle.lsp_document.specs.declared.capabilities.Capabilities.TheVariants.{Profile, UserDefined}
+use Rattle.lsp_diagnostics.specs.declared.capabilities.Capabilities.{Capabilities}
+use Rattle.lsp_diagnostics.specs.declared.capabilities.Capabilities.TheVariants.{Profile, UserDefined}
 use Rattle.lsp_document.specs.Documents.{held}
 use Rattle.lsp_places.specs.Position.{units}
 use Rattle.lsp_blocks.specs.Giving.{can_be_given}

@@ -3,8 +3,8 @@ use Rattle.std.specs.Prelude.{ℕ, List, map, if◌then◌else◌}
 use Rattle.serde_json.specs.Data.{Data, Items}
 use Rattle.serde_json.specs.View.{items_of}
 use Rattle.lsp_document.specs.Diagnostics.{Shown, diagnostics_by, label_of_problem, severity_of}
-use Rattle.lsp_document.specs.declared.capabilities.Capabilities.{Capabilities}
-use Rattle.lsp_document.specs.declared.capabilities.Capabilities.TheVariants.{Profile, UserDefined}
+use Rattle.lsp_diagnostics.specs.declared.capabilities.Capabilities.{Capabilities}
+use Rattle.lsp_diagnostics.specs.declared.capabilities.Capabilities.TheVariants.{Profile, UserDefined}
 use Rattle.lsp_messages.specs.declared.clients.Client.{Client}
 use Rattle.lsp_values.specs.Shapes.{diagnostic_data}
 

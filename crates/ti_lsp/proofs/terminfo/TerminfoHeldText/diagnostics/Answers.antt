@@ -3,8 +3,8 @@ use Rattle.std.proofs.lemmas.Result.{IfOk-weaker}
 use Rattle.std.proofs.lemmas.Simd.{map-map}
 use Rattle.serde_json.specs.View.{items_of}
 use Rattle.lsp_document.specs.Diagnostics.{diagnostic_seen, diagnostics_by}
-use Rattle.lsp_document.specs.declared.capabilities.Capabilities.{Capabilities}
-use Rattle.lsp_document.specs.declared.diagnostics.Diagnostic.{Diagnostic}
+use Rattle.lsp_diagnostics.specs.declared.capabilities.Capabilities.{Capabilities}
+use Rattle.lsp_diagnostics.specs.declared.diagnostics.Diagnostic.{Diagnostic}
 use Rattle.ti_lsp.specs.Shown.{shown_data}
 use Rattle.ti_lsp.proofs.terminfo.TerminfoHeldText.diagnostics.Goals as goal
 

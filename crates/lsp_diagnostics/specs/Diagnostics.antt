@@ -1,0 +1,175 @@
+-- What is wrong with a source, as an editor shows it (own; Language Server Protocol 3.17,
+-- "Diagnostic"): the faults of its report, each with what is shown as faulty on its line, its code
+-- and a message.
+pub use Rattle.lsp_diagnostics.specs.Marking.{text_at}
+use Rattle.std.specs.Fmt.{decimal}
+use Rattle.std.specs.Prelude.{◌≡◌, ℕ, ◌+◌, ◌-◌, ◌<◌, ◌≤◌, List, [], ◌∷◌, ◌++◌, codes, length, Option, Some, None, slice_get, if◌then◌else◌}
+use Rattle.std.specs.String.{string_bytes}
+use Rattle.ti_text.specs.Ascii as ascii
+use Rattle.ti_source.specs.declared.code.Code.{Code}
+use Rattle.ti_source.specs.Code.{code_name, is_error, label_of}
+use Rattle.base_meaning.specs.Owner.{readings}
+use Rattle.base_meaning.specs.Faults.{SourceFault, faults}
+use Rattle.base_meaning.specs.Compiled.{EntryState}
+use Rattle.base_meaning.specs.Report.{detail_text, line_number, lines_before, report_line}
+use Rattle.user_values.specs.Limit.{name_count, name_limit}
+use Rattle.user_compiling.specs.Entries.{AreStates}
+use Rattle.user_compiling.specs.Faults.{ExtendedSourceFault, of_profile, bad_user_defined, block_of, extended_faults, line_of as fault_line}
+use Rattle.user_compiling.specs.Report.{extended_line}
+use Rattle.tools_sources.specs.Sources.{first_line, source_refusal, source_texts}
+use Rattle.tools_sources.specs.declared.source_error.SourceError.{SourceError}
+use Rattle.tools_sources.specs.declared.source_error.SourceError.TheVariants as refusal
+use Rattle.lsp_spans.specs.Sentences.{sentence, block_too_long, too_many_blocks}
+use Rattle.lsp_places.specs.LineTexts.{line_of}
+use Rattle.lsp_diagnostics.specs.Marking.{found_for, marked, marked_for}
+use Rattle.lsp_spans.specs.Faulty.{Search}
+use Rattle.lsp_spans.specs.declared.parts.Part.{Part}
+use Rattle.lsp_diagnostics.specs.SourceFaults.{faults_by}
+use Rattle.lsp_diagnostics.specs.declared.capabilities.Capabilities.{Capabilities}
+use Rattle.lsp_diagnostics.specs.declared.capabilities.Capabilities.TheVariants.{Profile, UserDefined}
+use Rattle.lsp_diagnostics.specs.declared.diagnostics.Diagnostic.{Diagnostic}
+use Rattle.lsp_diagnostics.specs.declared.diagnostics.Problem.{Problem}
+use Rattle.lsp_diagnostics.specs.declared.diagnostics.Problem.TheVariants.{Fault, BadUserDefined, BlockTooLong, TooManyBlocks}
+use Rattle.lsp_types.specs.declared.places.Range.{Range}
+use Rattle.lsp_types.specs.declared.severities.Severity.{Severity}
+use Rattle.lsp_types.specs.declared.severities.Severity.TheVariants.{Error, Warning}
+
+-- how bad a problem is
+abbrev pub severity_of : Problem → Severity
+severity_of (Fault code) = if is_error code then Error else Warning
+severity_of BadUserDefined = Warning
+severity_of BlockTooLong = Error
+severity_of TooManyBlocks = Error
+
+-- the code of a problem
+abbrev pub label_of_problem : Problem → List ℕ
+label_of_problem (Fault code) = label_of code
+label_of_problem BadUserDefined = codes "W5"
+label_of_problem BlockTooLong = codes "BlockTooLong"
+label_of_problem TooManyBlocks = codes "TooManyBlocks"
+
+-- a diagnostic as plain data: the part of the text that it is about, what is wrong, and what is
+-- said about it
+pub record Shown : Type 0 where
+  pub range : Range
+  pub problem : Problem
+  pub message : List ℕ
+
+-- a diagnostic that holds its message in memory, as plain data
+abbrev pub diagnostic_seen : Diagnostic → Shown
+diagnostic_seen d = record { range = d.range; problem = d.problem; message = string_bytes d.message }
+
+-- what is shown on a line of that number
+abbrev pub shown_on : ℕ → List ℕ → Problem → List ℕ → Shown
+shown_on number line problem message = record { range = marked number line; problem = problem; message = message }
+
+-- what is reported about a fault: its name and the detail as its report shows it, what it means,
+-- and a hint
+abbrev pub fault_message : Code → Option (List ℕ) → List ℕ
+fault_message code detail = code_name code ++ detail_text detail ++ codes ": " ++ sentence code
+
+-- what an invalid value of a user-defined name means, and a hint
+abbrev pub bad_value_sentence : List ℕ
+bad_value_sentence = codes "Invalid value of a user-defined capability, so the item is ignored. Correct the number or the string."
+
+-- what is wrong by a fault
+abbrev pub problem_of : ExtendedSourceFault → Problem
+problem_of (of_profile fault) = Fault fault.code
+problem_of (bad_user_defined block line name) = BadUserDefined
+
+-- what is reported about it
+abbrev pub message_of : ExtendedSourceFault → List ℕ
+message_of (of_profile fault) = fault_message fault.code fault.detail
+message_of (bad_user_defined block line name) = codes "BadUserDefined" ++ detail_text (Some name) ++ codes ": " ++ bad_value_sentence
+
+-- the number of its line in a source whose first block begins on the line of the number `first`,
+-- each counted from 1
+abbrev pub number_of : List (List ℕ) → ℕ → ExtendedSourceFault → ℕ
+number_of texts first fault = first + lines_before texts (block_of fault) + fault_line fault - 1
+
+-- the diagnostic of a fault that is of a part of its block, in a source whose first block begins on
+-- the line of that number, counted from 1
+abbrev pub fault_diagnostic : List (List ℕ) → ℕ → Option Part → ExtendedSourceFault → Shown
+fault_diagnostic texts first part fault = record {
+  range = marked_for (number_of texts first fault - 1) (text_at texts (block_of fault)) (fault_line fault - 1) part;
+  problem = problem_of fault;
+  message = message_of fault;
+}
+
+-- the diagnostics of faults, one by one, each with the part that it is of; `last` is the block of the
+-- fault before them with what the search for its part left
+abbrev pub fault_diagnostics : List (List ℕ) → ℕ → Option (ℕ × Search) → List ExtendedSourceFault → List Shown
+fault_diagnostics texts first last [] = []
+fault_diagnostics texts first last (fault ∷ faults) =
+    fault_diagnostic texts first (found_for texts last fault).0 fault
+    ∷ fault_diagnostics texts first (Some (block_of fault, (found_for texts last fault).1)) faults
+
+-- the diagnostic of a source that is refused, on the line on which the block begins for which it is
+abbrev pub refusal_diagnostic : List ℕ → SourceError → Shown
+refusal_diagnostic text (refusal.BlockTooLong line) = shown_on (line - 1) (line_of text (line - 1)) BlockTooLong block_too_long
+refusal_diagnostic text (refusal.TooManyBlocks line) = shown_on (line - 1) (line_of text (line - 1)) TooManyBlocks too_many_blocks
+
+-- the diagnostics of a source, by its refusal if it has one
+abbrev pub diagnostics_unless : Capabilities → List ℕ → Option SourceError → List Shown
+diagnostics_unless capabilities text None = fault_diagnostics (source_texts text) (first_line text) None (faults_by capabilities (source_texts text))
+diagnostics_unless capabilities text (Some error) = refusal_diagnostic text error ∷ []
+
+-- the diagnostics of a source, by which capabilities it may have
+abbrev pub diagnostics_by : Capabilities → List ℕ → List Shown
+diagnostics_by capabilities text = diagnostics_unless capabilities text (source_refusal text)
+
+-- those of the profile
+abbrev pub diagnostics_of : List ℕ → List Shown
+diagnostics_of text = diagnostics_by Profile text
+
+-- ---- the diagnostics are the faults of the report
+
+-- a diagnostic is that of a fault: it has the fault's code, is on the fault's line, which it counts
+-- from 0, and says what the report says of the fault, by the name of the code and the detail
+pub record IsOfFault (texts : List (List ℕ)) (first : ℕ) (fault : SourceFault) (shown : Shown) : Type 0 where
+  pub problem : shown.problem ≡ Fault fault.code
+  pub start : shown.range.start.line ≡ line_number texts first fault - 1
+  pub end : shown.range.end.line ≡ line_number texts first fault - 1
+  pub subject : List ℕ
+  pub words : List ℕ
+  pub message : shown.message ≡ subject ++ codes ": " ++ words
+  pub reported : report_line texts first fault
+      ≡ decimal (line_number texts first fault) ++ codes ": " ++ label_of_problem shown.problem ++ codes " " ++ subject ++ ascii.newline ∷ []
+
+-- the diagnostics are those of these faults, one by one and in the same order
+pub record AreOfFaults (texts : List (List ℕ)) (first : ℕ) (all : List SourceFault) (shown : List Shown) : Type 0 where
+  pub as_many : length shown ≡ length all
+  pub each : (at : ℕ) (fault : SourceFault) (diagnostic : Shown) → slice_get all at ≡ Some fault → slice_get shown at ≡ Some diagnostic
+      → IsOfFault texts first fault diagnostic
+
+-- the diagnostics of a source that is not refused are those of the faults that its report has
+abbrev pub DiagnosticsAreTheFaults : Type 0
+DiagnosticsAreTheFaults = (text : List ℕ) → source_refusal text ≡ None
+    → AreOfFaults (source_texts text) (first_line text) (faults (readings (source_texts text))) (diagnostics_of text)
+
+-- a diagnostic is that of a fault of a source whose user-defined capabilities are kept: it says what
+-- is wrong, is on the fault's line, and says what the report says of the fault
+pub record IsOfExtendedFault (texts : List (List ℕ)) (first : ℕ) (fault : ExtendedSourceFault) (shown : Shown) : Type 0 where
+  pub problem : shown.problem ≡ problem_of fault
+  pub start : shown.range.start.line ≡ number_of texts first fault - 1
+  pub end : shown.range.end.line ≡ number_of texts first fault - 1
+  pub subject : List ℕ
+  pub words : List ℕ
+  pub message : shown.message ≡ subject ++ codes ": " ++ words
+  pub reported : extended_line texts first fault
+      ≡ decimal (number_of texts first fault) ++ codes ": " ++ label_of_problem shown.problem ++ codes " " ++ subject ++ ascii.newline ∷ []
+
+-- the diagnostics are those of these faults, one by one and in the same order
+pub record AreOfExtendedFaults (texts : List (List ℕ)) (first : ℕ) (all : List ExtendedSourceFault) (shown : List Shown) : Type 0 where
+  pub as_many : length shown ≡ length all
+  pub each : (at : ℕ) (fault : ExtendedSourceFault) (diagnostic : Shown) → slice_get all at ≡ Some fault → slice_get shown at ≡ Some diagnostic
+      → IsOfExtendedFault texts first fault diagnostic
+
+-- with user-defined capabilities the diagnostics of a source that is not refused are those of the
+-- faults that `tic -x` reports; of a source with too many user-defined names those of the profile
+pub record UserDefinedDiagnosticsAreTheFaults : Type 0 where
+  pub faults : (text : List ℕ) (states : List EntryState) → source_refusal text ≡ None
+      → name_count (source_texts text) (length (source_texts text)) ≤ name_limit → AreStates (source_texts text) states
+      → AreOfExtendedFaults (source_texts text) (first_line text) (extended_faults (source_texts text) states) (diagnostics_by UserDefined text)
+  pub too_many : (text : List ℕ) → name_limit < name_count (source_texts text) (length (source_texts text))
+      → diagnostics_by UserDefined text ≡ diagnostics_of text

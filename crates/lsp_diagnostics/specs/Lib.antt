@@ -1,0 +1,5 @@
+-- The definitions that the contracts of this crate cite.
+pub mod SourceFaults
+pub mod Marking
+pub mod Diagnostics
+pub mod inside
