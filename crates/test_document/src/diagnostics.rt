@@ -1,9 +1,11 @@
 //! What is wrong with a text, and where.
+use lsp_diagnostics::{KeptMarks, shown_detail, source_diagnostics};
 use lsp_document::{Capabilities, Diagnostic, Document, Problem};
 use lsp_types::{Position, Range, Severity};
 use std::alloc::{AllocError, Global};
 use std::process::Abort;
 use ti_source::Code;
+use tools_sources::database_of;
 
 // A document of these bytes.
 fn document_of(alloc: Global, bytes: &[u8]) -> Result<Document, AllocError> {
@@ -248,6 +250,49 @@ fn faults_stay_at_their_places(rt: HostRuntime) -> Result<(), AllocError> {
         document.set(Vec::from_slice(rt.alloc(), source)?)?;
         let profile = Capabilities::Profile;
         assert!(rt; has_shown_by(rt.alloc(), &mut document, profile, rows)?);
+    }
+    Ok(())
+}
+
+// What is wrong with a source that is not refused, by a database of its blocks.
+fn diagnostics_in(
+    alloc: Global,
+    source: &[u8],
+    kept: &mut Vec<KeptMarks>,
+) -> Result<Vec<Diagnostic>, AllocError> {
+    tools_sources::laws::sources_have_one_refusal();
+    match database_of(alloc, source) {
+        Ok(database) => {
+            let profile = Capabilities::Profile;
+            source_diagnostics(alloc, profile, source, &database, kept, None)
+        }
+        Err(_) => Err(AllocError),
+    }
+}
+
+#[test]
+fn diagnostics_of_databases(rt: HostRuntime) -> Result<(), AllocError> {
+    let mut kept = Vec::new(rt.alloc());
+    for (source, rows) in TEXTS {
+        let all = diagnostics_in(rt.alloc(), source, &mut kept)?;
+        assert!(rt; are_rows(&all, rows));
+    }
+    Ok(())
+}
+
+// A detail, and how it is shown: a byte that is not graphic ASCII as a question mark, and an empty
+// one as a hyphen.
+const DETAILS: [(&[u8], &str); 4] = [
+    (b"foo", "foo"),
+    (b"b c", "b?c"),
+    (b"\xC3\xA9", "??"),
+    (b"", "-"),
+];
+
+#[test]
+fn details(rt: HostRuntime) -> Result<(), AllocError> {
+    for (detail, shown) in DETAILS {
+        assert!(rt; shown_detail(rt.alloc(), detail)?.as_str() == shown);
     }
     Ok(())
 }

@@ -4,6 +4,7 @@
 //! - `places`: offsets and places, lines, and parts of a text exchanged
 //! - `documents`: a text that is exchanged, and how many edits that takes
 //! - `diagnostics`: what is wrong with a text, and where
+//! - `user_defined`: what is wrong with one that may have user-defined capabilities
 #![tactic(auto)]
 
 #[cfg(test)]
