@@ -7,8 +7,7 @@ use Rattle.ti_source.specs.Folding.{PlacedByte, HasNoNewline, AreLines, no_lines
 use Rattle.ti_source.specs.Folding.{Joins, last_piece, piece_and_break}
 use Rattle.ti_source.specs.inside.Folding.{without_breaks as breaks_left}
 use Rattle.ti_source.proofs.FoldingLaws.{joins_so}
-use Rattle.lsp_spans.specs.inside.Lines.{KeepsLines}
-use Rattle.lsp_spans.specs.Folding.{FoldedIsComputed, FoldsAt, bytes_at, folded_of, kept_of, without_breaks, without_comments}
+use Rattle.lsp_spans.specs.Folding.{FoldedIsComputed, bytes_at, kept_of, without_breaks, without_comments}
 
 -- ---- lines, and those that are no comments
 
@@ -151,10 +150,59 @@ pub left_of : (whole : List PlacedByte) (lines : List (List PlacedByte)) (text :
 left_of whole lines text are joins =
     joins_so _ text joins ∙ same_breaks false (kept_of lines) ∙ ap (without_breaks false) (sym (lines_left false whole lines are))
 
-pub only_folded : (block : List ℕ) (text : List PlacedByte) → FoldsAt block text → text ≡ folded_of block
-only_folded block text f = left_of (bytes_at 0 block) f.lines text f.are_lines f.joins
+-- ---- a line of a text, and what is left after it
 
--- of the bytes of the lines that are kept
-pub only_joined : (block : List ℕ) (kept text : List PlacedByte) → KeepsLines block kept → Joins kept text → text ≡ folded_of block
-only_joined block kept text k joins =
-    only_folded block text (record { lines = k.lines; are_lines = k.are_lines; joins = subst (λ (t : List PlacedByte). Joins t text) k.kept joins })
+-- the byte before the front of a line says what it is
+same_start : (text : List PlacedByte) → without_comments true 10 text ≡ without_comments false 10 text
+same_start [] = refl
+same_start (x ∷ xs) = refl
+
+pub comment_read : (line rest : List PlacedByte) (at : ℕ) → HasNoNewline line → is_comment line ≡ true
+    → without_comments false 10 (line ++ (10, at) ∷ rest) ≡ without_comments false 10 rest
+comment_read [] rest at none is = cc
+comment_read (x ∷ xs) rest at none is =
+    first_line false x xs ((10, at) ∷ rest) (without_comments true 10 rest) ((10, at) ∷ without_comments false 10 rest) true is none.0 none.1
+    (λ c n. rw n refl) (λ c n. rw n refl) ∙ same_start rest
+
+pub comment_at_end : (line : List PlacedByte) → HasNoNewline line → is_comment line ≡ true → without_comments false 10 line ≡ []
+comment_at_end [] none is = refl
+comment_at_end (x ∷ xs) none is =
+    ap (without_comments false 10) (sym (append-nil (x ∷ xs))) ∙ first_line false x xs [] [] [] true is none.0 none.1 (λ c n. refl) (λ c n. refl)
+
+line_kept : (line rest : List PlacedByte) (at : ℕ) → HasNoNewline line → is_comment line ≡ false
+    → without_comments false 10 (line ++ (10, at) ∷ rest) ≡ line ++ (10, at) ∷ without_comments false 10 rest
+line_kept [] rest at none is = refl
+line_kept (x ∷ xs) rest at none is =
+    first_line false x xs ((10, at) ∷ rest) (without_comments true 10 rest) ((10, at) ∷ without_comments false 10 rest) false is none.0 none.1
+    (λ c n. rw n refl) (λ c n. rw n refl)
+
+pub line_at_end : (line : List PlacedByte) → HasNoNewline line → is_comment line ≡ false → without_comments false 10 line ≡ line
+line_at_end [] none is = refl
+line_at_end (x ∷ xs) none is =
+    ap (without_comments false 10) (sym (append-nil (x ∷ xs))) ∙ first_line false x xs [] [] [] false is none.0 none.1 (λ c n. refl) (λ c n. refl)
+    ∙ append-nil (x ∷ xs)
+
+-- white space at the front of a line that is after a break
+pub white_first : (x : PlacedByte) (xs : List PlacedByte) → (x.0 == 10) ≡ false → is_white_space x.0 ≡ true
+    → without_breaks true (x ∷ xs) ≡ without_breaks true xs
+white_first x xs n white = rw (n, white) refl
+
+pub plain_line : (line : List PlacedByte) → HasNoNewline line → without_breaks false line ≡ line
+plain_line [] none = refl
+plain_line (x ∷ xs) none = rw none.0 (ap (λ t. x ∷ t) (plain_line xs none.1))
+
+-- a line and its newline
+line_broken : (joining : Bool) (line rest : List PlacedByte) (at : ℕ) → HasNoNewline line
+    → without_breaks joining (line ++ (10, at) ∷ rest) ≡ without_breaks joining line ++ without_breaks true rest
+line_broken joining [] rest at none = refl
+line_broken joining (x ∷ xs) rest at none =
+    elim (cases_Bool (joining && is_white_space x.0)) [
+      | inl t ↦ rw (none.0, t) (line_broken true xs rest at none.1)
+      | inr f ↦ rw (none.0, f) (ap (λ r. x ∷ r) (line_broken false xs rest at none.1))
+    ]
+
+pub line_read : (joining : Bool) (line rest : List PlacedByte) (at : ℕ) → HasNoNewline line → is_comment line ≡ false
+    → without_breaks joining (without_comments false 10 (line ++ (10, at) ∷ rest))
+    ≡ without_breaks joining line ++ without_breaks true (without_comments false 10 rest)
+line_read joining line rest at none is =
+    ap (without_breaks joining) (line_kept line rest at none is) ∙ line_broken joining line (without_comments false 10 rest) at none

@@ -4,7 +4,6 @@ pub mod Exchanging
 pub mod Fielding
 pub mod Finding
 pub mod Itemizing
-pub mod Joining
 pub mod OneFolding
 pub mod Lines
 pub mod Marking

@@ -1,14 +1,14 @@
 -- The lines of a block, one after the other.
-use Rattle.std.proofs.Common.{◌≡◌, ℕ, suc, zero, ◌+◌, ◌-◌, ◌<◌, ◌≤◌, ◌==◌, Bool, true, false, not, cond, List, [], ◌∷◌, ◌++◌, drop, filter, flat_map}
-use Rattle.std.proofs.Common.{get_or, length, take, None, Some, refl, sym, ap, ap₂, subst, ◌∙◌, arith}
+use Rattle.std.proofs.Common.{◌≡◌, ℕ, suc, zero, ◌+◌, ◌-◌, ◌<◌, ◌≤◌, ◌==◌, Bool, true, false, List, [], ◌∷◌, ◌++◌, drop, get_or, length, take, None, Some}
+use Rattle.std.proofs.Common.{add-one, refl, sym, ap, ap₂, subst, ◌∙◌, arith}
 use Rattle.memchr.specs.Find.{IsFirstByte, is_byte}
 use Rattle.std.proofs.lemmas.Bool.{eqb-true}
-use Rattle.std.proofs.lemmas.List.Concat.{flat_map-append}
-use Rattle.std.proofs.lemmas.List.Elements.{filter-append}
-use Rattle.std.proofs.lemmas.List.{append-nil, append_assoc, drop-drop, drop_all, drop_more, length-drop, take_all}
-use Rattle.ti_source.specs.Folding.{AreLines, HasNoNewline, PlacedByte, is_comment, last_line, line_and_rest, no_lines}
-use Rattle.lsp_spans.specs.Folding.{bytes_at, kept_of}
-use Rattle.lsp_spans.specs.inside.Lines.{IsLineAt, KeepsLines, range_at}
+use Rattle.std.proofs.lemmas.List.{append-nil, drop-drop, drop_all, drop_more, length-drop, take_all}
+use Rattle.ti_text.specs.WhiteSpace.{is_white_space}
+use Rattle.ti_source.specs.Folding.{HasNoNewline, PlacedByte, is_comment}
+use Rattle.lsp_spans.specs.Folding.{bytes_at, folded_of, without_breaks, without_comments}
+use Rattle.lsp_spans.specs.inside.Lines.{IsLineAt, left_at, range_at}
+use Rattle.lsp_spans.proofs.Computing.{comment_at_end, comment_read, line_at_end, line_read, plain_line, white_first}
 
 no_true : (b : Bool) → (b ≡ true → ⊥) → b ≡ false
 no_true true never = absurd (never refl)
@@ -48,76 +48,7 @@ none_newline start [] (suc n) none = tt
 none_newline start (x ∷ xs) (suc n) none =
     (no_true (x == 10) (none 0 (omega arith)), none_newline (suc start) xs n (λ k below. none (suc k) (omega (arith, below))))
 
--- ---- a line as it is found
-
--- the line at the front of a text has a newline
-with_newline : (start : ℕ) (s : List ℕ) (n : ℕ) → n < length s → ((k : ℕ) → k < n → (get_or s k 0 == 10) ≡ true → ⊥) → (get_or s n 0 == 10) ≡ true
-    → (lines : List (List PlacedByte)) → AreLines (bytes_at (start + suc n) (drop (suc n) s)) lines
-    → AreLines (bytes_at start s) (bytes_at start (take (suc n) s) ∷ lines)
-with_newline start s n within none newline lines are =
-    let e = eqb-true (get_or s n 0) 10 newline in
-    let line : bytes_at start (take (suc n) s) ≡ bytes_at start (take n s) ++ (10, start + n) ∷ [] =
-    one_more start s n within ∙ ap (λ (b : ℕ). bytes_at start (take n s) ++ (b, start + n) ∷ []) e in
-    let one = line_and_rest (bytes_at start (take n s)) (bytes_at (start + suc n) (drop (suc n) s)) (start + n) lines (none_newline start s n none) are in
-    subst (λ (line : List PlacedByte). AreLines (bytes_at start s) (line ∷ lines)) (sym line)
-    (subst (λ (text : List PlacedByte). AreLines text ((bytes_at start (take n s) ++ (10, start + n) ∷ []) ∷ lines)) (sym (cut_at start s n within e)) one)
-
-pub line_found : (block : List ℕ) (start at : ℕ) → IsFirstByte (is_byte 10) (drop start block) (Some at) → IsLineAt block start (start + at + 1)
-line_found block start at first =
-    let s = drop start block in
-    let high = first.0.high in
-    let len = length-drop start block in
-    let size : start + at + 1 - start ≡ suc at = omega arith in
-    let end : start + at + 1 ≡ start + suc at = omega arith in
-    let rest : drop (start + at + 1) block ≡ drop (suc at) s = ap (λ (n : ℕ). drop n block) end ∙ sym (drop-drop (suc at) start block) in
-    record {
-      later = omega arith;
-      within = omega (arith, high, len);
-      line = λ lines are.
-          let after = subst (λ (t : List PlacedByte). AreLines t lines) (ap₂ bytes_at end rest) are in
-          let one = with_newline start s at high (λ k below. first.0.before k (omega arith) below) first.1 lines after in
-          subst (λ (n : ℕ). AreLines (bytes_at start s) (bytes_at start (take n s) ∷ lines)) (sym size) one;
-    }
-
-none_left : (text : List PlacedByte) (lines : List (List PlacedByte)) → AreLines text lines → text ≡ [] → lines ≡ []
-none_left _ _ no_lines e = refl
-none_left _ _ (last_line line some none) e = absurd (some e)
-none_left _ _ (line_and_rest [] rest at lines none are) e = absurd (cc)
-none_left _ _ (line_and_rest (x ∷ xs) rest at lines none are) e = absurd (cc)
-
-some_bytes : (start : ℕ) (s : List ℕ) → 0 < length s → bytes_at start s ≡ [] → ⊥
-some_bytes start [] some e = omega arith
-some_bytes start (x ∷ xs) some e = cc
-
--- the last line has none
-without_newline : (start : ℕ) (s : List ℕ) → 0 < length s → ((k : ℕ) → k < length s → (get_or s k 0 == 10) ≡ true → ⊥) → (lines : List (List PlacedByte))
-    → AreLines [] lines
-    → AreLines (bytes_at start s) (bytes_at start s ∷ lines)
-without_newline start s some none lines are =
-    let no_newline : HasNoNewline (bytes_at start s) =
-    subst (λ (t : List ℕ). HasNoNewline (bytes_at start t)) (take_all (length s) s (omega arith)) (none_newline start s (length s) none) in
-    subst (λ (ls : List (List PlacedByte)). AreLines (bytes_at start s) (bytes_at start s ∷ ls)) (sym (none_left [] lines are refl))
-    (last_line (bytes_at start s) (some_bytes start s some) no_newline)
-
-pub last_found : (block : List ℕ) (start : ℕ) → start < length block → IsFirstByte (is_byte 10) (drop start block) None → IsLineAt block start (length block)
-last_found block start within nowhere =
-    let s = drop start block in
-    let len = length-drop start block in
-    let rest : drop (length block) block ≡ [] = drop_all (length block) block (omega arith) in
-    let all : take (length block - start) s ≡ s = take_all (length block - start) s (omega (arith, len)) in
-    record {
-      later = within;
-      within = omega arith;
-      line = λ lines are.
-          let after = subst (λ (t : List ℕ). AreLines (bytes_at (length block) t) lines) rest are in
-          let one = without_newline start s (omega (arith, len, within)) (λ k below. nowhere k (omega arith) below) lines after in
-          subst (λ (t : List ℕ). AreLines (bytes_at start s) (bytes_at start t ∷ lines)) (sym all) one;
-    }
-
 -- ---- the bytes of a part, one more at a time
-
-pub range_none : (block : List ℕ) (start : ℕ) → range_at block start start ≡ []
-range_none block start = let none : start - start ≡ 0 = omega arith in ap (λ (n : ℕ). bytes_at start (take n (drop start block))) none
 
 get_drop : (block : List ℕ) (start n : ℕ) → get_or (drop start block) n 0 ≡ get_or block (start + n) 0
 get_drop block zero n = let here : n ≡ 0 + n = omega arith in ap (λ (k : ℕ). get_or block k 0) here
@@ -135,50 +66,103 @@ range_more block start at order within =
     ∙ ap (λ (b : ℕ). bytes_at start (take n (drop start block)) ++ (b, start + n) ∷ []) (get_drop block start n)
     ∙ ap (λ (k : ℕ). bytes_at start (take n (drop start block)) ++ (get_or block k 0, k) ∷ []) here
 
--- the first byte of a line
-pub first_of : (block : List ℕ) (start end : ℕ) → start < end → end ≤ length block → is_comment (range_at block start end) ≡ (get_or block start 0 == 35)
-first_of block start end order within =
-    let n = end - start in
-    let some : n ≡ suc (n - 1) = omega (arith, order) in
-    let whole = drop_more block start 0 (omega (arith, order, within)) in
-    ap (λ (k : ℕ). is_comment (bytes_at start (take k (drop start block)))) some ∙ ap (λ (t : List ℕ). is_comment (bytes_at start (take (suc (n - 1)) t))) whole
+-- ---- a line as it is found
+
+-- whether a line that ends with a newline is a comment
+first_byte : (start : ℕ) (s : List ℕ) (n : ℕ) → n < length s → get_or s n 0 ≡ 10 → is_comment (bytes_at start (take n s)) ≡ (get_or s 0 0 == 35)
+first_byte start [] n within e = absurd (omega arith)
+first_byte start (x ∷ xs) zero within e = ap (λ (b : ℕ). b == 35) (sym e)
+first_byte start (x ∷ xs) (suc n) within e = refl
+
+pub line_found : (block : List ℕ) (start at : ℕ) → IsFirstByte (is_byte 10) (drop start block) (Some at) → IsLineAt block start (start + at)
+line_found block start at first =
+    let s = drop start block in
+    let high = first.0.high in
+    let len = length-drop start block in
+    let newline : get_or s at 0 ≡ 10 = eqb-true (get_or s at 0) 10 first.1 in
+    let size : start + at - start ≡ at = omega arith in
+    let line : range_at block start (start + at) ≡ bytes_at start (take at s) = ap (λ (n : ℕ). bytes_at start (take n s)) size in
+    let none : HasNoNewline (bytes_at start (take at s)) = none_newline start s at (λ k below. first.0.before k (omega arith) below) in
+    let end : start + at + 1 ≡ start + suc at = omega arith in
+    let rest : drop (start + at + 1) block ≡ drop (suc at) s = ap (λ (n : ℕ). drop n block) end ∙ sym (drop-drop (suc at) start block) in
+    let after : bytes_at (start + at + 1) (drop (start + at + 1) block) ≡ bytes_at (start + suc at) (drop (suc at) s) = ap₂ bytes_at end rest in
+    let whole : bytes_at start s ≡ range_at block start (start + at) ++ (10, start + at) ∷ bytes_at (start + at + 1) (drop (start + at + 1) block) =
+    rw (line, after) (cut_at start s at high newline) in
+    record {
+      later = omega arith;
+      within = omega (arith, high, len);
+      none = rw line none;
+      first = rw line (first_byte start s at high newline ∙ ap (λ (b : ℕ). b == 35) (get_drop block start 0 ∙ ap (λ (k : ℕ). get_or block k 0) (omega arith)));
+      comment = λ joining is.
+          ap (λ (t : List PlacedByte). without_breaks joining (without_comments false 10 t)) whole
+          ∙ ap (without_breaks joining) (comment_read (range_at block start (start + at)) _ (start + at) (rw line none) is);
+      line = λ joining is.
+          ap (λ (t : List PlacedByte). without_breaks joining (without_comments false 10 t)) whole
+          ∙ line_read joining (range_at block start (start + at)) _ (start + at) (rw line none) is;
+    }
+
+pub last_found : (block : List ℕ) (start : ℕ) → start < length block → IsFirstByte (is_byte 10) (drop start block) None → IsLineAt block start (length block)
+last_found block start within nowhere =
+    let s = drop start block in
+    let len = length-drop start block in
+    let all : take (length block - start) s ≡ s = take_all (length block - start) s (omega (arith, len)) in
+    let line : range_at block start (length block) ≡ bytes_at start s = ap (bytes_at start) all in
+    let none : HasNoNewline (bytes_at start s) =
+    subst (λ (t : List ℕ). HasNoNewline (bytes_at start t)) (take_all (length s) s (omega arith))
+    (none_newline start s (length s) (λ k below. nowhere k (omega arith) below)) in
+    let past : drop (length block + 1) block ≡ [] = drop_all (length block + 1) block (omega arith) in
+    let front : s ≡ get_or block start 0 ∷ drop (start + 1) block = drop_more block start 0 within in
+    record {
+      later = omega (arith, within);
+      within = omega arith;
+      none = rw line none;
+      first = rw line (ap (λ (t : List ℕ). is_comment (bytes_at start t)) front);
+      comment = λ joining is. rw past (ap (without_breaks joining) (comment_at_end (bytes_at start s) none (rw line at is)));
+      line = λ joining is.
+          rw (past, line) (ap (without_breaks joining) (line_at_end (bytes_at start s) none (rw line at is))
+          ∙ sym (append-nil (without_breaks joining (bytes_at start s))));
+    }
+
+-- the bytes from the first on
+range_first : (block : List ℕ) (at end : ℕ) → at < end → end ≤ length block → range_at block at end ≡ (get_or block at 0, at) ∷ range_at block (at + 1) end
+range_first block at end order within =
+    let size : end - at ≡ suc (end - (at + 1)) = omega (arith, order) in
+    let front = drop_more block at 0 (omega (arith, order, within)) in
+    ap₂ (λ (n : ℕ) (t : List ℕ). bytes_at at (take n t)) size front
+    ∙ ap (λ (k : ℕ). (get_or block at 0, at) ∷ bytes_at k (take (end - (at + 1)) (drop (at + 1) block))) (sym (add-one at))
+
+-- ---- the white space at the front of a line
+
+-- what is read of a line after a break is what is read from there on
+pub record FrontAt (block : List ℕ) (start end at : ℕ) : Type 0 where
+  pub none : HasNoNewline (range_at block at end)
+  pub same : without_breaks true (range_at block start end) ≡ without_breaks true (range_at block at end)
+
+pub front_next : (block : List ℕ) (start end at : ℕ) → at < end → end ≤ length block → FrontAt block start end at → is_white_space (get_or block at 0) ≡ true
+    → FrontAt block start end (at + 1)
+front_next block start end at order within f white =
+    let first = range_first block at end order within in
+    let none = subst HasNoNewline first f.none in
+    record {
+      none = none.1;
+      same = f.same ∙ ap (without_breaks true) first ∙ white_first (get_or block at 0, at) (range_at block (at + 1) end) none.0 white;
+    }
+
+pub front_here : (block : List ℕ) (start end at : ℕ) → at < end → end ≤ length block → FrontAt block start end at → is_white_space (get_or block at 0) ≡ false
+    → without_breaks true (range_at block start end) ≡ range_at block at end
+front_here block start end at order within f white =
+    let first = range_first block at end order within in
+    let none = subst HasNoNewline first f.none in
+    f.same ∙ ap (without_breaks true) first
+    ∙ rw (none.0, white) (ap (λ (t : List PlacedByte). (get_or block at 0, at) ∷ t) (plain_line (range_at block (at + 1) end) none.1)) ∙ sym first
 
 -- ---- all lines
 
--- lines that were taken, and what is left of the block
-pub record KeptTo (block : List ℕ) (start : ℕ) (text : List PlacedByte) : Type 0 where
-  pub lines : List (List PlacedByte)
-  pub go_on : (rest : List (List PlacedByte)) → AreLines (bytes_at start (drop start block)) rest → AreLines (bytes_at 0 block) (lines ++ rest)
-  pub kept : text ≡ kept_of lines
+-- nothing is left after the last line
+pub nothing_left : (block : List ℕ) (start : ℕ) (joining : Bool) → length block ≤ start → left_at block joining start ≡ []
+nothing_left block start joining past = rw (drop_all start block past) refl
 
-pub kept_start : (block : List ℕ) → KeptTo block 0 []
-kept_start block = record { lines = []; go_on = λ rest are. are; kept = refl }
-
-kept-append : (lines : List (List PlacedByte)) (line : List PlacedByte) → kept_of (lines ++ line ∷ []) ≡ kept_of lines ++ kept_of (line ∷ [])
-kept-append lines line =
-    ap (flat_map (λ (l : List PlacedByte). l)) (filter-append (λ l. not (is_comment l)) lines (line ∷ []))
-    ∙ flat_map-append (λ (l : List PlacedByte). l) (filter (λ l. not (is_comment l)) lines) (filter (λ l. not (is_comment l)) (line ∷ []))
-
-one_kept : (text line : List PlacedByte) (b : Bool) → is_comment line ≡ b → cond b text (text ++ line) ≡ text ++ kept_of (line ∷ [])
-one_kept text line true e = rw e (sym (append-nil text))
-one_kept text line false e = rw e (ap (λ (t : List PlacedByte). text ++ t) (sym (append-nil line)))
-
-pub kept_next : (block : List ℕ) (start end : ℕ) (text new : List PlacedByte) → KeptTo block start text → IsLineAt block start end
-    → new ≡ cond (is_comment (range_at block start end)) text (text ++ range_at block start end) → KeptTo block end new
-kept_next block start end text new k at e =
-    let line = range_at block start end in
-    record {
-      lines = k.lines ++ line ∷ [];
-      go_on = λ rest are. subst (λ (lines : List (List PlacedByte)). AreLines (bytes_at 0 block) lines) (sym (append_assoc k.lines (line ∷ []) rest))
-          (k.go_on (line ∷ rest) (at.line rest are));
-      kept = e ∙ one_kept text line (is_comment line) refl ∙ ap (λ (t : List PlacedByte). t ++ kept_of (line ∷ [])) k.kept ∙ sym (kept-append k.lines line);
-    }
-
-pub kept_all : (block : List ℕ) (start : ℕ) (text : List PlacedByte) → KeptTo block start text → length block ≤ start → KeepsLines block text
-kept_all block start text k past =
-    let none : drop start block ≡ [] = drop_all start block past in
-    record {
-      lines = k.lines ++ [];
-      are_lines = k.go_on [] (subst (λ (t : List ℕ). AreLines (bytes_at start t) []) (sym none) no_lines);
-      kept = k.kept ∙ ap kept_of (sym (append-nil k.lines));
-    }
+pub all_read : (block : List ℕ) (start : ℕ) (joining : Bool) (text : List PlacedByte) → length block ≤ start
+    → text ++ left_at block joining start ≡ folded_of block → text ≡ folded_of block
+all_read block start joining text past so =
+    sym (append-nil text) ∙ ap (λ (t : List PlacedByte). text ++ t) (sym (nothing_left block start joining past)) ∙ so

@@ -6,7 +6,6 @@ use Rattle.std.proofs.lemmas.List.{drop_all, drop_more}
 use Rattle.std.proofs.lemmas.List.Elements.{All-append, All-cons, All-head, All-nil, All-tail, All-weaker}
 use Rattle.ti_source.specs.Folding.{AreLines, HasNoNewline, Joins, PlacedByte, is_comment, last_line, last_piece, line_and_rest, no_lines, piece_and_break}
 use Rattle.ti_source.proofs.FoldingLaws.{joins_so}
-use Rattle.lsp_spans.specs.inside.Lines.{KeepsLines}
 use Rattle.lsp_spans.specs.Folding.{FoldsAt, OffsetsLead, OneFoldingAt, bytes_at, kept_of}
 
 -- ---- a text has one list of lines
@@ -122,8 +121,6 @@ offsets_lead block text f = joined_kept (IsOf block) (kept_of f.lines) text f.jo
     (lines_kept (IsOf block) (bytes_at 0 block) f.lines f.are_lines (bytes_of block (length block) 0 (omega arith)))
 
 -- the offsets of a folded text are small
-pub offsets_small : (block : List ℕ) (kept text : List PlacedByte) → KeepsLines block kept → Joins kept text → length block < 2 ^ 63
-    → All (λ (x : PlacedByte). x.1 < 2 ^ 63) text
-offsets_small block kept text k joins small =
-    let folds : FoldsAt block text = record { lines = k.lines; are_lines = k.are_lines; joins = subst (λ (t : List PlacedByte). Joins t text) k.kept joins } in
+pub offsets_small : (block : List ℕ) (text : List PlacedByte) → FoldsAt block text → length block < 2 ^ 63 → All (λ (x : PlacedByte). x.1 < 2 ^ 63) text
+offsets_small block text folds small =
     All-weaker (IsOf block) (λ (x : PlacedByte). x.1 < 2 ^ 63) (λ x is. omega (arith, is.0, small)) text (offsets_lead block text folds)

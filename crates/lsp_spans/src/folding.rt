@@ -1,22 +1,39 @@
 //! The text of a block without its comments and line breaks, each byte with its offset.
-ghost use Rattle.std.specs.Prelude.{◌≡◌, ◌^◌, All, ◌<◌, ◌≤◌, ◌++◌, IfOk, OnOk, length, if◌then◌else◌};
-ghost use Rattle.ti_source.specs.Folding.{Joins, is_blank, is_comment};
-ghost use Rattle.lsp_spans.specs.Folding.{FoldedIsComputed, FoldsAt, OffsetsLead, OneFoldingAt, folded_of};
-ghost use Rattle.lsp_spans.specs.inside.Lines.{IsLineAt, IsRunAt, KeepsLines, range_at};
+ghost use Rattle.std.specs.Prelude.{◌≡◌, ◌^◌, ◌+◌, All, ◌<◌, ◌≤◌, ◌++◌, IfOk, OnOk, length};
+ghost use Rattle.lsp_spans.specs.Folding.{FoldedIsComputed, FoldsAt, OffsetsLead, OneFoldingAt, folded_of, without_breaks};
+ghost use Rattle.lsp_spans.specs.inside.Lines.{IsLineAt, left_at, range_at};
 
 use memchr::memchr;
 use std::alloc::{AllocError, Global};
 use ti_text::is_white_space;
 
-// The offset after the line that begins at `start`.
+// Where the line ends that begins at `start`: at its newline, or at the end of the block.
 fn line_end(block: &[u8], start: usize) -> usize
     requires { start < length block.now }
     ensures { IsLineAt block.now start result }
 {
     match memchr(b'\n', &block[start..]) {
-        Some(at) => start + at + 1,
+        Some(at) => start + at,
         None => block.len(),
     }
+}
+
+// Where a line begins as it is read: after a break, at its first byte that is not white space.
+fn line_front(block: &[u8], start: usize, end: usize, joining: bool) -> usize
+    requires { IsLineAt block.now start end }
+    ensures order { start ≤ result }
+    ensures within { result ≤ end }
+    ensures read { without_breaks joining (range_at block.now start end) ≡ range_at block.now result end }
+{
+    if !joining {
+        return start;
+    }
+    for at in start..end {
+        if !is_white_space(block[at]) {
+            return at;
+        }
+    }
+    end
 }
 
 // Appends the bytes from `start` to before `end`, each with its offset.
@@ -36,72 +53,25 @@ fn push_range(
     Ok(())
 }
 
-// The same of a line, unless it is a comment.
+// Appends what is read of a line, which is after a break if `joining` says so: nothing of a comment.
+// Returns whether the next line is after a break.
 fn push_line(
     text: &mut Vec<(u8, usize)>,
     block: &[u8],
     start: usize,
     end: usize,
-) -> Result<(), AllocError>
-    requires order { start < end }
-    requires within { end ≤ length block.now }
-    ensures { OnOk result (text.new.items ≡ (if is_comment (range_at block.now start end) then text.old.items else text.old.items ++ range_at block.now start end)) }
+    joining: bool,
+) -> Result<bool, AllocError>
+    requires some { start < length block.now }
+    requires line { IsLineAt block.now start end }
+    ensures { IfOk result (λ after. text.new.items ++ left_at block.now after (end + 1) ≡ text.old.items ++ left_at block.now joining start) }
 {
     if block[start] == b'#' {
-        return Ok(());
+        return Ok(joining);
     }
-    push_range(text, block, start, end)
-}
-
-// The bytes of the lines that are not comments.
-fn kept_lines(alloc: Global, block: &[u8]) -> Result<Vec<(u8, usize)>, AllocError>
-    ensures { IfOk result (λ text. KeepsLines block.now text.items) }
-{
-    let mut text = Vec::new(alloc);
-    let mut start = 0;
-    while start < block.len() {
-        let end = line_end(block, start);
-        push_line(&mut text, block, start, end)?;
-        start = end;
-    }
-    Ok(text)
-}
-
-// Whether a line break takes a byte along.
-fn is_blank(byte: u8) -> bool
-    ensures { result ≡ is_blank byte }
-{
-    byte == b'\n' || is_white_space(byte)
-}
-
-// Where the run of blanks ends that begins at `start`.
-fn run_end(text: &[(u8, usize)], start: usize) -> usize
-    requires { start ≤ length text.now }
-    ensures { IsRunAt text.now start result }
-{
-    for at in start..text.len() {
-        if !is_blank(text[at].0) {
-            return at;
-        }
-    }
-    text.len()
-}
-
-// The text without its line breaks.
-fn joined(alloc: Global, text: &[(u8, usize)]) -> Result<Vec<(u8, usize)>, AllocError>
-    ensures { IfOk result (λ all. Joins text.now all.items) }
-{
-    let mut all = Vec::with_capacity(alloc, text.len())?;
-    let mut at = 0;
-    while at < text.len() {
-        if text[at].0 == b'\n' {
-            at = run_end(text, at + 1);
-        } else {
-            all.push(text[at])?;
-            at += 1;
-        }
-    }
-    Ok(all)
+    let front = line_front(block, start, end, joining);
+    push_range(text, block, front, end)?;
+    Ok(true)
 }
 
 /// The text of a block as it is read, each byte with its offset in the block.
@@ -113,8 +83,15 @@ pub fn folded(alloc: Global, block: &[u8]) -> Result<Vec<(u8, usize)>, AllocErro
     ensures offsets { IfOk result (λ text. All (λ x. x.1 < 2 ^ 63) text.items) }
     ensures computed { IfOk result (λ text. text.items ≡ folded_of block.now) }
 {
-    let kept = kept_lines(alloc, block)?;
-    joined(alloc, &kept)
+    let mut text = Vec::with_capacity(alloc, block.len())?;
+    let mut joining = false;
+    let mut start = 0;
+    while start < block.len() {
+        let end = line_end(block, start);
+        joining = push_line(&mut text, block, start, end, joining)?;
+        start = end + 1;
+    }
+    Ok(text)
 }
 
 /// A law, with no code: a block has one folded text, and each byte of it is that of the block at

@@ -1,5 +1,5 @@
 //! The names field and the items, as parts of a folded text.
-ghost use Rattle.std.specs.Prelude.{◌≡◌, ◌^◌, ◌+◌, ◌++◌, ◌<◌, ◌≤◌, All, IfOk, OnOk, drop, length, map, take};
+ghost use Rattle.std.specs.Prelude.{ℕ, ◌≡◌, ◌^◌, ◌+◌, ◌++◌, ◌<◌, ◌≤◌, All, IfOk, OnOk, drop, false, length, map, take};
 ghost use Rattle.ti_text.specs.Ascii as ascii;
 ghost use Rattle.ti_source.specs.Header.{PartsOf};
 ghost use Rattle.ti_source.specs.Items.{AreItems, Begins, bytes, takes};
@@ -40,6 +40,13 @@ fn takes(before: u8, byte: u8, next: u8) -> bool
     byte == b'\\' || (byte == b'^' && before != b'%' && next != b',')
 }
 
+// Whether a byte may take the next one. Few do, so this is asked first.
+fn may_take(byte: u8) -> bool
+    ensures { (before next : ℕ) → result ≡ false → takes before byte next ≡ false }
+{
+    byte == b'\\' || byte == b'^'
+}
+
 // How many bytes an item continues for at the front of a text, which is just after `before`; none
 // at the comma that ends it.
 fn step_len(text: &[(u8, usize)], before: u8) -> usize
@@ -52,7 +59,7 @@ fn step_len(text: &[(u8, usize)], before: u8) -> usize
     if byte == b',' {
         return 0;
     }
-    if text.len() > 1 && takes(before, byte, text[1].0) {
+    if may_take(byte) && text.len() > 1 && takes(before, byte, text[1].0) {
         return 2;
     }
     1

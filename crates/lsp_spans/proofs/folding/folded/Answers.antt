@@ -1,20 +1,20 @@
-use Rattle.std.proofs.Common.{◌≡◌, ◌<◌, ◌^◌, All, List, length, subst, arith}
-use Rattle.std.proofs.lemmas.Result.{IfOk-weaker}
-use Rattle.ti_source.specs.Folding.{Joins, PlacedByte}
-use Rattle.lsp_spans.specs.Folding.{folded_of}
-use Rattle.lsp_spans.proofs.Computing.{only_joined}
+use Rattle.std.proofs.Common.{◌≡◌, subst, sym, arith}
+use Rattle.lsp_spans.specs.Folding.{FoldsAt, folded_of}
+use Rattle.lsp_spans.proofs.Computing.{folded_computed}
+use Rattle.lsp_spans.proofs.Lines.{all_read}
 use Rattle.lsp_spans.proofs.OneFolding.{offsets_small}
 use Rattle.lsp_spans.proofs.folding.folded.Goals as goal
 
+pub returns-clause-text : goal.returns-clause-text
+returns-clause-text c =
+    let l = c.loop-start in
+    let all : l.text.items ≡ folded_of c.args.block.now = all_read c.args.block.now l.start l.joining l.text.items (omega arith) l.invariant in
+    subst (FoldsAt c.args.block.now) (sym all) (folded_computed c.args.block.now)
+
 pub returns-clause-offsets : goal.returns-clause-offsets
-returns-clause-offsets c =
-    let small : length c.args.block.now < 2 ^ 63 = omega arith in
-    IfOk-weaker c.joined.result (λ text. Joins c.deref.result.now text.items) (λ text. All (λ (x : PlacedByte). x.1 < 2 ^ 63) text.items)
-    (λ text joins. offsets_small c.args.block.now c.in_ok-kept.kept.items text.items c.in_ok-kept.ensures
-    (subst (λ (t : List PlacedByte). Joins t text.items) c.deref.ensures.value joins) small) c.joined.ensures
+returns-clause-offsets c = offsets_small c.args.block.now c.loop-start.text.items (returns-clause-text c) (omega arith)
 
 pub returns-clause-computed : goal.returns-clause-computed
 returns-clause-computed c =
-    IfOk-weaker c.joined.result (λ text. Joins c.deref.result.now text.items) (λ text. text.items ≡ folded_of c.args.block.now)
-    (λ text joins. only_joined c.args.block.now c.in_ok-kept.kept.items text.items c.in_ok-kept.ensures
-    (subst (λ (t : List PlacedByte). Joins t text.items) c.deref.ensures.value joins)) c.joined.ensures
+    let l = c.loop-start in
+    all_read c.args.block.now l.start l.joining l.text.items (omega arith) l.invariant

@@ -1,4 +1,4 @@
-use Rattle.std.proofs.Common.{ℕ, List, None, Some, subst}
+use Rattle.std.proofs.Common.{List, ℕ, None, Some, subst}
 use Rattle.memchr.specs.Find.{IsFirstByte, is_byte}
 use Rattle.std.proofs.lemmas.List.{take_rest}
 use Rattle.lsp_spans.proofs.Lines.{last_found, line_found}
