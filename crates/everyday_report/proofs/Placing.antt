@@ -1,8 +1,11 @@
 -- Where the faults of a source are.
-use Rattle.std.proofs.Common.{◌≡◌, ℕ, ◌<◌, ◌≤◌, List, [], ◌∷◌, All, Option, Some, None, map, length, get_or, slice_get, subst}
+use Rattle.std.proofs.Common.{◌≡◌, ℕ, ◌<◌, ◌≤◌, List, [], ◌∷◌, All, Option, Some, None, map, option_map, length, get_or, slice_get, refl, sym, ap, ◌∙◌, subst}
 use Rattle.std.proofs.lemmas.List.Elements.{All-get_or, All-head}
-use Rattle.std.proofs.lemmas.Option.{get_or_from_slice_get}
+use Rattle.std.proofs.lemmas.Option.{get_or_from_slice_get, same_Some, slice_get-map}
 use Rattle.ti_source.specs.Cutting.{OneBlock}
+use Rattle.ti_source.specs.Parsing.{reading_of_text}
+use Rattle.ti_source.specs.Reading.{Reading}
+use Rattle.base_meaning.specs.Owner.{readings}
 use Rattle.user_compiling.specs.Faults.{block_of, fault_seen, line_of}
 use Rattle.user_compiling.specs.Report.{IsExtendedPlaced}
 use Rattle.user_compiling.specs.declared.fault.ExtendedFault.{ExtendedFault}
@@ -32,3 +35,11 @@ line_placed n faults i fault low is placed = placed_line n (fault_seen fault) (A
 -- a text of a database is one block
 pub one_there : (texts : List (List ℕ)) (at : ℕ) (text : List ℕ) → at < length texts → All OneBlock texts → slice_get texts at ≡ Some text → OneBlock text
 one_there texts at text low all stands = subst OneBlock (get_or_from_slice_get texts at text text stands) (All-get_or OneBlock texts at text low all)
+
+-- what was read of the block with a text
+pub read_there : {X : Type 0} (part : Reading → X) (texts : List (List ℕ)) (at : ℕ) (text : List ℕ) (found : X) → slice_get texts at ≡ Some text
+    → option_map part (slice_get (readings texts) at) ≡ Some found → found ≡ part (reading_of_text text)
+read_there part texts at text found is named =
+    let there : slice_get (readings texts) at ≡ Some (reading_of_text text) = rw (slice_get-map reading_of_text texts at, is) refl in
+    let same : Some (part (reading_of_text text)) ≡ Some found = sym (ap (option_map part) there) ∙ named in
+    sym (same_Some (part (reading_of_text text)) found same)

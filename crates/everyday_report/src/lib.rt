@@ -8,9 +8,10 @@
 //! - `report`: the lines (`write_said`, `write_faults`)
 //! - `sentences`: the sentence of each error and warning
 //! - `places`: the column of each fault, at the part of its block that it is of
-//! - `columns`: columns of a text
+//! - `blocks`: a block with what was read of it; `columns`: columns of a text
 #![tactic(auto)]
 
+mod blocks;
 mod columns;
 mod places;
 mod report;

@@ -2,12 +2,13 @@
 ghost use Rattle.std.specs.Prelude.{◌≡◌, IfOk, OnOk, option_map};
 ghost use Rattle.std.specs.Rc.{rc_slice_items};
 ghost use Rattle.lsp_spans.specs.Faulty.{find_sought};
-ghost use Rattle.ti_source.specs.Cutting.{OneBlock};
 ghost use Rattle.user_compiling.specs.Faults.{fault_seen};
 ghost use Rattle.everyday_report.specs.Columns.{column_of};
 ghost use Rattle.everyday_report.specs.Places as spec;
 ghost use Rattle.everyday_report.specs.Places.{column_and_rest, reached_in, sought_of, start_of};
+ghost use Rattle.everyday_report.specs.inside.Blocks.{IsReadBlock};
 
+use crate::blocks::ReadBlock;
 use crate::columns::Columns;
 use lsp_spans::{FaultFinder, Part};
 use std::alloc::{AllocError, Global};
@@ -23,7 +24,7 @@ pub(crate) struct Places<'a> {
     // The position of the block that the last fault was of.
     block: usize,
     columns: Columns<'a>,
-    finder: FaultFinder,
+    finder: FaultFinder<'a>,
 }
 
 impl<'a> Model for Places<'a> {
@@ -45,7 +46,7 @@ pub(crate) fn detail_of(fault: &Fault) -> Option<&[u8]>
 }
 
 // The next part that a fault is of.
-fn next_part(finder: &mut FaultFinder, fault: &ExtendedFault) -> Option<Part>
+fn next_part(finder: &mut FaultFinder<'_>, fault: &ExtendedFault) -> Option<Part>
     ensures { (result, finder.new) ≡ find_sought finder.old (sought_of (fault_seen fault.now)) }
 {
     match fault {
@@ -68,36 +69,31 @@ fn column_of(columns: &mut Columns<'_>, part: Option<Part>) -> usize
 }
 
 impl<'a> Places<'a> {
-    /// Before the first fault of the block at a position, with its text.
+    /// Before the first fault of a block.
     ///
     /// # Errors
     /// Out of memory.
-    pub(crate) fn of(alloc: Global, block: usize, text: &'a [u8]) -> Result<Places<'a>, AllocError>
-        requires { OneBlock text.now }
-        ensures { IfOk result (λ places. places ≡ start_of block text.now) }
+    pub(crate) fn of(alloc: Global, block: &ReadBlock<'a>) -> Result<Places<'a>, AllocError>
+        requires { IsReadBlock block.now }
+        ensures { IfOk result (λ places. places ≡ start_of block.now.at block.now.text.now) }
     {
         Ok(Places {
-            block,
-            columns: Columns::of(text),
-            finder: FaultFinder::of(alloc, text)?,
+            block: block.at,
+            columns: Columns::of(block.text),
+            finder: FaultFinder::of_known(alloc, block.text, block.items, block.faults)?,
         })
     }
 
-    /// Goes to the start of the block at a position, unless the last fault was of that block.
+    /// Goes to the start of a block, unless the last fault was of that block.
     ///
     /// # Errors
     /// Out of memory.
-    pub(crate) fn enter(
-        &mut self,
-        alloc: Global,
-        block: usize,
-        text: &'a [u8],
-    ) -> Result<(), AllocError>
-        requires { OneBlock text.now }
-        ensures { OnOk result (self.new ≡ reached_in block text.now self.old) }
+    pub(crate) fn enter(&mut self, alloc: Global, block: &ReadBlock<'a>) -> Result<(), AllocError>
+        requires { IsReadBlock block.now }
+        ensures { OnOk result (self.new ≡ reached_in block.now.at block.now.text.now self.old) }
     {
-        if self.block != block {
-            *self = Places::of(alloc, block, text)?;
+        if self.block != block.at {
+            *self = Places::of(alloc, block)?;
         }
         Ok(())
     }

@@ -10,9 +10,10 @@ ghost use Rattle.user_compiling.specs.Report.{IsExtendedPlaced};
 ghost use Rattle.everyday_report.specs.Report as spec;
 ghost use Rattle.everyday_report.specs.Places.{column_and_rest, reached_in};
 ghost use Rattle.everyday_report.specs.Report.{fault_line, fault_lines, line_at, place_seen, said};
+ghost use Rattle.everyday_report.specs.inside.Blocks.{IsReadBlock};
 ghost use Rattle.everyday_report.specs.inside.Lines.{said_by};
-ghost use Rattle.ti_source.specs.Cutting.{OneBlock};
 
+use crate::blocks::{ReadBlock, block_at};
 use crate::places::{Places, detail_of};
 use crate::sentences::{BAD_USER_DEFINED, sentence};
 use std::alloc::{AllocError, Global};
@@ -189,26 +190,26 @@ fn write_fault(
     }
 }
 
-// Appends the line of a fault of the block with this text, which begins on the line of that number.
+// Appends the line of a fault of this block, which begins on the line of that number.
 fn write_next<'a>(
     alloc: Global,
     out: &mut Vec<u8>,
     file: &str,
     start: u64,
-    text: &'a [u8],
+    block: &ReadBlock<'a>,
     places: &mut Places<'a>,
     fault: &ExtendedFault,
 ) -> Result<(), AllocError>
-    requires one { OneBlock text.now }
+    requires read { IsReadBlock block.now }
     requires line { 1 ≤ line_of (fault_seen fault.now) }
     requires small { line_of (fault_seen fault.now) ≤ 1048577 }
     requires start { start ≤ 9223372036854775808 + 68719476736 }
     ensures line { OnOk result (out.new.items ≡ out.old.items
         ++ line_at file.now start
-        (column_and_rest (reached_in (block_of (fault_seen fault.now)) text.now places.old) (fault_seen fault.now)).0 (fault_seen fault.now)) }
-    ensures reached { OnOk result (places.new ≡ (column_and_rest (reached_in (block_of (fault_seen fault.now)) text.now places.old) (fault_seen fault.now)).1) }
+        (column_and_rest (reached_in block.now.at block.now.text.now places.old) (fault_seen fault.now)).0 (fault_seen fault.now)) }
+    ensures reached { OnOk result (places.new ≡ (column_and_rest (reached_in block.now.at block.now.text.now places.old) (fault_seen fault.now)).1) }
 {
-    places.enter(alloc, fault.block(), text)?;
+    places.enter(alloc, block)?;
     let line = start + (fault.line() as u64 - 1);
     let column = places.next_column(fault);
     write_fault(alloc, out, Place { file, line, column }, fault)
@@ -233,25 +234,17 @@ pub fn write_faults(
     requires first { first_line ≤ 9223372036854775808 }
     ensures { OnOk result (out.new.items ≡ out.old.items ++ fault_lines file.now database.now first_line count (map fault_seen faults.now)) }
 {
-    database.each_is_one_block();
     let Some(first) = faults.first() else {
         return Ok(());
     };
     let starts = database.line_starts()?;
-    let mut places = Places::of(alloc, first.block(), database.text(first.block()))?;
+    let mut places = Places::of(alloc, &block_at(database, first.block()))?;
     for fault in faults {
         let at = fault.block();
         if at < count {
             let start = first_line + starts[at];
-            write_next(
-                alloc,
-                out,
-                file,
-                start,
-                database.text(at),
-                &mut places,
-                fault,
-            )?;
+            let block = block_at(database, at);
+            write_next(alloc, out, file, start, &block, &mut places, fault)?;
         }
     }
     Ok(())

@@ -4,26 +4,24 @@ use Rattle.base_meaning.specs.Report.{lines_before}
 use Rattle.ti_base.proofs.Counting.{start_read, length_starts}
 use Rattle.user_compiling.specs.Faults.{block_of, fault_seen}
 use Rattle.everyday_report.specs.Report.{is_of_first}
-use Rattle.everyday_report.proofs.Placing.{block_placed, first_placed, line_placed, one_there}
+use Rattle.everyday_report.proofs.Placing.{block_placed, first_placed, line_placed}
 use Rattle.everyday_report.proofs.Writing.{all_said, none_said, passed_in_turn, said_in_turn}
 use Rattle.everyday_report.proofs.report.write_faults.Goals as goal
 use Rattle.everyday_report.proofs.report.write_faults.Goals.{then-at-count+in_ok-write_next, else-at-count}
 
-pub text-requires : goal.text-requires
-text-requires c =
+pub block_at-requires : goal.block_at-requires
+block_at-requires c =
     let placed = first_placed (length c.args.database.now) c.args.faults.now c.in-Some.first.now c.in-Some.ensures.value c.requires.placed in
-    omega (arith, placed, c.block-2.ensures)
+    omega (arith, placed, c.block.ensures)
 
 pub of-requires : goal.of-requires
-of-requires c =
-    let placed = first_placed (length c.args.database.now) c.args.faults.now c.in-Some.first.now c.in-Some.ensures.value c.requires.placed in
-    one_there c.args.database.now c.block-2.result c.text.result.now (omega (arith, placed, c.block-2.ensures)) c.each_is_one_block.ensures c.text.ensures
+of-requires c = c.block_at.ensures.read
 
 pub loop-fault-init : goal.loop-fault-init
 loop-fault-init c =
-    none_said c.args.file.now c.args.database.now c.args.first_line _ c.args.out.now.items c.text.result.now c.in_ok-places.places
-    c.block.result c.block-2.result
-    c.in_ok-places.ensures (c.block.ensures ∙ sym c.block-2.ensures) c.text.ensures
+    none_said c.args.file.now c.args.database.now c.args.first_line _ c.args.out.now.items c.block_at.result.text.now
+    c.in_ok-places.places c.block_at.result.at c.block.result
+    c.in_ok-places.ensures c.block_at.ensures.position c.block_at.ensures.stands
 
 pub index-requires : goal.index-requires
 index-requires c =
@@ -42,18 +40,14 @@ overflow_add-start c =
     let first = c.requires.first in
     omega (arith, small, first)
 
-pub text-requires-then-at-count : goal.text-requires-then-at-count
-text-requires-then-at-count c =
+pub block_at-block-requires : goal.block_at-block-requires
+block_at-block-requires c =
     let placed = block_placed (length c.args.database.now) c.args.faults.now c.loop-fault.fault-index c.fault-item.result (omega arith) c.fault-item.is
     c.requires.placed in
     omega (arith, placed, c.block-at.ensures)
 
-pub write_next-requires-clause-one : goal.write_next-requires-clause-one
-write_next-requires-clause-one c =
-    let placed = block_placed (length c.args.database.now) c.args.faults.now c.loop-fault.fault-index c.fault-item.result (omega arith) c.fault-item.is
-    c.requires.placed in
-    one_there c.args.database.now c.block-at.result c.text-then-at-count.result.now (omega (arith, placed, c.block-at.ensures)) c.each_is_one_block.ensures
-    c.text-then-at-count.ensures
+pub write_next-requires-clause-read : goal.write_next-requires-clause-read
+write_next-requires-clause-read c = c.block_at-block.ensures.read
 
 pub write_next-requires-clause-line : goal.write_next-requires-clause-line
 write_next-requires-clause-line c =
@@ -88,12 +82,15 @@ loop-fault-preserved c =
           ap (λ n. c.args.first_line + n)
           (start_read db c.in_ok-starts.starts.items (length db) at w.index.result.now c.in_ok-starts.ensures.starts (omega (arith, placed, c.block-at.ensures))
           w.index.ensures ∙ ap (lines_before db) c.block-at.ensures) in
-          let stands : slice_get db (block_of fault) ≡ Some w.text-then-at-count.result.now =
-          ap (slice_get db) (sym c.block-at.ensures) ∙ w.text-then-at-count.ensures in
+          let block = w.block_at-block.result in
+          let is_block : block.at ≡ block_of fault = w.block_at-block.ensures.position ∙ c.block-at.ensures in
+          let stands : slice_get db (block_of fault) ≡ Some block.text.now =
+          ap (slice_get db) (sym c.block-at.ensures) ∙ w.block_at-block.ensures.stands in
+          let line = rw is_block at w.in_ok-write_next.ensures.line in
+          let reached = rw is_block at w.in_ok-write_next.ensures.reached in
           said_in_turn fault_seen c.args.file.now db c.args.first_line c.args.count c.args.faults.now c.loop-fault.fault-index c.fault-item.result
-          c.loop-fault.places c.if-at-count.places (c.args.first_line + w.index.result.now) w.text-then-at-count.result.now c.loop-fault.out.items
-          c.if-at-count.out.items _ low c.fault-item.is of_first begins stands (rw w.out-is w.in_ok-write_next.ensures.line)
-          (rw w.places-is w.in_ok-write_next.ensures.reached) c.loop-fault.invariant
+          c.loop-fault.places c.if-at-count.places (c.args.first_line + w.index.result.now) block.text.now c.loop-fault.out.items
+          c.if-at-count.out.items _ low c.fault-item.is of_first begins stands (rw w.out-is line) (rw w.places-is reached) c.loop-fault.invariant
       | else-at-count w ↦
           let of_others : is_of_first c.args.count fault ≡ false =
           ap (λ n. nat_lt n c.args.count) (sym c.block-at.ensures) ∙ le-ltb at c.args.count w.if-at-count.false in
