@@ -8,4 +8,5 @@ pub mod Healing
 pub mod Laws
 pub mod Nearest
 pub mod Pieces
+pub mod Resolving
 pub mod Shown

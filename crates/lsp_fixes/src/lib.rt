@@ -10,6 +10,7 @@
 //! - `giving`: the names that a source can give
 //! - `uses`: what is offered against a use of a name that no block has
 //! - `fixes`: what is offered for the items that a range touches
+//! - `resolving`: which diagnostics of a document a fix resolves
 //! - `laws`: an item that is edited as it is offered has lost its fault, in its block and in the text
 //!   as the client has it then
 #![tactic(auto)]
@@ -22,9 +23,11 @@ mod fixes;
 mod giving;
 pub mod laws;
 mod pieces;
+mod resolving;
 mod texts;
 mod uses;
 
 pub use distances::nearest;
 pub use edits::Advice;
 pub use fixes::{Fix, fixes_of};
+pub use resolving::resolved_by;

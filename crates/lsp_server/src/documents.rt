@@ -293,12 +293,13 @@ pub fn search<D: HeldText>(
 fn ask_current<D: HeldText>(
     alloc: Global,
     client: Client,
-    document: &Opened<D>,
+    document: &mut Opened<D>,
     question: Question<'_>,
 ) -> Result<Option<Reply>, AllocError>
-    ensures { IfOk result (λ reply. option_map reply_view reply ≡ option_map
+    ensures document { OnOk result (open_view D.text_of document.new ≡ open_view D.text_of document.old) }
+    ensures reply { IfOk result (λ reply. option_map reply_view reply ≡ option_map
         (λ document. D.says.answers client document.text document.uri (question_view question.entry))
-        (current_of (Some (open_view D.text_of document.now)))) }
+        (current_of (Some (open_view D.text_of document.old)))) }
 {
     if !document.is_current {
         return Ok(None);
@@ -309,26 +310,26 @@ fn ask_current<D: HeldText>(
 }
 
 /// What comes of a question of a client about a document, or `None` if it is not open, or out of
-/// date.
+/// date. The documents stay as they are, but for what is kept of them.
 ///
 /// # Errors
 /// Out of memory.
 pub fn ask<D: HeldText>(
     alloc: Global,
     client: Client,
-    documents: &[Opened<D>],
+    documents: &mut Vec<Opened<D>>,
     uri: &str,
     question: Question<'_>,
 ) -> Result<Option<Reply>, AllocError>
-    ensures { IfOk result (λ reply. option_map reply_view reply ≡ option_map
+    ensures documents { OnOk result (documents_view D.text_of documents.new.items ≡ documents_view D.text_of documents.old.items) }
+    ensures reply { IfOk result (λ reply. option_map reply_view reply ≡ option_map
         (λ document. D.says.answers client document.text document.uri (question_view question.entry))
-        (current_of (open_at uri.now (documents_view D.text_of documents.now)))) }
+        (current_of (open_at uri.now (documents_view D.text_of documents.old.items)))) }
 {
     match find(documents, uri) {
         None => Ok(None),
         Some(at) => {
-            let document = &documents[at];
-            let reply = ask_current(alloc, client, document, question)?;
+            let reply = ask_current(alloc, client, &mut documents[at], question)?;
             Ok(reply)
         }
     }

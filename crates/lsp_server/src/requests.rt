@@ -1,5 +1,5 @@
 //! Requests, answered by how far the server has come.
-ghost use Rattle.std.specs.Prelude.{◌≡◌, IfOk};
+ghost use Rattle.std.specs.Prelude.{◌≡◌, IfOk, OnOk};
 ghost use Rattle.serde_json.specs.View.{view};
 ghost use Rattle.lsp_messages.specs.Views.{asked_view, question_view};
 ghost use Rattle.lsp_server.specs.Answers.{answer_data};
@@ -45,13 +45,14 @@ fn answer_fresh(alloc: Global, id: &Value, call: &Call<'_>) -> Result<(Phase, Va
 fn answer_about<D: HeldText>(
     alloc: Global,
     client: Client,
-    documents: &[Opened<D>],
+    documents: &mut Vec<Opened<D>>,
     id: &Value,
     uri: &str,
     question: Question<'_>,
 ) -> Result<Value, AllocError>
-    ensures { IfOk result (λ v. view v ≡ answer_data D.says
-        (answered_of (view id.now) client (question_view question.entry) (current_of (open_at uri.now (documents_view D.text_of documents.now))))) }
+    ensures documents { OnOk result (documents_view D.text_of documents.new.items ≡ documents_view D.text_of documents.old.items) }
+    ensures answer { IfOk result (λ v. view v ≡ answer_data D.says
+        (answered_of (view id.now) client (question_view question.entry) (current_of (open_at uri.now (documents_view D.text_of documents.old.items))))) }
 {
     match documents::ask(alloc, client, documents, uri, question)? {
         None => refusal_value(alloc, Some(id), Failure::BadParameters),
@@ -76,12 +77,13 @@ fn found_value<D: HeldText>(
 fn answer_running<D: HeldText>(
     alloc: Global,
     client: Client,
-    documents: &[Opened<D>],
+    documents: &mut Vec<Opened<D>>,
     id: &Value,
     call: &Call<'_>,
 ) -> Result<(Phase, Value), AllocError>
-    ensures { IfOk result (λ r. IsAnswer D.says r
-        (requested_running client (documents_view D.text_of documents.now) (view id.now) (asked_view call.now))) }
+    ensures documents { OnOk result (documents_view D.text_of documents.new.items ≡ documents_view D.text_of documents.old.items) }
+    ensures answer { IfOk result (λ r. IsAnswer D.says r
+        (requested_running client (documents_view D.text_of documents.old.items) (view id.now) (asked_view call.now))) }
 {
     match call {
         Call::Initialize(_) => Ok((
@@ -108,19 +110,21 @@ fn answer_running<D: HeldText>(
     }
 }
 
-/// What becomes of the phase, and the answer to a request.
+/// What becomes of the phase, and the answer to a request. The documents stay as they are, but for
+/// what is kept of them.
 ///
 /// # Errors
 /// Out of memory.
 pub fn answer<D: HeldText>(
     alloc: Global,
-    documents: &[Opened<D>],
+    documents: &mut Vec<Opened<D>>,
     phase: Phase,
     id: &Value,
     call: &Call<'_>,
 ) -> Result<(Phase, Value), AllocError>
-    ensures { IfOk result (λ r. IsAnswer D.says r
-        (requested (documents_view D.text_of documents.now) phase (view id.now) (asked_view call.now))) }
+    ensures documents { OnOk result (documents_view D.text_of documents.new.items ≡ documents_view D.text_of documents.old.items) }
+    ensures answer { IfOk result (λ r. IsAnswer D.says r
+        (requested (documents_view D.text_of documents.old.items) phase (view id.now) (asked_view call.now))) }
 {
     match phase {
         Phase::Fresh => answer_fresh(alloc, id, call),

@@ -124,7 +124,7 @@ impl<D: HeldText + Drop> Server<D> {
             Message::Request { id, call } => {
                 let (phase, answer) = requests::answer(
                     self.alloc,
-                    &self.documents,
+                    &mut self.documents,
                     self.phase,
                     id,
                     call,

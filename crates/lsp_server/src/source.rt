@@ -58,18 +58,20 @@ pub trait HeldText {
         ensures text { OnOk result (text_of self.new ≡ text_of self.old) };
 
     /// What comes of a question of a client about it: the answer, which may have its URI in it, as a
-    /// value of the protocol, or why the question is refused.
+    /// value of the protocol, or why the question is refused. What was found may be kept for the
+    /// next time.
     ///
     /// # Errors
-    /// Out of memory.
+    /// Out of memory. It is not used any more after that.
     fn answer(
-        &self,
+        &mut self,
         alloc: Global,
         client: Client,
         uri: &str,
         question: Question<'_>,
     ) -> Result<Reply, AllocError>
-        ensures { IfOk result (λ reply. reply_view reply ≡ says.answers client (text_of self.now) uri.now (question_view question.entry)) };
+        ensures reply { IfOk result (λ reply. reply_view reply ≡ says.answers client (text_of self.old) uri.now (question_view question.entry)) }
+        ensures text { OnOk result (text_of self.new ≡ text_of self.old) };
 
     /// Adds the symbols of it whose names hold a text, as values of the protocol with its URI.
     ///

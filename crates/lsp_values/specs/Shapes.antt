@@ -144,17 +144,20 @@ text_edit_data text range = object (member (codes "newText") (string text) (memb
 abbrev pub workspace_edit_data : List ℕ → Items → Data
 workspace_edit_data uri edits = object (member (codes "changes") (object (member uri (array edits) no_members)) no_members)
 
--- "CodeAction": a quick fix that makes one edit in one document, preferred or not
-abbrev pub action_data : List ℕ → List ℕ → Range → List ℕ → Bool → Data
-action_data uri title range text false =
-    object (member (codes "edit") (workspace_edit_data uri (item (text_edit_data text range) no_items))
-    (member (codes "kind") (string (codes "quickfix"))
-    (member (codes "title") (string title) no_members)))
-action_data uri title range text true =
-    object (member (codes "edit") (workspace_edit_data uri (item (text_edit_data text range) no_items))
-    (member (codes "isPreferred") (boolean true)
+-- "CodeAction": a quick fix that makes one edit in one document, preferred or not, and the
+-- diagnostics that it resolves
+abbrev pub action_data : List ℕ → List ℕ → Range → List ℕ → Bool → Items → Data
+action_data uri title range text false diagnostics =
+    object (member (codes "diagnostics") (array diagnostics)
+    (member (codes "edit") (workspace_edit_data uri (item (text_edit_data text range) no_items))
     (member (codes "kind") (string (codes "quickfix"))
     (member (codes "title") (string title) no_members))))
+action_data uri title range text true diagnostics =
+    object (member (codes "diagnostics") (array diagnostics)
+    (member (codes "edit") (workspace_edit_data uri (item (text_edit_data text range) no_items))
+    (member (codes "isPreferred") (boolean true)
+    (member (codes "kind") (string (codes "quickfix"))
+    (member (codes "title") (string title) no_members)))))
 
 -- "CompletionItem"; its label is what it is found by, and what is put in place of the range
 abbrev pub item_data : ItemKind → List ℕ → List ℕ → Option (List ℕ) → Range → Data

@@ -146,7 +146,7 @@ fn one_edit_value(alloc: Global, uri: &str, range: Range, text: &str) -> Result<
 }
 
 /// What is offered against a fault ("CodeAction"): a title, a text that is put in the place of a
-/// range, and whether an editor may apply it without a choice.
+/// range, whether an editor may apply it without a choice, and the diagnostics that it resolves.
 ///
 /// # Errors
 /// `AllocError` if memory ran out.
@@ -157,11 +157,15 @@ pub fn action_value(
     range: Range,
     text: &str,
     is_preferred: bool,
+    diagnostics: Vec<Value>,
 ) -> Result<Value, AllocError>
-    ensures { IfOk result (λ v. view v ≡ action_data uri.now title.now range text.now is_preferred) }
+    ensures { IfOk result (λ v. view v
+        ≡ action_data uri.now title.now range text.now is_preferred (items_view diagnostics.items)) }
 {
     let edit = one_edit_value(alloc, uri, range, text)?;
-    let members = with_value(alloc, Map::new(alloc), "edit", edit)?;
+    let diagnostics = Value::Array(diagnostics);
+    let members = with_value(alloc, Map::new(alloc), "diagnostics", diagnostics)?;
+    let members = with_value(alloc, members, "edit", edit)?;
     let members = with_text(alloc, members, "kind", "quickfix")?;
     let members = with_text(alloc, members, "title", title)?;
     if is_preferred {

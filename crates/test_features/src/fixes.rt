@@ -1,7 +1,7 @@
 //! What is offered for parts of documents.
 use crate::documents::document_of;
-use lsp_document::{Capabilities, Document};
-use lsp_fixes::{Advice, Fix, fixes_of};
+use lsp_document::{Capabilities, Diagnostic, Document};
+use lsp_fixes::{Advice, Fix, fixes_of, resolved_by};
 use lsp_types::{Position, Range};
 use std::alloc::{AllocError, Global};
 use std::process::Abort;
@@ -241,6 +241,88 @@ fn no_name_is_offered_for_a_user_defined_one(rt: HostRuntime) -> Result<(), Allo
             range_of(*range),
         )?;
         assert!(rt; are_wanted(&found, wanted));
+    }
+    Ok(())
+}
+
+/// A range, and the diagnostic that the first fix resolves which is offered for it: its label, and
+/// where it is shown.
+type Resolved = (
+    ((usize, usize), (usize, usize)),
+    &'static str,
+    ((usize, usize), (usize, usize)),
+);
+
+#[rattlefmt::skip]
+const RESOLVED: [Resolved; 6] = [
+    (((2, 6), (2, 6)), "W1", ((2, 5), (2, 13))),
+    (((3, 25), (3, 25)), "E6", ((3, 23), (3, 30))),
+    (((5, 1), (5, 1)), "W2", ((5, 1), (5, 8))),
+    (((6, 4), (6, 4)), "W3", ((6, 1), (6, 11))),
+    // the item is on three lines, and shown on the first
+    (((10, 0), (10, 1)), "W1", ((9, 9), (9, 11))),
+    (((12, 1), (12, 1)), "E5", ((12, 1), (12, 6))),
+];
+
+// Whether a fix resolves one of some diagnostics, which has that label and is shown there.
+fn resolves(
+    alloc: Global,
+    document: &Document,
+    all: &[Diagnostic],
+    fix: &Fix,
+    (label, shown): (&str, Range),
+) -> Result<bool, AllocError> {
+    let found = resolved_by(alloc, document, fix, all)?;
+    match found.first() {
+        Some(first) => {
+            let is_shown = first.problem.label() == label && first.range == shown;
+            Ok(found.len() == 1 && is_shown)
+        }
+        None => Ok(false),
+    }
+}
+
+#[test]
+fn what_a_fix_resolves(rt: HostRuntime) -> Result<(), AllocError> {
+    let alloc = rt.alloc();
+    let document = document_of(alloc, SOURCE)?;
+    let all = document.diagnostics(alloc)?;
+    for (range, label, shown) in &RESOLVED {
+        let fixes = fixes_of(alloc, Capabilities::Profile, &document, range_of(*range))?;
+        match fixes.first() {
+            Some(fix) => {
+                let wanted = (*label, range_of(*shown));
+                assert!(rt; resolves(alloc, &document, &all, fix, wanted)?);
+            }
+            None => assert!(rt; false),
+        }
+    }
+    Ok(())
+}
+
+// Whether each fix that is offered for a range resolves one diagnostic.
+fn resolve_one(
+    alloc: Global,
+    document: &Document,
+    all: &[Diagnostic],
+    range: Range,
+) -> Result<bool, AllocError> {
+    let fixes = fixes_of(alloc, Capabilities::Profile, document, range)?;
+    for fix in &fixes {
+        if resolved_by(alloc, document, fix, all)?.len() != 1 {
+            return Ok(false);
+        }
+    }
+    Ok(true)
+}
+
+#[test]
+fn each_fix_resolves_one_diagnostic(rt: HostRuntime) -> Result<(), AllocError> {
+    let alloc = rt.alloc();
+    for (source, (range, _)) in &CASES {
+        let document = document_of(alloc, source)?;
+        let all = document.diagnostics(alloc)?;
+        assert!(rt; resolve_one(alloc, &document, &all, range_of(*range))?);
     }
     Ok(())
 }

@@ -92,7 +92,7 @@ impl HeldText for Measured {
     }
 
     fn answer(
-        &self,
+        &mut self,
         alloc: Global,
         client: Client,
         uri: &str,

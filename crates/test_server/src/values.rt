@@ -117,10 +117,10 @@ const EDITS_TEXT: &str =
     r#"{"changes":{"file:///a":[{"newText":"vt","range":{"end":{"character":0,"line":3},"start":{"character":1,"line":2}}}]}}"#;
 
 const ACTION_TEXT: &str =
-    r#"{"edit":{"changes":{"u":[{"newText":"am","range":{"end":{"character":0,"line":3},"start":{"character":1,"line":2}}}]}},"kind":"quickfix","title":"T"}"#;
+    r#"{"diagnostics":[],"edit":{"changes":{"u":[{"newText":"am","range":{"end":{"character":0,"line":3},"start":{"character":1,"line":2}}}]}},"kind":"quickfix","title":"T"}"#;
 
 const PREFERRED_TEXT: &str =
-    r#"{"edit":{"changes":{"u":[{"newText":"am","range":{"end":{"character":0,"line":3},"start":{"character":1,"line":2}}}]}},"isPreferred":true,"kind":"quickfix","title":"T"}"#;
+    r#"{"diagnostics":[{"code":"E3","message":"m","range":{"end":{"character":0,"line":3},"start":{"character":1,"line":2}},"severity":1,"source":"ti"}],"edit":{"changes":{"u":[{"newText":"am","range":{"end":{"character":0,"line":3},"start":{"character":1,"line":2}}}]}},"isPreferred":true,"kind":"quickfix","title":"T"}"#;
 
 #[test]
 fn edits(rt: HostRuntime) -> Result<(), Fail> {
@@ -128,9 +128,11 @@ fn edits(rt: HostRuntime) -> Result<(), Fail> {
     let edit = text_edit_value(alloc, "vt", RANGE)?;
     let edits = workspace_edit_value(alloc, "file:///a", Vec::from_array(alloc, [edit])?)?;
     assert!(rt; edits.to_string(alloc)?.as_str() == EDITS_TEXT);
-    let action = action_value(alloc, "u", "T", RANGE, "am", false)?;
+    let action = action_value(alloc, "u", "T", RANGE, "am", false, Vec::new(alloc))?;
     assert!(rt; action.to_string(alloc)?.as_str() == ACTION_TEXT);
-    let action = action_value(alloc, "u", "T", RANGE, "am", true)?;
+    let resolved = diagnostic_value(alloc, RANGE, Severity::Error, "E3", "m")?;
+    let resolved = Vec::from_array(alloc, [resolved])?;
+    let action = action_value(alloc, "u", "T", RANGE, "am", true, resolved)?;
     assert!(rt; action.to_string(alloc)?.as_str() == PREFERRED_TEXT);
     Ok(())
 }

@@ -12,7 +12,6 @@ use Rattle.lsp_blocks.specs.Symbols.{SymbolSeen, symbols_of}
 use Rattle.lsp_features.specs.Completions.{CompletionSeen, OffersSeen, completion_of, offers_capabilities, offers_names}
 use Rattle.lsp_features.specs.Formatting.{layout_of}
 use Rattle.lsp_features.specs.Hovers.{hover_of}
-use Rattle.lsp_fixes.specs.Fixes.{fixes_of}
 use Rattle.lsp_format.specs.Folds.{folds_of}
 use Rattle.ti_lsp.specs.Fixes.{fixes_data}
 use Rattle.lsp_features.specs.Names.{definition_of, references_of}
@@ -88,7 +87,7 @@ answer_of client text uri folding = said_answer (folds_data (folds_of text))
 answer_of client text uri formatting = said_answer (layout_data (layout_of text))
 answer_of client text uri (rename place name) = renamed_said uri name (renaming_of text place name)
 answer_of client text uri (prepare_rename place) = said_answer (renamable_data (renamable_at text place))
-answer_of client text uri (fixes range wanted) = said_answer (fixes_data uri wanted (fixes_of (capabilities_of client) text range))
+answer_of client text uri (fixes range wanted) = said_answer (fixes_data (capabilities_of client) text uri range wanted)
 
 abbrev pub sayings : Sayings
 sayings = record { diagnostics = shown_of; answers = answer_of; symbols = searched }

@@ -1,12 +1,17 @@
 -- What is offered against a fault, as the server says it (own; LSP 3.17, "Code Action Request").
 use Rattle.std.specs.Prelude.{ℕ, Bool, false, true, List, [], ◌++◌, codes, map, if◌then◌else◌}
-use Rattle.serde_json.specs.Data.{Data, array}
+use Rattle.serde_json.specs.Data.{Data, Items, array}
 use Rattle.serde_json.specs.View.{items_of}
 use Rattle.ti_caps.specs.declared.capability.Kind.{Kind}
 use Rattle.ti_caps.specs.declared.capability.Kind.TheVariants.{Flag, Number, Text}
 use Rattle.lsp_values.specs.Shapes.{action_data}
 use Rattle.lsp_fixes.specs.Edits.{AdviceSeen, advises_name, advises_sign, advises_spelling, advises_caret}
-use Rattle.lsp_fixes.specs.Fixes.{FixSeen}
+use Rattle.lsp_document.specs.Diagnostics.{Shown, diagnostics_by}
+use Rattle.lsp_document.specs.declared.capabilities.Capabilities.{Capabilities}
+use Rattle.lsp_fixes.specs.Fixes.{FixSeen, fixes_of}
+use Rattle.lsp_fixes.specs.Resolving.{resolved_by}
+use Rattle.lsp_types.specs.declared.places.Range.{Range}
+use Rattle.ti_lsp.specs.Shown.{shown_data}
 
 -- the title of a fix that writes the sign of a kind
 abbrev pub sign_title : Kind → List ℕ
@@ -29,10 +34,22 @@ is_certain (advises_sign kind) = true
 is_certain advises_spelling = true
 is_certain advises_caret = true
 
--- a fix of the document of that URI; an editor may prefer one that is certain
-abbrev pub fix_shown : List ℕ → FixSeen → Data
-fix_shown uri fix = action_data uri (advice_title fix.advice fix.text) fix.range fix.text (is_certain fix.advice)
+-- those of the diagnostics of a text that a fix resolves, as they are published
+abbrev pub resolved_shown : List ℕ → List Shown → FixSeen → Items
+resolved_shown text all fix = items_of (map shown_data (resolved_by text fix all))
 
--- the fixes of the document of that URI, if they are asked for
-abbrev pub fixes_data : List ℕ → Bool → List FixSeen → Data
-fixes_data uri wanted fixes = array (items_of (if wanted then map (fix_shown uri) fixes else []))
+-- a fix of a text, which is that of the document of that URI and has these diagnostics; an editor may
+-- prefer one that is certain
+abbrev pub fix_shown : List ℕ → List ℕ → List Shown → FixSeen → Data
+fix_shown text uri all fix =
+    action_data uri (advice_title fix.advice fix.text) fix.range fix.text (is_certain fix.advice) (resolved_shown text all fix)
+
+-- some fixes of it
+abbrev pub fixes_shown : List ℕ → List ℕ → List Shown → List FixSeen → List Data
+fixes_shown text uri all fixes = map (fix_shown text uri all) fixes
+
+-- the fixes for a range of a text that may have these capabilities, which is that of the document of
+-- that URI, if they are asked for
+abbrev pub fixes_data : Capabilities → List ℕ → List ℕ → Range → Bool → Data
+fixes_data capabilities text uri range wanted =
+    array (items_of (if wanted then fixes_shown text uri (diagnostics_by capabilities text) (fixes_of capabilities text range) else []))

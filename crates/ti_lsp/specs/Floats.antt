@@ -1,9 +1,11 @@
 -- No diagnostic and no answer has a float.
 use Rattle.std.specs.Prelude.{ℕ, ◌≡◌, Bool, cond, List, [], ◌∷◌, ◌++◌, false, true, Option, None, Some, map, refl}
+use Rattle.serde_json.specs.Data.{Items}
 use Rattle.serde_json.specs.View.{items_of}
 use Rattle.serde_json.specs.Written.{has_float, items_have_float}
 use Rattle.ti_caps.specs.Tables.{Capability, name_of}
 use Rattle.lsp_document.specs.Diagnostics.{Shown, diagnostics_by}
+use Rattle.lsp_document.specs.declared.capabilities.Capabilities.{Capabilities}
 use Rattle.lsp_blocks.specs.Symbols.{SymbolSeen, symbols_of}
 use Rattle.lsp_features.specs.Completions.{CompletionSeen, OffersSeen, completion_of, offers_capabilities, offers_names}
 use Rattle.lsp_features.specs.Formatting.{LayoutSeen, layout_of}
@@ -11,9 +13,10 @@ use Rattle.lsp_features.specs.Hovers.{HoverSeen, hover_of}
 use Rattle.lsp_features.specs.Names.{definition_of, references_of}
 use Rattle.lsp_features.specs.Renaming.{RenamingSeen, refuses, renamable_at, renames, renames_nothing, renaming_of}
 use Rattle.lsp_fixes.specs.Fixes.{FixSeen, fixes_of}
+use Rattle.lsp_fixes.specs.Resolving.{resolved_by}
 use Rattle.lsp_format.specs.Folds.{folds_of}
 use Rattle.lsp_format.specs.declared.folding.Fold.{Fold}
-use Rattle.ti_lsp.specs.Fixes.{advice_title, fix_shown, fixes_data, is_certain}
+use Rattle.ti_lsp.specs.Fixes.{advice_title, fixes_data, fixes_shown, is_certain, resolved_shown}
 use Rattle.lsp_messages.specs.Messages.{Query, completion, hover, definition, references, symbols, highlights, folding, formatting, rename, prepare_rename, fixes}
 use Rattle.lsp_values.specs.Shapes.{action_data, folding_data, highlight_data, location_data, symbol_information_data, text_edit_data}
 use Rattle.lsp_messages.specs.declared.clients.Client.{Client}
@@ -99,17 +102,21 @@ none_in_renamable : (found : Option Range) → has_float (renamable_data found) 
 none_in_renamable None = refl
 none_in_renamable (Some range) = refl
 
-none_in_action : (uri title : List ℕ) (range : Range) (text : List ℕ) (is_preferred : Bool) → has_float (action_data uri title range text is_preferred) ≡ false
-none_in_action uri title range text true = refl
-none_in_action uri title range text false = refl
+none_in_action : (uri title : List ℕ) (range : Range) (text : List ℕ) (is_preferred : Bool) (diagnostics : Items) → items_have_float diagnostics ≡ false
+    → has_float (action_data uri title range text is_preferred diagnostics) ≡ false
+none_in_action uri title range text true diagnostics none = rw none refl
+none_in_action uri title range text false diagnostics none = rw none refl
 
-none_in_fixes : (uri : List ℕ) (all : List FixSeen) → items_have_float (items_of (map (fix_shown uri) all)) ≡ false
-none_in_fixes uri [] = refl
-none_in_fixes uri (fix ∷ all) = rw (none_in_action uri (advice_title fix.advice fix.text) fix.range fix.text (is_certain fix.advice)) (none_in_fixes uri all)
+none_in_fixes : (text uri : List ℕ) (all : List Shown) (offered : List FixSeen) → items_have_float (items_of (fixes_shown text uri all offered)) ≡ false
+none_in_fixes text uri all [] = refl
+none_in_fixes text uri all (fix ∷ offered) =
+    rw (none_in_action uri (advice_title fix.advice fix.text) fix.range fix.text (is_certain fix.advice) (resolved_shown text all fix)
+    (none_in (resolved_by text fix all))) (none_in_fixes text uri all offered)
 
-none_in_wanted : (uri : List ℕ) (wanted : Bool) (all : List FixSeen) → has_float (fixes_data uri wanted all) ≡ false
-none_in_wanted uri true all = none_in_fixes uri all
-none_in_wanted uri false all = refl
+none_in_wanted : (capabilities : Capabilities) (text uri : List ℕ) (range : Range) (wanted : Bool)
+    → has_float (fixes_data capabilities text uri range wanted) ≡ false
+none_in_wanted capabilities text uri range true = none_in_fixes text uri (diagnostics_by capabilities text) (fixes_of capabilities text range)
+none_in_wanted capabilities text uri range false = refl
 
 answers_have_no_floats : (client : Client) (text uri : List ℕ) (query : Query) → SaidHasNoFloat (answer_of client text uri query)
 answers_have_no_floats client text uri (completion place) = none_in_completion (completion_of text place)
@@ -122,7 +129,7 @@ answers_have_no_floats client text uri folding = none_in_folds (folds_of text)
 answers_have_no_floats client text uri formatting = none_in_layout (layout_of text)
 answers_have_no_floats client text uri (rename place name) = none_in_renaming uri name (renaming_of text place name)
 answers_have_no_floats client text uri (prepare_rename place) = none_in_renamable (renamable_at text place)
-answers_have_no_floats client text uri (fixes range wanted) = none_in_wanted uri wanted (fixes_of (capabilities_of client) text range)
+answers_have_no_floats client text uri (fixes range wanted) = none_in_wanted (capabilities_of client) text uri range wanted
 
 none_in_found : (uri held : List ℕ) (all : List SymbolSeen) → items_have_float (items_of (symbols_found uri held all)) ≡ false
 none_in_found uri held [] = refl

@@ -1,14 +1,18 @@
 //! What is offered against faults, as values of the protocol.
-ghost use Rattle.std.specs.Prelude.{◌≡◌, IfOk, map};
+ghost use Rattle.std.specs.Prelude.{◌≡◌, IfOk, OnOk, map};
 ghost use Rattle.std.specs.String.{string_bytes};
 ghost use Rattle.serde_json.specs.View.{view};
+ghost use Rattle.lsp_document.specs.Diagnostics.{diagnostic_seen, diagnostics_by};
 ghost use Rattle.lsp_fixes.specs.Edits.{advice_seen};
 ghost use Rattle.lsp_fixes.specs.Fixes as offered;
 ghost use Rattle.lsp_fixes.specs.Fixes.{fix_seen};
-ghost use Rattle.ti_lsp.specs.Fixes.{advice_title, fix_shown, fixes_data, is_certain, sign_title};
+ghost use Rattle.lsp_fixes.specs.Resolving as resolving;
+ghost use Rattle.ti_lsp.specs.Fixes.{advice_title, fix_shown, fixes_data, fixes_shown, is_certain, sign_title};
+ghost use Rattle.ti_lsp.specs.Shown.{shown_data};
 
-use lsp_document::{Capabilities, Document};
-use lsp_fixes::{Advice, Fix, fixes_of};
+use crate::showing::value_of;
+use lsp_document::{Capabilities, Diagnostic, Document};
+use lsp_fixes::{Advice, Fix, fixes_of, resolved_by};
 use lsp_types::Range;
 use lsp_values::answers::action_value;
 use serde_json::Value;
@@ -53,39 +57,95 @@ fn is_certain(advice: &Advice) -> bool
     }
 }
 
-// A fix of the document of that URI.
-fn fix_value(alloc: Global, uri: &str, fix: &Fix) -> Result<Value, AllocError>
-    ensures { IfOk result (λ v. view v ≡ fix_shown uri.now (fix_seen fix.now)) }
-{
-    let text = fix.text.as_str();
-    let title = advice_title(alloc, &fix.advice, text)?;
-    let is_preferred = is_certain(&fix.advice);
-    action_value(alloc, uri, title.as_str(), fix.range, text, is_preferred)
-}
-
-// Fixes of the document of that URI.
-fn fix_values(alloc: Global, uri: &str, all: &[Fix]) -> Result<Vec<Value>, AllocError>
-    ensures { IfOk result (λ values. map view values.items ≡ map (λ fix. fix_shown uri.now (fix_seen fix)) all.now) }
+// Those of some diagnostics that are resolved, as values of the protocol.
+fn resolved_values(alloc: Global, all: &[&Diagnostic]) -> Result<Vec<Value>, AllocError>
+    ensures { IfOk result (λ values. map view values.items ≡ map shown_data (map (λ d. diagnostic_seen d.now) all.now)) }
 {
     let mut values = Vec::new(alloc);
-    for fix in all {
-        values.push(fix_value(alloc, uri, fix)?)?;
+    for shown in all {
+        values.push(value_of(alloc, shown)?)?;
     }
     Ok(values)
 }
 
-// What is offered for a part of a source.
+// Those of some diagnostics that a fix of a source resolves, as values of the protocol.
+fn resolved(
+    alloc: Global,
+    document: &Document,
+    fix: &Fix,
+    all: &[Diagnostic],
+) -> Result<Vec<Value>, AllocError>
+    ensures { IfOk result (λ values. map view values.items
+        ≡ map shown_data (resolving.resolved_by document.now (fix_seen fix.now) (map diagnostic_seen all.now))) }
+{
+    let found = resolved_by(alloc, document, fix, all)?;
+    let values = resolved_values(alloc, &found)?;
+    Ok(values)
+}
+
+// A fix of the document of that URI, which has these diagnostics.
+fn fix_value(
+    alloc: Global,
+    document: &Document,
+    uri: &str,
+    all: &[Diagnostic],
+    fix: &Fix,
+) -> Result<Value, AllocError>
+    ensures { IfOk result (λ v. view v ≡ fix_shown document.now uri.now (map diagnostic_seen all.now) (fix_seen fix.now)) }
+{
+    let text = fix.text.as_str();
+    let title = advice_title(alloc, &fix.advice, text)?;
+    let title = title.as_str();
+    let is_preferred = is_certain(&fix.advice);
+    let diagnostics = resolved(alloc, document, fix, all)?;
+    action_value(
+        alloc,
+        uri,
+        title,
+        fix.range,
+        text,
+        is_preferred,
+        diagnostics,
+    )
+}
+
+// Fixes of the document of that URI, which has these diagnostics.
+fn fix_values(
+    alloc: Global,
+    document: &Document,
+    uri: &str,
+    all: &[Diagnostic],
+    fixes: &[Fix],
+) -> Result<Vec<Value>, AllocError>
+    ensures { IfOk result (λ values. map view values.items
+        ≡ fixes_shown document.now uri.now (map diagnostic_seen all.now) (map fix_seen fixes.now)) }
+{
+    let mut values = Vec::new(alloc);
+    for fix in fixes {
+        values.push(fix_value(alloc, document, uri, all, fix)?)?;
+    }
+    Ok(values)
+}
+
+// What is offered for a part of a source. Its diagnostics are found only if something is.
 fn fixes_in(
     alloc: Global,
     capabilities: Capabilities,
-    document: &Document,
+    document: &mut Document,
     uri: &str,
     range: Range,
 ) -> Result<Vec<Value>, AllocError>
-    ensures { IfOk result (λ values. map view values.items ≡ map (fix_shown uri.now) (offered.fixes_of capabilities document.now range)) }
+    ensures values { IfOk result (λ values. map view values.items
+        ≡ fixes_shown document.old uri.now (diagnostics_by capabilities document.old) (offered.fixes_of capabilities document.old range)) }
+    ensures text { OnOk result (document.new ≡ document.old) }
 {
-    let all = fixes_of(alloc, capabilities, document, range)?;
-    fix_values(alloc, uri, &all)
+    let fixes = fixes_of(alloc, capabilities, document, range)?;
+    if fixes.is_empty() {
+        return Ok(Vec::new(alloc));
+    }
+    let all = document.diagnostics_by(alloc, capabilities)?;
+    let values = fix_values(alloc, document, uri, &all, &fixes)?;
+    Ok(values)
 }
 
 /// What is offered against the faults of a part of a source, which may have these capabilities, if
@@ -96,12 +156,13 @@ fn fixes_in(
 pub fn fixes(
     alloc: Global,
     capabilities: Capabilities,
-    document: &Document,
+    document: &mut Document,
     uri: &str,
     range: Range,
     wanted: bool,
 ) -> Result<Value, AllocError>
-    ensures { IfOk result (λ v. view v ≡ fixes_data uri.now wanted (offered.fixes_of capabilities document.now range)) }
+    ensures value { IfOk result (λ v. view v ≡ fixes_data capabilities document.old uri.now range wanted) }
+    ensures text { OnOk result (document.new ≡ document.old) }
 {
     if !wanted {
         return Ok(Value::Array(Vec::new(alloc)));

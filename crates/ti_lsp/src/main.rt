@@ -4,7 +4,7 @@
 //! - `terminfo`: a source as the server holds and shows it; `answering` answers questions about it,
 //!   `offers` has the capabilities as a completion offers them, `hovering` says what a place is on,
 //!   `laying` lays out and folds, `renaming` renames, `searching` finds entries by parts of their
-//!   names, and `fixing` says what is offered against faults
+//!   names, `fixing` says what is offered against faults, and `showing` writes diagnostics
 #![tactic(auto)]
 
 mod answering;
@@ -15,6 +15,7 @@ mod laying;
 mod offers;
 mod renaming;
 mod searching;
+mod showing;
 mod terminfo;
 
 use crate::command::{Task, asked};

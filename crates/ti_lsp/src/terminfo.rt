@@ -1,8 +1,6 @@
 //! A terminfo source as the server holds and shows it.
-ghost use Rattle.std.specs.Prelude.{◌≡◌, IfOk, map};
-ghost use Rattle.serde_json.specs.View.{view};
-ghost use Rattle.lsp_document.specs.Diagnostics.{diagnostic_seen};
-ghost use Rattle.ti_lsp.specs.Shown.{capabilities_of, shown_data};
+ghost use Rattle.std.specs.Prelude.{◌≡◌};
+ghost use Rattle.ti_lsp.specs.Shown.{capabilities_of};
 
 use crate::answering::{completion, definition, highlights, outline, references};
 use crate::fixing::fixes;
@@ -10,13 +8,13 @@ use crate::hovering::hover;
 use crate::laying::{folds, layout};
 use crate::renaming::{renamable, renamed};
 use crate::searching::search;
-use lsp_document::{Capabilities, Diagnostic, Document};
+use crate::showing::values_of;
+use lsp_document::{Capabilities, Document};
 use lsp_messages::{Client, Question};
 use lsp_places::offset_of;
 use lsp_server::HeldText;
 use lsp_types::Position;
 use lsp_values::Reply;
-use lsp_values::writing::diagnostic_value;
 use serde_json::Value;
 use std::alloc::{AllocError, Global};
 
@@ -24,26 +22,6 @@ use std::alloc::{AllocError, Global};
 #[derive(Drop)]
 pub struct Terminfo {
     document: Document,
-}
-
-// A diagnostic as a value of the protocol.
-fn value_of(alloc: Global, shown: &Diagnostic) -> Result<Value, AllocError>
-    ensures { IfOk result (λ v. view v ≡ shown_data (diagnostic_seen shown.now)) }
-{
-    let severity = shown.problem.severity();
-    let label = shown.problem.label();
-    diagnostic_value(alloc, shown.range, severity, label, shown.message.as_str())
-}
-
-// Diagnostics as values of the protocol.
-fn values_of(alloc: Global, all: &[Diagnostic]) -> Result<Vec<Value>, AllocError>
-    ensures { IfOk result (λ values. map view values.items ≡ map (λ d. shown_data (diagnostic_seen d)) all.now) }
-{
-    let mut values = Vec::new(alloc);
-    for shown in all {
-        values.push(value_of(alloc, shown)?)?;
-    }
-    Ok(values)
 }
 
 // Which capabilities a source of a client may have.
@@ -96,7 +74,7 @@ impl HeldText for Terminfo {
     }
 
     fn answer(
-        &self,
+        &mut self,
         alloc: Global,
         client: Client,
         uri: &str,
@@ -121,7 +99,7 @@ impl HeldText for Terminfo {
             Question::Fixes { range, wanted } => fixes(
                 alloc,
                 capabilities_of(client),
-                &self.document,
+                &mut self.document,
                 uri,
                 range,
                 wanted,

@@ -2,7 +2,7 @@
 
 import re
 
-from .answers import blocks_with_lines, fold_at, is_name, items_in, range_in, span_of, use_in
+from .answers import blocks_with_lines, fold_at, is_name, items_in, place_in, range_in, span_of, use_in
 from .base import Meaning
 from .caps import FIND, FLAG, KINDS, NAMES_OF, NUMBER, TEXT
 from .listing import written
@@ -96,7 +96,8 @@ def used(folded, where, part, names, owners):
 
 
 def offered(block, at, owners, start, stop):
-    """What is offered for the items of a block that a stretch of it touches: titles, parts, texts."""
+    """What is offered for the items of a block that a stretch of it touches: where each item begins,
+    the codes of its fault, and the titles, parts and texts."""
     folded, where = fold_at(block)
     codes = {ordinal: fault.code for ordinal, fault in read(block).faults}
     values = {item.ordinal: item.value for item in read(block).items}
@@ -105,16 +106,25 @@ def offered(block, at, owners, start, stop):
         span, code = span_of(where, *part), codes.get(ordinal)
         if span is None or stop < span[0] or span[1] < start:
             continue
+        own = []
         if code == "W1":
-            found += known(folded, where, *part)
+            own = known(folded, where, *part)
         elif code == "W2":
-            found += signed(folded, where, *part)
+            own = signed(folded, where, *part)
         elif code == "W3":
-            found += spelled(folded, where, *part, values[ordinal])
+            own = spelled(folded, where, *part, values[ordinal])
         elif code == "E5":
-            found += escaped(folded, where, *part)
-        found += used(folded, where, use_in(folded, *part), others, owners)
+            own = escaped(folded, where, *part)
+        found += [(span[0], code, *each) for each in own]
+        found += [(span[0], "E6", *each) for each in used(folded, where, use_in(folded, *part), others, owners)]
     return found
+
+
+def diagnostic(mark):
+    """A diagnostic as it is sent."""
+    line, start, end, severity, code, message = mark
+    shown = {"start": {"line": line, "character": start}, "end": {"line": line, "character": end}}
+    return {"range": shown, "severity": severity, "code": code, "source": "ti", "message": message}
 
 
 def offset_in(text, line, column):
@@ -127,19 +137,23 @@ def is_place(block, offset):
     return block[offset - 1 : offset + 1] != b"\r\n"
 
 
-def fixes_of(text, uri, start, end):
-    """The quick fixes for a range of a text: of the block in which it begins."""
+def fixes_of(text, uri, start, end, marks):
+    """The quick fixes for a range of a text: of the block in which it begins, each with the
+    diagnostic of its fault, which is one of `marks`."""
     first, held, found = offset_in(text, *start), blocks_with_lines(text), []
     owners = Meaning([block for block, _, _ in held]).owners
     for at, (block, line, front) in enumerate(held):
         if front <= first < front + len(block):
             # an end before the block is in its first line
             stop = offset_in(block.decode("utf-8"), max(0, end[0] - line), end[1])
-            for title, span, new in offered(block, at, owners, first - front, stop):
+            for item, code, title, span, new in offered(block, at, owners, first - front, stop):
                 if not all(is_place(block, offset) for offset in span):
                     continue
                 edit = {"newText": new, "range": range_in(block, line, *span)}
-                action = {"edit": {"changes": {uri: [edit]}}, "kind": "quickfix", "title": title}
+                place = place_in(block, line, item)
+                key = place["line"], place["character"], code
+                resolved = [diagnostic(mark) for mark in marks if (mark[0], mark[1], mark[4]) == key]
+                action = {"edit": {"changes": {uri: [edit]}}, "kind": "quickfix", "title": title, "diagnostics": resolved}
                 # another name is a guess; each other fix is the only one of its fault
                 found.append(action if title.startswith("Replace `") else {**action, "isPreferred": True})
     return found

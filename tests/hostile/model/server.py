@@ -232,7 +232,7 @@ def answer_of(nests, method, text, uri, place, more):
     if method == "textDocument/hover":
         return hover_of(text, place)
     if method == "textDocument/codeAction":
-        return fixes_of(text, uri, *place) if more else []
+        return fixes_of(text, uri, *place, diagnostics_of(text)) if more else []
     if method == "textDocument/foldingRange":
         return folds_of(text)
     if method == "textDocument/formatting":

@@ -2,7 +2,7 @@ use Rattle.std.proofs.Common.{◌≡◌, map, take}
 use Rattle.serde_json.specs.View.{view}
 use Rattle.lsp_document.specs.Diagnostics.{diagnostic_seen}
 use Rattle.ti_lsp.specs.Shown.{shown_data}
-use Rattle.ti_lsp.proofs.terminfo.values_of.Given as goal
+use Rattle.ti_lsp.proofs.showing.values_of.Given as goal
 
 -- the values so far
 abbrev pub invariant-loop-shown : goal.invariant-loop-shown
