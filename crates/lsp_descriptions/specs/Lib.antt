@@ -2,3 +2,5 @@
 pub mod Rows
 pub mod Descriptions
 pub mod Words
+pub mod UserRows
+pub mod UserDescriptions

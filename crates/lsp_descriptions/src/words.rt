@@ -32,7 +32,7 @@ pub fn detail_of(alloc: Global, cap: Cap) -> Result<String, AllocError>
 }
 
 // The parameters of a string on a line of their own, or nothing.
-fn parameters_text(alloc: Global, parameters: &str) -> Result<String, AllocError>
+pub(crate) fn parameters_text(alloc: Global, parameters: &str) -> Result<String, AllocError>
     ensures { IfOk result (λ text. string_bytes text ≡ parameters_text parameters.now) }
 {
     if parameters.is_empty() {
@@ -43,7 +43,7 @@ fn parameters_text(alloc: Global, parameters: &str) -> Result<String, AllocError
 }
 
 // A sentence with its full stop, and what comes after it.
-fn after_stop(alloc: Global, sentence: &str, after: &str) -> Result<String, AllocError>
+pub(crate) fn after_stop(alloc: Global, sentence: &str, after: &str) -> Result<String, AllocError>
     ensures { IfOk result (λ text. string_bytes text ≡ sentence.now ++ codes "." ++ after.now) }
 {
     format!(in alloc; "{sentence}.{after}")
