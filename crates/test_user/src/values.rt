@@ -4,7 +4,7 @@ use std::fmt::Write;
 use std::test::Fail;
 use ti_base::Database;
 use ti_layout::Value;
-use user_values::{UserTable, UserTables, ValuesError};
+use user_values::{UserTable, UserTables, ValuesError, count_names};
 
 // Bytes as characters.
 fn say_name(said: &mut String, name: &[u8]) -> Result<(), AllocError> {
@@ -166,6 +166,14 @@ fn has_too_many(alloc: Global, more: &str) -> Result<bool, Fail> {
 fn a_source_has_at_most_1024_names(rt: HostRuntime) -> Result<(), Fail> {
     assert!(rt; !has_too_many(rt.alloc(), "c,x0,y23,use=a,\n")?);
     assert!(rt; has_too_many(rt.alloc(), "c,x0,y24,\n")?);
+    Ok(())
+}
+
+#[test]
+fn each_name_is_counted_once(rt: HostRuntime) -> Result<(), Fail> {
+    let blocks = ["a,Tc,Su#1,\n", "b,Tc@,am,use=a,\n", "c,Ss=x,Su#2,\n"];
+    let database = database_of(rt.alloc(), &blocks)?;
+    assert_eq!(rt; count_names(rt.alloc(), &database).ok(), Some(3));
     Ok(())
 }
 

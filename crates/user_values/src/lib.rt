@@ -11,8 +11,8 @@
 //! Where the block at a position resolves, `table` is its `UserTable`: what the leftmost mention
 //! says of each user-defined name, its kind too, or that it is cancelled.
 //!
-//! - `limit`: how many user-defined names a source has (`NAME_LIMIT`); `names_found`: those that
-//!   were found; `fault`: why it has no values (`ValuesError`)
+//! - `limit`: how many user-defined names a source has (`count_names`) and may have (`NAME_LIMIT`);
+//!   `names_found`: those that were found; `fault`: why it has no values (`ValuesError`)
 //! - `table`: what a block says of each name (`UserTable`)
 //! - `graph`: which blocks use each other
 //! - `values`: the table of one block; `walk`: the tables of all blocks (`UserTables`), each made
@@ -30,6 +30,6 @@ mod values;
 mod walk;
 
 pub use fault::ValuesError;
-pub use limit::NAME_LIMIT;
+pub use limit::{NAME_LIMIT, count_names};
 pub use table::UserTable;
 pub use walk::UserTables;

@@ -1,13 +1,17 @@
 //! How many user-defined names a source has.
 ghost use Rattle.std.specs.Prelude.{◌≡◌, ◌<◌, ◌≤◌, ◌+◌, ℕ, [], List, length, map, take, IfOk, IsErrOf, OnOk};
 ghost use Rattle.user_items.specs.Reading.{user_item_of, user_reading_of};
+ghost use Rattle.user_items.specs.Parsing.{user_reading_of_text};
+ghost use Rattle.user_values.specs.Limit.{name_count, IsOverLimitAt};
 ghost use Rattle.user_values.specs.Limit.{name_limit, name_said, names_of, names_in, with_name, distinct_after};
 ghost use Rattle.user_values.specs.inside.Counting.{AreFound, AreCounted};
 
 use crate::fault::ValuesError;
 use crate::names_found::NamesFound;
 use crate::table::UserTable;
+use crate::values::read_all;
 use std::alloc::{AllocError, Global};
+use ti_base::Database;
 use ti_layout::Value;
 use user_items::{UserItem, UserItems, UserWhat};
 
@@ -51,8 +55,9 @@ fn find_names(alloc: Global, items: &[UserItem], found: &mut NamesFound) -> Resu
     Ok(true)
 }
 
-/// Whether a source has no more names than it may.
-pub(crate) fn check_names(alloc: Global, reads: &[UserItems]) -> Result<(), ValuesError>
+/// How many names a source has, if these are no more than it may have.
+pub(crate) fn check_names(alloc: Global, reads: &[UserItems]) -> Result<usize, ValuesError>
+    ensures count { IfOk result (λ count. count ≡ length (distinct_after [] (names_in (map user_reading_of reads.now)))) }
     ensures few { OnOk result (length (distinct_after [] (names_in (map user_reading_of reads.now))) ≤ name_limit) }
     ensures too_many { (at : ℕ) → IsErrOf result (ValuesError.TooManyNames at) → (at < length reads.now)
         × (length (distinct_after [] (names_in (map user_reading_of (take at reads.now)))) ≤ name_limit)
@@ -67,5 +72,19 @@ pub(crate) fn check_names(alloc: Global, reads: &[UserItems]) -> Result<(), Valu
             return Err(ValuesError::TooManyNames(at));
         }
     }
-    Ok(())
+    Ok(found.count)
+}
+
+/// How many distinct user-defined names a source has.
+///
+/// # Errors
+/// `TooManyNames` for a source of more than 1,024 of them, with the position of the first block by
+/// which it has more; or `Memory`.
+pub fn count_names(alloc: Global, database: &Database) -> Result<usize, ValuesError>
+    ensures count { IfOk result (λ count. count ≡ name_count database.now (length database.now)) }
+    ensures few { OnOk result (name_count database.now (length database.now) ≤ name_limit) }
+    ensures too_many { (at : ℕ) → IsErrOf result (ValuesError.TooManyNames at) → IsOverLimitAt database.now at }
+{
+    let reads = read_all(alloc, database)?;
+    check_names(alloc, &reads)
 }

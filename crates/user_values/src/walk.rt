@@ -136,7 +136,7 @@ impl<'a> UserTables<'a> {
     {
         let reads = read_all(alloc, database)?;
         match check_names(alloc, &reads) {
-            Ok(()) => Ok(begin(alloc, database, reads)?),
+            Ok(_) => Ok(begin(alloc, database, reads)?),
             Err(error) => Err(error),
         }
     }
