@@ -3,6 +3,7 @@ pub mod Imaging
 pub mod Pairs
 pub mod States
 pub mod SourceFaults
+pub mod Findings
 pub mod Profile
 pub mod Lines
 pub mod OneByOne

@@ -28,6 +28,7 @@ use Rattle.user_items.specs.declared.reading.UserCode.{UserCode}
 use Rattle.user_items.specs.declared.reading.UserCode.TheVariants as user
 use Rattle.user_compiling.specs.Faults.{of_profile, in_place, is_user_warning, own_code, extended_fault}
 use Rattle.user_compiling.specs.Faults.{extended_item_faults}
+use Rattle.user_compiling.specs.Findings.{warning_codes, AreCodesOf}
 use Rattle.user_compiling.specs.inside.Pairs.{warning_ordinals, code_here, pairs, head_code, tail_codes, replaced, front_faults}
 
 -- ---- the ordinals of warnings are those of defining items
@@ -187,6 +188,29 @@ nothing_wrong (f ∷ fs) (o ∷ os) =
       | true ↦ ap (λ xs. in_place f None ++ xs) (nothing_wrong fs os)
       | false ↦ ap (λ xs. of_profile f ∷ xs) (nothing_wrong fs (o ∷ os))
     ]
+
+warning_codes_are : (own : List ReadUserFault) (fs : List ReadFault) → warning_codes own fs ≡ codes_at (warning_ordinals fs) own
+warning_codes_are own [] = refl
+warning_codes_are own (f ∷ fs) =
+    let rest = warning_codes_are own fs in
+    elim (is_local_warning f) as (λ b. cond b (own_code f.ordinal own ∷ warning_codes own fs) (warning_codes own fs)
+    ≡ codes_at (cond b (f.ordinal ∷ warning_ordinals fs) (warning_ordinals fs)) own) [
+      | true ↦ ap (λ cs. own_code f.ordinal own ∷ cs) rest
+      | false ↦ rest
+    ]
+
+pub pairs_are_codes : WarningsAreOfDefiningItems → (text : List ℕ)
+    → pairs (warning_ordinals (reading_of_text text).faults) (user_reading_of_text text).faults
+    ≡ warning_codes (user_reading_of_text text).faults (reading_of_text text).faults
+pairs_are_codes law text = codes_of_block law text ∙ sym (warning_codes_are (user_reading_of_text text).faults (reading_of_text text).faults)
+
+-- the codes of a block replace as the pairs do
+pub replaced_by_codes : WarningsAreOfDefiningItems → (text : List ℕ) (codes : List (Option UserCode)) (fs : List SourceFault) → AreCodesOf text codes
+    → replaced fs codes ≡ replaced fs (pairs (warning_ordinals (reading_of_text text).faults) (user_reading_of_text text).faults)
+replaced_by_codes law text codes fs (inl e) = ap (replaced fs) (e ∙ sym (pairs_are_codes law text))
+replaced_by_codes law text codes fs (inr e) =
+    let os = warning_ordinals (reading_of_text text).faults in
+    ap (replaced fs) e.0 ∙ nothing_wrong fs os ∙ ap (λ (us : List ReadUserFault). replaced fs (pairs os us)) (sym e.1)
 
 pub replaced-front : (fs gs : List SourceFault) (cs : List (Option UserCode)) → list_any is_user_warning fs ≡ false
     → replaced (fs ++ gs) cs ≡ map of_profile fs ++ replaced gs cs

@@ -1,6 +1,7 @@
 pub mod Rows
 pub mod Entries
 pub mod Faults
+pub mod Findings
 pub mod Report
 pub mod inside
 pub mod Laws

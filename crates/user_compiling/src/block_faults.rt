@@ -1,26 +1,22 @@
 //! The faults of a block whose user-defined capabilities are kept.
 ghost use Rattle.std.specs.Prelude.{◌≡◌, ◌<◌, ◌+◌, ◌^◌, ◌++◌, ◌∷◌, ℕ, List, All, IfOk, OnOk, length, map, slice_get, Some, option_map, take, drop, ◌≤◌, if◌then◌else◌};
-ghost use Rattle.std.specs.List.{list_any};
 ghost use Rattle.std.specs.Rc.{rc_slice_items};
-ghost use Rattle.ti_source.specs.Cutting.{OneBlock};
 ghost use Rattle.ti_source.specs.Parsing.{reading_of_text};
 ghost use Rattle.base_meaning.specs.Owner.{readings};
-ghost use Rattle.base_meaning.specs.Compiled.{oversized, state_of};
+ghost use Rattle.base_meaning.specs.Compiled.{EntryState, oversized, state_of};
 ghost use Rattle.base_meaning.specs.Faults.{block_faults, entry_faults, fault_seen as profile_fault_seen};
-ghost use Rattle.user_compiling.specs.Entries.{state_seen};
+ghost use Rattle.user_compiling.specs.Findings.{IsFindingBy, is_over_limit};
 ghost use Rattle.base_meaning.specs.Usable.{IsPlaced};
 ghost use Rattle.user_compiling.specs.Report.{IsExtendedPlaced};
 ghost use Rattle.user_compiling.specs.Faults as spec;
 ghost use Rattle.user_compiling.specs.Faults.{extended_block_faults, fault_seen, in_place, is_user_warning, of_profile};
 ghost use Rattle.base_meaning.specs.Faults.{SourceFault};
-ghost use Rattle.user_items.specs.Parsing.{user_reading_of_text};
-ghost use Rattle.user_compiling.specs.inside.Pairs.{pairs, warning_ordinals, replaced, head_code, front_faults};
+ghost use Rattle.user_compiling.specs.inside.Pairs.{replaced, head_code, front_faults};
 
-use crate::compiled::Compiled;
 use crate::fault::ExtendedFault;
-use crate::own_codes::own_codes;
+use crate::finding::Finding;
 use base_meaning::Fault;
-use std::alloc::{AllocError, Global};
+use std::alloc::AllocError;
 use std::rc::RcSlice;
 use ti_base::Database;
 use ti_source::Code;
@@ -31,18 +27,6 @@ fn is_user_warning(fault: &Fault) -> bool
     ensures { result ≡ is_user_warning (profile_fault_seen fault.now) }
 {
     user_items::is_user_warning(fault.code, &fault.detail)
-}
-
-// Whether one of the faults is such a warning.
-fn has_user_warning(faults: &[Fault]) -> bool
-    ensures { result ≡ list_any is_user_warning (map profile_fault_seen faults.now) }
-{
-    for fault in faults {
-        if is_user_warning(fault) {
-            return true;
-        }
-    }
-    false
 }
 
 // A copy of a detail, which is shared.
@@ -175,24 +159,6 @@ fn front_len(database: &Database, at: usize, profile: &[Fault]) -> usize
     }
 }
 
-// What is wrong with the items of a block that define names, one code for each warning.
-fn codes_of(
-    alloc: Global,
-    text: &[u8],
-    profile: &[Fault],
-) -> Result<Vec<Option<UserCode>>, AllocError>
-    requires { OneBlock text.now }
-    ensures { IfOk result (λ codes. (fs : List SourceFault) → map profile_fault_seen profile.now ≡ fs
-        → replaced fs codes.items ≡ replaced fs (pairs (warning_ordinals (reading_of_text text.now).faults) (user_reading_of_text text.now).faults)) }
-{
-    if has_user_warning(profile) {
-        let codes = own_codes(alloc, text)?;
-        return Ok(codes);
-    }
-    // Most blocks have no such warning; these are not read again.
-    Ok(Vec::new(alloc))
-}
-
 // The first of names, if there is one.
 fn first_name(names: &[RcSlice<u8>]) -> Result<Option<RcSlice<u8>>, AllocError>
     ensures { IfOk result (λ name. option_map rc_slice_items name ≡ slice_get (map rc_slice_items names.now) 0) }
@@ -223,42 +189,40 @@ fn push_too_large(
     Ok(())
 }
 
-// Adds the fault of the entry of a block of which this becomes, if it has one.
+// Adds the fault of the entry of a block, if that is too large.
 fn add_entry_fault(
     database: &Database,
     at: usize,
-    state: &Compiled,
+    too_large: bool,
     faults: &mut Vec<ExtendedFault>,
 ) -> Result<(), AllocError>
     requires { at < length database.now }
-    ensures { OnOk result ((text : List ℕ) → slice_get database.now at ≡ Some text
-        → map fault_seen faults.new.items ≡ map fault_seen faults.old.items ++ map of_profile (entry_faults at (reading_of_text text).names (state_seen state.now))) }
+    ensures { OnOk result ((text : List ℕ) (state : EntryState) → slice_get database.now at ≡ Some text → too_large ≡ is_over_limit state
+        → map fault_seen faults.new.items ≡ map fault_seen faults.old.items ++ map of_profile (entry_faults at (reading_of_text text).names state)) }
 {
-    if let Compiled::TooLarge = state {
+    if too_large {
         push_too_large(database, at, faults)?;
     }
     Ok(())
 }
 
-/// Adds the faults of the block at a position, of which this becomes, given those that the profile
-/// has of it.
+/// Adds the faults of the block at a position, of which this was found out, given those that the
+/// profile has of it.
 ///
 /// # Errors
 /// Out of memory.
 pub(crate) fn add_block_faults(
-    alloc: Global,
     database: &Database,
     at: usize,
     profile: &[Fault],
-    state: &Compiled,
+    finding: &Finding,
     faults: &mut Vec<ExtendedFault>,
 ) -> Result<(), AllocError>
     requires within { at < length database.now }
-    requires one { All OneBlock database.now }
     requires profile { (text : List ℕ) → slice_get database.now at ≡ Some text
         → map profile_fault_seen profile.now ≡ block_faults (readings database.now) at (reading_of_text text) }
-    ensures added { OnOk result ((text : List ℕ) → slice_get database.now at ≡ Some text
-        → map fault_seen faults.new.items ≡ map fault_seen faults.old.items ++ extended_block_faults (readings database.now) at text (state_seen state.now)) }
+    ensures added { OnOk result ((text : List ℕ) (state : EntryState) → slice_get database.now at ≡ Some text → IsFindingBy text state finding.now
+        → map fault_seen faults.new.items ≡ map fault_seen faults.old.items ++ extended_block_faults (readings database.now) at text state) }
     ensures placed { OnOk result (All (IsPlaced (length database.now)) (map profile_fault_seen profile.now) → All (IsExtendedPlaced (length database.now)) (map fault_seen faults.old.items)
         → All (IsExtendedPlaced (length database.now)) (map fault_seen faults.new.items)) }
 {
@@ -267,8 +231,7 @@ pub(crate) fn add_block_faults(
     user_items::laws::warnings_are_of_defining_items();
     base_meaning::laws::item_faults_are_in_order();
     let (front, _) = profile.split_at(front_len(database, at, profile));
-    let codes = codes_of(alloc, database.text(at), front)?;
-    replace(front, &codes, faults)?;
-    add_entry_fault(database, at, state, faults)?;
+    replace(front, &finding.codes, faults)?;
+    add_entry_fault(database, at, finding.is_too_large, faults)?;
     Ok(())
 }

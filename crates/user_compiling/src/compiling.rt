@@ -79,8 +79,11 @@ fn compile_resolved(
     Ok(written)
 }
 
-// What becomes of the block at a position, which says this of user-defined names.
-fn compile_with(
+/// What becomes of the block at a position, which says this of user-defined names.
+///
+/// # Errors
+/// Out of memory.
+pub fn compile_with(
     alloc: Global,
     database: &Database,
     at: usize,

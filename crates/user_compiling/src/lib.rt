@@ -11,8 +11,9 @@
 //! - `rows`: the user-defined capabilities that an entry has
 //! - `compiling`: what becomes of each block of a source (`compile`)
 //! - `fault`: a fault of a source (`ExtendedFault`), one of the profile or W5; `own_codes`: what is
-//!   wrong with the items of a block that define names; `block_faults`: the faults of a block;
-//!   `source_faults`: those of a source (`faults`)
+//!   wrong with the items of a block that define names; `finding`: what is found out about a block
+//!   for its faults (`Finding`), which can be kept; `block_faults`: the faults of a block;
+//!   `source_faults`: those of a source (`faults`), also by what was found out (`found_faults`)
 //! - `report`: the faults as text (`report_of`)
 //! - `laws`: without user-defined names all is as in the profile
 //!
@@ -23,6 +24,7 @@ mod block_faults;
 mod compiled;
 mod compiling;
 mod fault;
+mod finding;
 pub mod laws;
 mod own_codes;
 mod report;
@@ -30,7 +32,8 @@ mod rows;
 mod source_faults;
 
 pub use compiled::Compiled;
-pub use compiling::compile;
+pub use compiling::{compile, compile_with};
 pub use fault::ExtendedFault;
+pub use finding::Finding;
 pub use report::report_of;
-pub use source_faults::faults;
+pub use source_faults::{faults, findings_of, found_faults};

@@ -1,15 +1,16 @@
 //! What is wrong with the items of a block that define user-defined names.
-ghost use Rattle.std.specs.Prelude.{◌≡◌, ◌<◌, ◌≤◌, ◌++◌, ◌∷◌, List, IfOk, OnOk, OnSome, drop, length, map};
+ghost use Rattle.std.specs.Prelude.{◌≡◌, ◌<◌, ◌≤◌, ◌++◌, ◌∷◌, ℕ, List, All, IfOk, OnOk, OnSome, Some, drop, length, map, slice_get};
+ghost use Rattle.std.specs.List.{list_any};
 ghost use Rattle.ti_source.specs.Reading.{ReadFault};
 ghost use Rattle.ti_source.specs.Cutting.{OneBlock};
-ghost use Rattle.ti_source.specs.Parsing.{reading_of_text};
 ghost use Rattle.ti_source.specs.Reading.{fault_of};
-ghost use Rattle.user_items.specs.Parsing.{user_reading_of_text};
+ghost use Rattle.user_items.specs.Laws.{is_local_warning};
 ghost use Rattle.user_items.specs.Reading.{user_fault_of};
-ghost use Rattle.base_meaning.specs.Faults.{SourceFault};
-ghost use Rattle.user_compiling.specs.inside.Pairs.{code_here, pairs, replaced, warning_ordinals};
+ghost use Rattle.user_compiling.specs.Findings.{AreCodesOf};
+ghost use Rattle.user_compiling.specs.inside.Pairs.{code_here, pairs, warning_ordinals};
 
 use std::alloc::{AllocError, Global};
+use ti_base::Database;
 use ti_source::{Local, parse};
 use user_items::{UserCode, UserFault, is_user_warning, user_items};
 
@@ -69,17 +70,15 @@ fn pair(
     Ok(codes)
 }
 
-/// For each warning of a block that a name is unknown which is user-defined, what is wrong with the
-/// item that defines it, if something is. No code is given if nothing is wrong with any: the block
-/// is then not read by the profile again.
-///
-/// # Errors
-/// Out of memory.
-pub(crate) fn own_codes(alloc: Global, text: &[u8]) -> Result<Vec<Option<UserCode>>, AllocError>
+// For each warning of a block that a name is unknown which is user-defined, what is wrong with the
+// item that defines it, if something is. No code is given if nothing is wrong with any: the block
+// is then not read by the profile again.
+fn own_codes(alloc: Global, text: &[u8]) -> Result<Vec<Option<UserCode>>, AllocError>
     requires { OneBlock text.now }
-    ensures { IfOk result (λ codes. (fs : List SourceFault)
-        → replaced fs codes.items ≡ replaced fs (pairs (warning_ordinals (reading_of_text text.now).faults) (user_reading_of_text text.now).faults)) }
+    ensures { IfOk result (λ codes. AreCodesOf text.now codes.items) }
 {
+    // A law, with no code: the warnings of a block are those of the items that define names.
+    user_items::laws::warnings_are_of_defining_items();
     let read = user_items(alloc, text)?;
     if read.faults.is_empty() {
         return Ok(Vec::new(alloc));
@@ -87,4 +86,40 @@ pub(crate) fn own_codes(alloc: Global, text: &[u8]) -> Result<Vec<Option<UserCod
     let parsed = parse(alloc, text)?;
     let codes = pair(alloc, &parsed.faults, &read.faults)?;
     Ok(codes)
+}
+
+// Whether one of the faults that reading gave is the warning of an unknown name that is user-defined.
+fn has_user_warning(locals: &[Local]) -> bool
+    ensures { result ≡ list_any is_local_warning (map fault_of locals.now) }
+{
+    for local in locals {
+        if is_user_warning(local.code, &local.detail) {
+            return true;
+        }
+    }
+    false
+}
+
+/// What is wrong with the items of the block at a position that define names, one code for each
+/// warning, or no code if nothing is wrong with any.
+///
+/// # Errors
+/// Out of memory.
+pub(crate) fn codes_of(
+    alloc: Global,
+    database: &Database,
+    at: usize,
+) -> Result<Vec<Option<UserCode>>, AllocError>
+    requires within { at < length database.now }
+    requires one { All OneBlock database.now }
+    ensures { IfOk result (λ codes. (text : List ℕ) → slice_get database.now at ≡ Some text → AreCodesOf text codes.items) }
+{
+    // A law, with no code: a block without such a warning has nothing of user-defined names.
+    user_items::laws::blocks_without_warnings_have_uses_alone();
+    if has_user_warning(database.local_faults(at)) {
+        let codes = own_codes(alloc, database.text(at))?;
+        return Ok(codes);
+    }
+    // Most blocks have no such warning; these are not read again.
+    Ok(Vec::new(alloc))
 }

@@ -1,18 +1,20 @@
 //! The faults of a source whose user-defined capabilities are kept.
 ghost use Rattle.std.specs.Prelude.{◌≡◌, ◌<◌, ◌≤◌, ◌++◌, ℕ, List, All, IfOk, OnOk, length, map, slice_get, Some, drop};
-ghost use Rattle.ti_source.specs.Cutting.{OneBlock};
 ghost use Rattle.base_meaning.specs.Owner.{readings};
+ghost use Rattle.base_meaning.specs.Compiled.{EntryState};
 ghost use Rattle.base_meaning.specs.Usable.{IsPlaced};
 ghost use Rattle.base_meaning.specs.Faults as spec;
 ghost use Rattle.base_meaning.specs.Faults.{fault_seen as profile_fault_seen};
 ghost use Rattle.user_compiling.specs.Entries.{state_seen};
 ghost use Rattle.user_compiling.specs.Faults.{extended_faults, fault_seen};
+ghost use Rattle.user_compiling.specs.Findings.{AreFindingsBy};
 ghost use Rattle.user_compiling.specs.Report.{IsExtendedPlaced};
 ghost use Rattle.user_compiling.specs.inside.Pairs.{count_at};
 
 use crate::block_faults::add_block_faults;
 use crate::compiled::Compiled;
 use crate::fault::ExtendedFault;
+use crate::finding::Finding;
 use base_meaning::Fault;
 use std::alloc::{AllocError, Global};
 use ti_base::Database;
@@ -32,28 +34,68 @@ fn count_at(faults: &[Fault], at: usize) -> usize
     count
 }
 
-// The faults of a source, given those of the profile.
+// The faults of a source, given those of the profile and what was found out about each block.
 fn extend_all(
     alloc: Global,
     database: &Database,
     profile: &[Fault],
-    compiled: &[Compiled],
+    findings: &[Finding],
 ) -> Result<Vec<ExtendedFault>, AllocError>
-    requires one { All OneBlock database.now }
-    requires as_many { length compiled.now ≡ length database.now }
+    requires as_many { length findings.now ≡ length database.now }
     requires profile { map profile_fault_seen profile.now ≡ spec.faults (readings database.now) }
     requires placed { All (IsPlaced (length database.now)) (map profile_fault_seen profile.now) }
-    ensures all { IfOk result (λ all. map fault_seen all.items ≡ extended_faults database.now (map state_seen compiled.now)) }
+    ensures all { IfOk result (λ all. (states : List EntryState) → AreFindingsBy database.now states findings.now
+        → map fault_seen all.items ≡ extended_faults database.now states) }
     ensures placed { IfOk result (λ all. All (IsExtendedPlaced (length database.now)) (map fault_seen all.items)) }
 {
     let mut all = Vec::new(alloc);
     let mut rest = profile;
-    for (at, state) in compiled.iter().enumerate() {
+    for (at, finding) in findings.iter().enumerate() {
         let (block, others) = rest.split_at(count_at(rest, at));
-        add_block_faults(alloc, database, at, block, state, &mut all)?;
+        add_block_faults(database, at, block, finding, &mut all)?;
         rest = others;
     }
     Ok(all)
+}
+
+/// The faults of a source, about whose blocks this was found out (`Finding::of`): those that
+/// `faults` gives.
+///
+/// # Errors
+/// Out of memory.
+pub fn found_faults(
+    alloc: Global,
+    database: &Database,
+    findings: &[Finding],
+) -> Result<Vec<ExtendedFault>, AllocError>
+    requires as_many { length findings.now ≡ length database.now }
+    ensures all { IfOk result (λ all. (states : List EntryState) → AreFindingsBy database.now states findings.now
+        → map fault_seen all.items ≡ extended_faults database.now states) }
+    ensures placed { IfOk result (λ all. All (IsExtendedPlaced (length database.now)) (map fault_seen all.items)) }
+{
+    let profile = database.faults()?;
+    let all = extend_all(alloc, database, &profile, findings)?;
+    Ok(all)
+}
+
+/// What is found out about each block of a source, of whose blocks this becomes.
+///
+/// # Errors
+/// Out of memory.
+pub fn findings_of(
+    alloc: Global,
+    database: &Database,
+    compiled: &[Compiled],
+) -> Result<Vec<Finding>, AllocError>
+    requires as_many { length compiled.now ≡ length database.now }
+    ensures as_many { IfOk result (λ findings. length findings.items ≡ length database.now) }
+    ensures findings { IfOk result (λ findings. AreFindingsBy database.now (map state_seen compiled.now) findings.items) }
+{
+    let mut findings = Vec::with_capacity(alloc, compiled.len())?;
+    for (at, state) in compiled.iter().enumerate() {
+        findings.push(Finding::of(alloc, database, at, state)?)?;
+    }
+    Ok(findings)
 }
 
 /// The faults of a source, of whose blocks this becomes: those of the profile, without the warnings
@@ -71,8 +113,7 @@ pub fn faults(
     ensures all { IfOk result (λ all. map fault_seen all.items ≡ extended_faults database.now (map state_seen compiled.now)) }
     ensures placed { IfOk result (λ all. All (IsExtendedPlaced (length database.now)) (map fault_seen all.items)) }
 {
-    database.each_is_one_block();
-    let profile = database.faults()?;
-    let all = extend_all(alloc, database, &profile, compiled)?;
+    let findings = findings_of(alloc, database, compiled)?;
+    let all = found_faults(alloc, database, &findings)?;
     Ok(all)
 }

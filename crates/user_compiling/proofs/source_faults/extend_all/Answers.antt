@@ -1,4 +1,4 @@
-use Rattle.std.proofs.Common.{◌≡◌, ◌∙◌, ◌++◌, ◌+◌, ◌<◌, suc, map, take, drop, length, sym, ap, subst, arith, slice_get, Some, All, List}
+use Rattle.std.proofs.Common.{◌≡◌, ◌∙◌, ◌++◌, ◌+◌, ◌<◌, suc, map, take, drop, length, refl, sym, ap, subst, arith, slice_get, Some, All, List}
 use Rattle.std.specs.List.{take-map, drop-map}
 use Rattle.std.proofs.lemmas.List.Elements.{All-nil, All-take, All-drop}
 use Rattle.ti_text.proofs.Lists.{item_at}
@@ -6,12 +6,11 @@ use Rattle.ti_source.specs.Parsing.{reading_of_text}
 use Rattle.base_meaning.specs.Owner.{readings}
 use Rattle.base_meaning.specs.Usable.{IsPlaced}
 use Rattle.base_meaning.specs.Faults.{SourceFault, fault_seen as profile_fault_seen, block_faults, faults_after}
-use Rattle.user_compiling.specs.Entries.{state_seen}
 use Rattle.user_compiling.specs.declared.fault.ExtendedFault.{ExtendedFault}
 use Rattle.user_compiling.specs.Faults.{fault_seen, extended_faults_after}
 use Rattle.user_compiling.specs.Report.{IsExtendedPlaced}
 use Rattle.user_compiling.specs.inside.Pairs.{count_at}
-use Rattle.user_compiling.proofs.Lines.{slice_get-map_item}
+use Rattle.std.proofs.lemmas.Option.{slice_get_read}
 use Rattle.user_compiling.proofs.SourceFaults.{count_of_block, part_front, part_back, one_block_more, left_in_two, left_more, none_left}
 use Rattle.user_compiling.proofs.source_faults.extend_all.Goals as goal
 
@@ -44,14 +43,17 @@ loop-at-preserved c =
     ap (map profile_fault_seen) c.split_at.ensures.back ∙ sym (drop-map profile_fault_seen c.count_at.result rest) in
     let Placed : List SourceFault → Type 0 = All (IsPlaced (length db)) in
     let front_placed = subst Placed (sym front_is) (All-take (IsPlaced (length db)) c.count_at.result (map profile_fault_seen rest) i.left_placed) in
-    let state = slice_get-map_item state_seen c.args.compiled.now at c.index-compiled-at.result c.loop-at-test.true c.index-compiled-at.is in
+    let finding = slice_get_read c.args.findings.now (length c.args.findings.now) at c.index-findings-at.result refl c.loop-at-test.true c.index-findings-at.is in
     record {
       left = left_more db at (map profile_fault_seen c.split_at.result.1.now)
           (ap (map profile_fault_seen) (c.split_at.ensures.back ∙ ap (λ n. drop n rest) count)
           ∙ part_back profile_fault_seen rest (block_faults (readings db) at b) (faults_after (readings db) (suc at) (drop (at + 1) (readings db))) two);
       left_placed = subst Placed (sym back_is) (All-drop (IsPlaced (length db)) c.count_at.result (map profile_fault_seen rest) i.left_placed);
-      all = one_block_more db (map state_seen c.args.compiled.now) at text (state_seen c.index-compiled-at.result) (map fault_seen c.loop-at.all.items)
-          (map fault_seen c.add_block_faults.new.faults.items) _ stands state i.all (c.in_ok-add_block_faults.ensures.added text stands);
+      all = λ states by.
+          let state = item_at states at (omega (arith, c.loop-at-test.true, c.requires.as_many, by.0)) in
+          one_block_more db states at text state.0 (map fault_seen c.loop-at.all.items)
+          (map fault_seen c.add_block_faults.new.faults.items) _ stands state.1 (i.all states by)
+          (c.in_ok-add_block_faults.ensures.added text state.0 stands (by.1 at text state.0 c.index-findings-at.result stands state.1 finding));
       placed = c.in_ok-add_block_faults.ensures.placed front_placed i.placed;
     }
 
@@ -61,17 +63,17 @@ loop-at-init c =
     record {
       left = c.requires.profile;
       left_placed = c.requires.placed;
-      all = ap (λ (xs : List ExtendedFault). map fault_seen xs ++ extended_faults_after (readings db) 0 db (map state_seen c.args.compiled.now))
-          c.new-all.ensures.items;
+      all = λ states by.
+          ap (λ (xs : List ExtendedFault). map fault_seen xs ++ extended_faults_after (readings db) 0 db states) c.new-all.ensures.items;
       placed = subst (λ (xs : List ExtendedFault). All (IsExtendedPlaced (length db)) (map fault_seen xs)) (sym c.new-all.ensures.items)
           (All-nil (IsExtendedPlaced (length db)));
     }
 
 pub returns-clause-all : goal.returns-clause-all
-returns-clause-all c =
+returns-clause-all c = λ states by.
     let db = c.args.database.now in
-    none_left (readings db) c.loop-at.at db (map state_seen c.args.compiled.now) (map fault_seen c.loop-at.all.items) _
-    (omega (arith, c.loop-at-test.false, c.requires.as_many)) c.loop-at.invariant.all
+    none_left (readings db) c.loop-at.at db states (map fault_seen c.loop-at.all.items) _
+    (omega (arith, c.loop-at-test.false, c.requires.as_many)) (c.loop-at.invariant.all states by)
 
 pub returns-clause-placed : goal.returns-clause-placed
 returns-clause-placed c = c.loop-at.invariant.placed
