@@ -43,8 +43,8 @@ fn say_faults(said: &mut String, faults: &[ExtendedFault]) -> Result<(), AllocEr
     said.push_str("\n")
 }
 
-// The report.
-fn say_report(said: &mut String, report: &[u8]) -> Result<(), AllocError> {
+/// The report.
+pub(crate) fn say_report(said: &mut String, report: &[u8]) -> Result<(), AllocError> {
     for byte in report {
         said.push(char::from(*byte))?;
     }

@@ -1,0 +1,180 @@
+-- What was found out about a block stays right after a replacement on which the block does not depend.
+use Rattle.std.proofs.Common.{◌≡◌, ℕ, zero, suc, ◌+◌, ◌<◌, ◌≤◌, inl, inr, true, false, nat_eq, List, [], ◌∷◌, map, length, drop, set, get_or, Option, Some, None, slice_get}
+use Rattle.std.proofs.Common.{refl, sym, ap, ◌∙◌, subst, arith, Contains, All, ◌⊎◌}
+use Rattle.std.specs.List.{AllZip}
+use Rattle.std.specs.Option.{is_some, option_map}
+use Rattle.std.proofs.lemmas.Bool.{cases_Bool, false≢true}
+use Rattle.std.proofs.lemmas.List.{length-map, length-set}
+use Rattle.std.proofs.lemmas.List.Elements.{Contains-get_or}
+use Rattle.std.proofs.lemmas.Option.{none-some, same_Some, slice_get_within}
+use Rattle.ti_text.proofs.Lists.{get-set_other, get-set_same, item_at}
+use Rattle.ti_source.specs.Parsing.{reading_of_text}
+use Rattle.ti_layout.specs.Values.{Mention, contents}
+use Rattle.base_meaning.specs.Compiled.{EntryState}
+use Rattle.base_meaning.specs.Dependents.{AreDependents}
+use Rattle.base_meaning.specs.Edits.{IsInPlace, list_after, replacement}
+use Rattle.base_meaning.specs.Exchange.{exchange_of, new_list}
+use Rattle.base_meaning.specs.Expansion.{expansion as expansion_there}
+use Rattle.base_meaning.specs.Owner.{readings}
+use Rattle.base_meaning.specs.ValueTables.{HasTable}
+use Rattle.base_meaning.proofs.ExchangeLaws.{exchanged}
+use Rattle.user_items.specs.Parsing.{user_reading_of_text}
+use Rattle.user_values.specs.Expansion.{expansion}
+use Rattle.user_values.specs.Limit.{name_count, names_of}
+use Rattle.user_compiling.specs.Entries.{AreStates, IsStateOf, does_not_resolve, does_resolve}
+use Rattle.user_compiling.specs.Findings.{AreFindingsBy, IsFindingBy}
+use Rattle.user_compiling.specs.declared.finding.Finding.{Finding}
+use Rattle.user_base.specs.Untouched.{UntouchedBlocksSayTheSame}
+use Rattle.user_kept.specs.inside.Kept.{AreRight, AreRightOff, IsKeptBefore, IsRightOf}
+use Rattle.user_kept.specs.declared.kept.Kept.{Kept}
+use Rattle.user_kept.proofs.Names.{few_more}
+
+state_stays : (texts next : List (List ℕ)) (text : List ℕ) (state : EntryState) → expansion next text ≡ expansion texts text
+    → expansion_there (readings next) (reading_of_text text) ≡ expansion_there (readings texts) (reading_of_text text)
+    → IsStateOf texts text state → IsStateOf next text state
+state_stays texts next text _ e f (does_not_resolve none) = does_not_resolve (f ∙ none)
+state_stays texts next text _ e f (does_resolve {state = state} h) = does_resolve (record {
+  mentions = h.mentions;
+  user_mentions = h.user_mentions;
+  rows = h.rows;
+  expands = f ∙ h.expands;
+  user_expands = e ∙ h.user_expands;
+  are_rows = h.are_rows;
+  is = h.is;
+})
+
+module _ (law : UntouchedBlocksSayTheSame) (next : List (List ℕ)) (place : ℕ) (rebuilt : List ℕ) (kept : Kept) (h : IsKeptBefore next place rebuilt kept) where
+  pub as_many_kept : length kept.findings.items ≡ length next
+  as_many_kept = h.kept_of.findings.as_many ∙ sym (ap (λ (xs : List (List ℕ)). length xs) h.next_is ∙ length-set h.texts place h.text)
+
+  pub off_kept : AreRightOff next rebuilt kept.findings.items
+  off_kept = λ at text finding off stands f.
+      let there : slice_get (list_after h.texts (replacement place h.text)) at ≡ Some text = ap (λ (xs : List (List ℕ)). slice_get xs at) (sym h.next_is) ∙ stands in
+      let same = law h.texts (replacement place h.text) at text h.in_place there (λ d. off ((h.dependents.dependents at).1 d)) in
+      let right = h.kept_of.findings.each at text finding same.stood f in
+      subst (λ (xs : List (List ℕ)). IsRightOf xs text finding) (sym h.next_is) (record {
+        state = right.state;
+        becomes = state_stays h.texts (list_after h.texts (replacement place h.text)) text right.state same.user_mentions same.mentions right.becomes;
+        by = right.by;
+      })
+
+  dependent_within : (at : ℕ) → Contains rebuilt at → at < length next
+  dependent_within at c =
+      let d = (h.dependents.dependents at).0 c in
+      let led = exchanged h.texts (replacement place h.text) h.in_place in
+      let here = ap (λ bs. slice_get bs at) (sym (led.new ∙ ap readings (sym h.next_is))) ∙ d.1 in
+      let l : at < length (readings next) = slice_get_within (readings next) at d.0 here in
+      let n = length-map next reading_of_text in
+      omega (arith, l, n)
+
+  pub stands_now : slice_get next place ≡ Some h.text
+  stands_now =
+      let old = item_at h.texts place h.in_place in
+      ap (λ (xs : List (List ℕ)). slice_get xs place) h.next_is ∙ get-set_same h.texts place old.0 h.text old.1
+
+  -- no more names than were kept, and those of the new block
+  pub few_names : name_count next (length next) ≤ kept.names + length (names_of (user_reading_of_text h.text).items)
+  few_names =
+      let a = few_more h.texts place h.text h.in_place in
+      let b = h.kept_of.names in
+      let c = ap (λ (xs : List (List ℕ)). name_count xs (length xs)) h.next_is in
+      omega (arith, a, b, c)
+
+  pub within_kept : All (λ at. at < length next) rebuilt
+  within_kept = λ k d l. dependent_within (get_or rebuilt k d) (Contains-get_or rebuilt k d l)
+
+-- ---- found out again, one after the other
+
+contains_at : (n : ℕ) (ns : List ℕ) (m k : ℕ) → k < length (n ∷ ns) → get_or (n ∷ ns) k m ≡ m → (n ≡ m) ⊎ Contains ns m
+contains_at n ns m zero l e = inl e
+contains_at n ns m (suc k) l e = inr (k, omega (arith, l), e)
+
+contains_tail : (n : ℕ) (ns : List ℕ) (m : ℕ) → Contains (n ∷ ns) m → (n ≡ m) ⊎ Contains ns m
+contains_tail n ns m c = contains_at n ns m c.0 c.1 c.2
+
+pub one_more_right : (texts : List (List ℕ)) (place : ℕ) (rest : List ℕ) (findings : List Finding) (finding : Finding) → place < length findings
+    → AreRightOff texts (place ∷ rest) findings → ((text : List ℕ) → slice_get texts place ≡ Some text → IsRightOf texts text finding)
+    → AreRightOff texts rest (set findings place finding)
+one_more_right texts place rest findings finding l h is = λ at text found off stands f.
+    elim (cases_Bool (nat_eq place at)) [
+      | inl t ↦
+          let here : place ≡ at = grind (arith, t) in
+          let old = item_at findings place l in
+          let same : finding ≡ found = same_Some finding found (sym (get-set_same findings place old.0 finding old.1) ∙ ap (slice_get (set findings place finding)) here ∙ f) in
+          subst (λ (x : Finding). IsRightOf texts text x) same (is text (ap (slice_get texts) here ∙ stands))
+      | inr n ↦
+          let other : at ≡ place → ⊥ = λ e. apart place at n (sym e) in
+          h at text found (λ c. elim (contains_tail place rest at c) [ inl e ↦ other (sym e) | inr later ↦ off later ]) stands
+          (sym (get-set_other findings place at finding other) ∙ f)
+    ] where
+      apart : (a b : ℕ) → nat_eq a b ≡ false → a ≡ b → ⊥
+      apart a b n e = grind (arith, n, e)
+
+pub all_right : (texts : List (List ℕ)) (findings : List Finding) → length findings ≡ length texts → AreRightOff texts [] findings → AreRight texts findings
+all_right texts findings n h = record {
+  as_many = n;
+  each = λ at text finding stands f. h at text finding (λ c. omega (arith, c.1)) stands f;
+}
+
+-- ---- what becomes of all blocks
+
+pub zip_at : {X Y : Type 0} (R : X → Y → Type 0) (xs : List X) (ys : List Y) (at : ℕ) (x : X) (y : Y) → AllZip R xs ys → slice_get xs at ≡ Some x
+    → slice_get ys at ≡ Some y → R x y
+zip_at R [] ys at x y all e d = absurd (none-some x e)
+zip_at R (a ∷ xs) [] at x y all e d = absurd all
+zip_at R (a ∷ xs) (b ∷ ys) zero x y all e d = subst (λ z. R z y) (same_Some a x e) (subst (R a) (same_Some b y d) all.0)
+zip_at R (a ∷ xs) (b ∷ ys) (suc at) x y all e d = zip_at R xs ys at x y all.1 e d
+
+pub right_by : (texts : List (List ℕ)) (states : List EntryState) (findings : List Finding) → AreStates texts states → AreFindingsBy texts states findings
+    → length findings ≡ length texts → AreRight texts findings
+right_by texts states findings are by n = record {
+  as_many = n;
+  each = λ at text finding t f.
+      let l = slice_get_within texts at text t in
+      let m = by.0 in
+      let state = item_at states at (omega (arith, l, m)) in
+      record { state = state.0; becomes = zip_at (IsStateOf texts) texts states at text state.0 are t state.1; by = by.1 at text state.0 finding t state.1 f };
+}
+
+-- the states of blocks, one for each
+record Chosen (texts : List (List ℕ)) (rest : List (List ℕ)) (findings : List Finding) : Type 0 where
+  pub states : List EntryState
+  pub are : AllZip (IsStateOf texts) rest states
+  pub by : AreFindingsBy rest states findings
+
+choose : (texts rest : List (List ℕ)) (findings : List Finding) → length findings ≡ length rest
+    → ((at : ℕ) (text : List ℕ) (finding : Finding) → slice_get rest at ≡ Some text → slice_get findings at ≡ Some finding → IsRightOf texts text finding)
+    → Chosen texts rest findings
+choose texts [] findings n h = record { states = []; are = tt; by = (refl, λ at text state finding t s f. absurd (none-some text t)) }
+choose texts (t ∷ rest) [] n h = absurd (omega (arith, n))
+choose texts (t ∷ rest) (f ∷ findings) n h =
+    let here = h 0 t f refl refl in
+    let later = choose texts rest findings (omega (arith, n)) (λ at. h (suc at)) in
+    record {
+      states = here.state ∷ later.states;
+      are = (here.becomes, later.are);
+      by = (ap suc later.by.0, first here.state later.states (later.by.1) here.by);
+    }
+  where
+    first : (state : EntryState) (states : List EntryState)
+        → ((at : ℕ) (text : List ℕ) (other : EntryState) (finding : Finding) → slice_get rest at ≡ Some text → slice_get states at ≡ Some other
+        → slice_get findings at ≡ Some finding → IsFindingBy text other finding)
+        → IsFindingBy t state f
+        → (at : ℕ) (text : List ℕ) (other : EntryState) (finding : Finding) → slice_get (t ∷ rest) at ≡ Some text → slice_get (state ∷ states) at ≡ Some other
+        → slice_get (f ∷ findings) at ≡ Some finding → IsFindingBy text other finding
+    first state states each by zero text other finding d s g =
+        subst (λ z. IsFindingBy z other finding) (same_Some t text d)
+        (subst (λ z. IsFindingBy t z finding) (same_Some state other s) (subst (λ (z : Finding). IsFindingBy t state z) (same_Some f finding g) by))
+    first state states each by (suc at) text other finding d s g = each at text other finding d s g
+
+pub states_of_right : (texts : List (List ℕ)) (findings : List Finding) → AreRight texts findings
+    → (states : List EntryState) × AreStates texts states × AreFindingsBy texts states findings
+states_of_right texts findings h = let c = choose texts texts findings h.as_many h.each in (c.states, c.are, c.by)
+
+-- ---- whether a block resolves is known of its table
+
+pub unresolved_there : (texts : List (List ℕ)) (text : List ℕ) {B : Type 0} (f : B → List Mention) (r : Option B) → is_some r ≡ false
+    → HasTable contents (readings texts) (reading_of_text text) (option_map f r)
+    → expansion_there (readings texts) (reading_of_text text) ≡ None
+unresolved_there texts text f None e h = h
+unresolved_there texts text f (Some b) e h = absurd (false≢true (sym e))

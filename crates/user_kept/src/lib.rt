@@ -1,0 +1,22 @@
+//! A database that keeps what was found out about the user-defined capabilities of its blocks
+//! (user_caps(5)), so that after an edit only what depends on it is found out anew.
+//!
+//! ```text
+//! let mut kept = KeptDatabase::of(alloc, database);
+//! let found = kept.user_faults(alloc)?;
+//! kept.replace(at, text)?;
+//! let found = kept.user_faults(alloc)?;
+//! ```
+//!
+//! - `database`: the database (`KeptDatabase`)
+//! - `kept`: what is kept of a source, and what remains of it after an edit
+//! - `found`: what is found out about one block; `alone`: what that says of user-defined names,
+//!   without the tables of other blocks
+#![tactic(auto)]
+
+mod alone;
+mod database;
+mod found;
+mod kept;
+
+pub use database::KeptDatabase;
