@@ -10,10 +10,11 @@ ghost use Rattle.lsp_diagnostics.specs.Diagnostics as spec;
 ghost use Rattle.lsp_diagnostics.specs.Diagnostics.{diagnostic_seen, diagnostics_by, fault_message, message_of, problem_of};
 ghost use Rattle.lsp_places.specs.LineTexts.{line_of};
 ghost use Rattle.lsp_diagnostics.specs.SourceFaults.{StatesAreThose, faults_by};
+ghost use Rattle.lsp_diagnostics.specs.declared.capabilities.Capabilities.TheVariants.{UserDefined};
 ghost use Rattle.lsp_diagnostics.specs.inside.Marked.{AreMarked, on_line};
 
 use crate::capabilities::Capabilities;
-use crate::faults::{MarkedFaults, mark_faults};
+use crate::faults::{MarkedFaults, mark_faults, mark_kept_faults};
 use crate::kept::KeptMarks;
 use crate::marking::marked;
 use lsp_places::line_of;
@@ -25,6 +26,7 @@ use ti_base::{Database, Fault, write_detail};
 use ti_source::Code;
 use tools_sources::{SourceError, first_line};
 use user_compiling::ExtendedFault;
+use user_kept::KeptDatabase;
 
 // What an invalid value of a user-defined name means, and a hint.
 const BAD_VALUE: &str =
@@ -334,6 +336,50 @@ pub fn source_diagnostics(
 {
     match refusal {
         None => held_diagnostics(alloc, capabilities, database, kept, first_line(text)),
+        Some(error) => {
+            let diagnostic = refusal_diagnostic(alloc, text, error)?;
+            alone(alloc, diagnostic)
+        }
+    }
+}
+
+// What is wrong with a source that is not refused and may have user-defined capabilities, whose
+// blocks the database holds, if the first block begins on the line of that number, counted from 1.
+fn held_kept_diagnostics(
+    alloc: Global,
+    database: &mut KeptDatabase,
+    kept: &mut Vec<KeptMarks>,
+    first: usize,
+) -> Result<Vec<Diagnostic>, AllocError>
+    requires first { 1 ≤ first }
+    requires room { first ≤ 2 ^ 63 }
+    ensures all { IfOk result (λ all. map diagnostic_seen all.items ≡ spec.fault_diagnostics database.old first None (faults_by UserDefined database.old)) }
+    ensures same { database.new ≡ database.old }
+{
+    let marked = mark_kept_faults(alloc, database, kept)?;
+    let capabilities = Capabilities::UserDefined;
+    fault_diagnostics(alloc, capabilities, database.database(), &marked, first)
+}
+
+/// What is wrong with a source that may have user-defined capabilities, as `source_diagnostics` gives
+/// it, by a database that keeps what was found out about these.
+///
+/// # Errors
+/// Out of memory.
+pub fn kept_diagnostics(
+    alloc: Global,
+    text: &[u8],
+    database: &mut KeptDatabase,
+    kept: &mut Vec<KeptMarks>,
+    refusal: Option<SourceError>,
+) -> Result<Vec<Diagnostic>, AllocError>
+    requires held { source_refusal text.now ≡ None → database.old ≡ source_texts text.now }
+    requires refusal { refusal ≡ source_refusal text.now }
+    ensures diagnostics { IfOk result (λ all. map diagnostic_seen all.items ≡ diagnostics_by UserDefined text.now) }
+    ensures same { database.new ≡ database.old }
+{
+    match refusal {
+        None => held_kept_diagnostics(alloc, database, kept, first_line(text)),
         Some(error) => {
             let diagnostic = refusal_diagnostic(alloc, text, error)?;
             alone(alloc, diagnostic)

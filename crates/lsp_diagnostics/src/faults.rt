@@ -3,16 +3,19 @@ ghost use Rattle.std.specs.Prelude.{◌≡◌, ◌≤◌, All, IfOk, IfSome, Non
 ghost use Rattle.user_compiling.specs.Faults.{fault_seen};
 ghost use Rattle.user_compiling.specs.Report.{IsExtendedPlaced};
 ghost use Rattle.ti_source.specs.Cutting.{OneBlock};
+ghost use Rattle.lsp_diagnostics.specs.SourceFaults.{faults_by};
+ghost use Rattle.lsp_diagnostics.specs.declared.capabilities.Capabilities.TheVariants.{UserDefined};
 ghost use Rattle.lsp_diagnostics.specs.inside.Kept.{sought_in};
 ghost use Rattle.lsp_diagnostics.specs.inside.Marked.{AreMarked, AreOfBlock, source_marks};
 
 use crate::capabilities::Capabilities;
 use crate::kept::KeptMarks;
-use crate::source_faults::faults_by;
+use crate::source_faults::{faults_by, kept_faults};
 use lsp_types::Range;
 use std::alloc::{AllocError, Global};
 use ti_base::Database;
 use user_compiling::ExtendedFault;
+use user_kept::KeptDatabase;
 
 /// The faults of a database, and what is shown for each.
 #[derive(Drop)]
@@ -101,9 +104,25 @@ fn marks_in(
     Ok((marks, all))
 }
 
+// These faults of a database, and what is shown for each. Of a block with the same faults, for which
+// this is kept in the order of the blocks, nothing is found anew. What is found is kept.
+fn mark(
+    alloc: Global,
+    database: &Database,
+    faults: Vec<ExtendedFault>,
+    kept: &mut Vec<KeptMarks>,
+) -> Result<MarkedFaults, AllocError>
+    requires { All (IsExtendedPlaced (length database.now)) (map fault_seen faults.items) }
+    ensures { IfOk result (λ marked. (capabilities : Capabilities) → map fault_seen faults.items ≡ faults_by capabilities database.now
+        → AreMarked capabilities database.now (map fault_seen marked.faults.items) marked.marks.items) }
+{
+    let (marks, found) = marks_in(alloc, database, &faults, kept)?;
+    *kept = found;
+    Ok(MarkedFaults { faults, marks })
+}
+
 /// The faults of a database, by which capabilities its source may have, and what is shown for each.
-/// Of a block with the same faults, for which this is kept in the order of the blocks, nothing is
-/// found anew. What is found is kept.
+/// What is shown is kept.
 pub(crate) fn mark_faults(
     alloc: Global,
     capabilities: Capabilities,
@@ -113,7 +132,18 @@ pub(crate) fn mark_faults(
     ensures { IfOk result (λ marked. AreMarked capabilities database.now (map fault_seen marked.faults.items) marked.marks.items) }
 {
     let faults = faults_by(alloc, capabilities, database)?;
-    let (marks, found) = marks_in(alloc, database, &faults, kept)?;
-    *kept = found;
-    Ok(MarkedFaults { faults, marks })
+    mark(alloc, database, faults, kept)
+}
+
+/// The same with user-defined capabilities, of a database that keeps what was found out about these.
+pub(crate) fn mark_kept_faults(
+    alloc: Global,
+    database: &mut KeptDatabase,
+    kept: &mut Vec<KeptMarks>,
+) -> Result<MarkedFaults, AllocError>
+    ensures marked { IfOk result (λ marked. AreMarked UserDefined database.old (map fault_seen marked.faults.items) marked.marks.items) }
+    ensures same { database.new ≡ database.old }
+{
+    let faults = kept_faults(alloc, database)?;
+    mark(alloc, database.database(), faults, kept)
 }

@@ -6,7 +6,8 @@
 //! - `marking`: what of a block is shown as faulty for a fault
 //! - `kept`: what is shown for the faults of a block, kept while it and they stay the same
 //! - `faults`: the faults of a database, and what is shown for each
-//! - `diagnostics`: the diagnostics of a source, of which a database has the blocks
+//! - `diagnostics`: the diagnostics of a source, of which a database has the blocks, or a database
+//!   that keeps what was found out about user-defined capabilities
 #![tactic(auto)]
 
 mod capabilities;
@@ -18,5 +19,5 @@ mod marking;
 mod source_faults;
 
 pub use capabilities::Capabilities;
-pub use diagnostics::{Diagnostic, Problem, shown_detail, source_diagnostics};
+pub use diagnostics::{Diagnostic, Problem, kept_diagnostics, shown_detail, source_diagnostics};
 pub use kept::KeptMarks;

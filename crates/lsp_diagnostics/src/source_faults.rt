@@ -12,6 +12,7 @@ use crate::capabilities::Capabilities;
 use std::alloc::{AllocError, Global};
 use ti_base::{Database, Fault};
 use user_compiling::{ExtendedFault, compile, faults};
+use user_kept::KeptDatabase;
 use user_values::ValuesError;
 
 // Faults of the profile, among which there may be others.
@@ -44,6 +45,26 @@ fn user_faults(alloc: Global, database: &Database) -> Result<Vec<ExtendedFault>,
     match compile(alloc, database) {
         Ok(compiled) => faults(alloc, database, &compiled),
         Err(ValuesError::TooManyNames(_)) => profile_faults(alloc, database),
+        Err(ValuesError::Memory) => Err(AllocError),
+    }
+}
+
+/// The same of a database that keeps what was found out, which finds out what is not kept.
+///
+/// # Errors
+/// Out of memory.
+pub(crate) fn kept_faults(
+    alloc: Global,
+    database: &mut KeptDatabase,
+) -> Result<Vec<ExtendedFault>, AllocError>
+    ensures all { IfOk result (λ all. map fault_seen all.items ≡ user_faults database.old) }
+    ensures placed { IfOk result (λ all. All (IsExtendedPlaced (length database.old)) (map fault_seen all.items)) }
+    ensures same { database.new ≡ database.old }
+{
+    user_compiling::laws::rows_are_determined();
+    match database.user_faults(alloc) {
+        Ok(all) => Ok(all),
+        Err(ValuesError::TooManyNames(_)) => profile_faults(alloc, database.database()),
         Err(ValuesError::Memory) => Err(AllocError),
     }
 }

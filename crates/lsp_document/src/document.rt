@@ -12,11 +12,12 @@ use crate::cut::{common_back, common_front};
 use crate::exchanging::exchange;
 use crate::recutting::texts_of;
 use crate::taking::refusal_of;
-use lsp_diagnostics::{Capabilities, Diagnostic, KeptMarks, source_diagnostics};
+use lsp_diagnostics::{Capabilities, Diagnostic, KeptMarks, kept_diagnostics, source_diagnostics};
 use std::alloc::{AllocError, Global};
 use std::marker::Model;
 use ti_base::{Database, EditError};
 use tools_sources::{SourceError, database_of, is_ended};
+use user_kept::KeptDatabase;
 
 // The most blocks that are exchanged one by one; of more the database is loaded anew.
 const EDITS_MAX: usize = 64;
@@ -27,7 +28,7 @@ const EDITS_MAX: usize = 64;
 pub struct Document {
     alloc: Global,
     text: Vec<u8>,
-    database: Database,
+    database: KeptDatabase,
     // What was shown for the faults of its blocks.
     kept: Vec<KeptMarks>,
     // Why the source is refused, if it is.
@@ -100,7 +101,7 @@ struct Changed {
 // many at the front and at the end are the same, and gives the number of edits.
 fn exchange_all(
     alloc: Global,
-    database: &mut Database,
+    database: &mut KeptDatabase,
     ended: &[u8],
     texts: &[&[u8]],
     front: usize,
@@ -115,7 +116,7 @@ fn exchange_all(
     ensures refused { IfErr result (λ error. error ≡ Memory) }
 {
     if database.len().max(texts.len()) - front - back > EDITS_MAX {
-        *database = load(alloc, ended)?;
+        *database = KeptDatabase::of(alloc, load(alloc, ended)?);
         return Ok(0);
     }
     exchange(database, texts, front, back)
@@ -123,19 +124,19 @@ fn exchange_all(
 
 // Makes the blocks of a database those of a text whose last line is ended, or none if the source is
 // refused.
-fn change_to(alloc: Global, database: &mut Database, ended: &[u8]) -> Result<Changed, EditError>
+fn change_to(alloc: Global, database: &mut KeptDatabase, ended: &[u8]) -> Result<Changed, EditError>
     requires { last_byte ascii.newline ended.now ≡ ascii.newline }
     ensures held { OnOk result (database.new ≡ held ended.now) }
     ensures refusal { IfOk result (λ changed. changed.refusal ≡ source_refusal ended.now) }
     ensures edits { IfOk result (λ changed. source_refusal ended.now ≡ None → Exchanged database.old (source_texts ended.now) changed.edits) }
     ensures refused { IfErr result (λ error. error ≡ Memory) }
 {
-    let (texts, front, back) = cut_beside(alloc, database, ended)?;
+    let (texts, front, back) = cut_beside(alloc, database.database(), ended)?;
     let refusal = refusal_of(ended, &texts);
     let edits = match refusal {
         None => exchange_all(alloc, database, ended, &texts, front, back)?,
         Some(_) => {
-            *database = Database::new(alloc);
+            *database = KeptDatabase::new(alloc);
             0
         }
     };
@@ -146,7 +147,7 @@ fn change_to(alloc: Global, database: &mut Database, ended: &[u8]) -> Result<Cha
 // as it is.
 fn change_to_text(
     alloc: Global,
-    database: &mut Database,
+    database: &mut KeptDatabase,
     text: &mut Vec<u8>,
 ) -> Result<Changed, EditError>
     ensures held { OnOk result (database.new ≡ held text.old.items) }
@@ -185,7 +186,7 @@ impl Document {
         Document {
             alloc,
             text: Vec::new(alloc),
-            database: Database::new(alloc),
+            database: KeptDatabase::new(alloc),
             kept: Vec::new(alloc),
             refusal: None,
         }
@@ -222,7 +223,7 @@ impl Document {
             }
             Err(error) => {
                 self.text = Vec::new(self.alloc);
-                self.database = Database::new(self.alloc);
+                self.database = KeptDatabase::new(self.alloc);
                 self.kept = Vec::new(self.alloc);
                 self.refusal = None;
                 Err(out_of_memory(error))
@@ -241,7 +242,7 @@ impl Document {
     pub fn database(&self) -> &Database
         ensures { result.now ≡ held self.now }
     {
-        &self.database
+        self.database.database()
     }
 
     /// What is wrong with the source in the profile, in the order of its report, or the one refusal
@@ -256,7 +257,7 @@ impl Document {
             alloc,
             Capabilities::Profile,
             &self.text,
-            &self.database,
+            self.database.database(),
             &mut Vec::new(alloc),
             self.refusal,
         )
@@ -276,14 +277,23 @@ impl Document {
         ensures diagnostics { IfOk result (λ all. map diagnostic_seen all.items ≡ diagnostics_by capabilities self.old) }
         ensures text { self.new ≡ self.old }
     {
-        source_diagnostics(
-            alloc,
-            capabilities,
-            &self.text,
-            &self.database,
-            &mut self.kept,
-            self.refusal,
-        )
+        match capabilities {
+            Capabilities::Profile => source_diagnostics(
+                alloc,
+                capabilities,
+                &self.text,
+                self.database.database(),
+                &mut self.kept,
+                self.refusal,
+            ),
+            Capabilities::UserDefined => kept_diagnostics(
+                alloc,
+                &self.text,
+                &mut self.database,
+                &mut self.kept,
+                self.refusal,
+            ),
+        }
     }
 }
 

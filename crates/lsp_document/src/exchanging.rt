@@ -6,10 +6,11 @@ ghost use Rattle.lsp_document.specs.Exchanges as spec;
 ghost use Rattle.lsp_document.specs.Exchanges.{AtBack, AtFront, EditsLead};
 ghost use Rattle.lsp_document.specs.Documents.{IsShortBlock};
 
-use ti_base::{Database, EditError};
+use ti_base::EditError;
+use user_kept::KeptDatabase;
 
 // Exchanges blocks from a position on for these texts, one by one.
-fn replace_each(database: &mut Database, at: usize, texts: &[&[u8]]) -> Result<(), EditError>
+fn replace_each(database: &mut KeptDatabase, at: usize, texts: &[&[u8]]) -> Result<(), EditError>
     requires room { at + length texts.now ≤ length database.old }
     requires few { at + length texts.now ≤ blocks_max }
     requires short { All IsShortBlock (map (λ text. text.now) texts.now) }
@@ -24,7 +25,7 @@ fn replace_each(database: &mut Database, at: usize, texts: &[&[u8]]) -> Result<(
 }
 
 // Puts these texts in at a position, one by one.
-fn insert_each(database: &mut Database, at: usize, texts: &[&[u8]]) -> Result<(), EditError>
+fn insert_each(database: &mut KeptDatabase, at: usize, texts: &[&[u8]]) -> Result<(), EditError>
     requires place { at ≤ length database.old }
     requires room { length database.old + length texts.now ≤ blocks_max }
     requires short { All IsShortBlock (map (λ text. text.now) texts.now) }
@@ -39,7 +40,7 @@ fn insert_each(database: &mut Database, at: usize, texts: &[&[u8]]) -> Result<()
 }
 
 // Takes so many blocks out at a position, one by one.
-fn remove_each(database: &mut Database, at: usize, count: usize) -> Result<(), EditError>
+fn remove_each(database: &mut KeptDatabase, at: usize, count: usize) -> Result<(), EditError>
     requires room { at + count ≤ length database.old }
     ensures made { OnOk result (database.new ≡ take at database.old ++ drop (at + count) database.old) }
     ensures lead { OnOk result (EditsLead count database.old database.new) }
@@ -54,7 +55,7 @@ fn remove_each(database: &mut Database, at: usize, count: usize) -> Result<(), E
 /// Makes the blocks of a database these texts, of which so many at the front and at the end are the
 /// same, and gives the number of edits: as many as the longer of the parts between has blocks.
 pub(crate) fn exchange(
-    database: &mut Database,
+    database: &mut KeptDatabase,
     texts: &[&[u8]],
     front: usize,
     back: usize,
