@@ -1,18 +1,19 @@
--- What was found out about a block stays right after a replacement on which the block does not depend.
+-- What was found out about a block stays right after an edit on which the block does not depend.
 use Rattle.std.proofs.Common.{◌≡◌, ℕ, zero, suc, ◌+◌, ◌<◌, ◌≤◌, inl, inr, true, false, nat_eq, List, [], ◌∷◌, map, length, drop, set, get_or, Option, Some, None, slice_get}
 use Rattle.std.proofs.Common.{refl, sym, ap, ◌∙◌, subst, arith, Contains, All, ◌⊎◌}
-use Rattle.std.specs.List.{AllZip}
+use Rattle.std.specs.List.{AllZip, insert, remove}
 use Rattle.std.specs.Option.{is_some, option_map}
 use Rattle.std.proofs.lemmas.Bool.{cases_Bool, false≢true}
 use Rattle.std.proofs.lemmas.List.{length-map, length-set}
+use Rattle.std.proofs.lemmas.List.Edits.{length-insert, length-remove}
 use Rattle.std.proofs.lemmas.List.Elements.{Contains-get_or}
 use Rattle.std.proofs.lemmas.Option.{none-some, same_Some, slice_get_within}
 use Rattle.ti_text.proofs.Lists.{get-set_other, get-set_same, item_at}
 use Rattle.ti_source.specs.Parsing.{reading_of_text}
 use Rattle.ti_layout.specs.Values.{Mention, contents}
 use Rattle.base_meaning.specs.Compiled.{EntryState}
-use Rattle.base_meaning.specs.Dependents.{AreDependents}
-use Rattle.base_meaning.specs.Edits.{IsInPlace, list_after, replacement}
+use Rattle.base_meaning.specs.Dependents.{IsDependent}
+use Rattle.base_meaning.specs.Edits.{Change, IsInPlace, insertion, list_after, removal, replacement}
 use Rattle.base_meaning.specs.Exchange.{exchange_of, new_list}
 use Rattle.base_meaning.specs.Expansion.{expansion as expansion_there}
 use Rattle.base_meaning.specs.Owner.{readings}
@@ -24,10 +25,19 @@ use Rattle.user_values.specs.Limit.{name_count, names_of}
 use Rattle.user_compiling.specs.Entries.{AreStates, IsStateOf, does_not_resolve, does_resolve}
 use Rattle.user_compiling.specs.Findings.{AreFindingsBy, IsFindingBy}
 use Rattle.user_compiling.specs.declared.finding.Finding.{Finding}
+use Rattle.user_values.proofs.Resolving.{read_text}
+use Rattle.user_base.specs.Places.{position_before}
+use Rattle.user_base.proofs.Places.{PutsAt, put_in, remained}
 use Rattle.user_base.specs.Untouched.{UntouchedBlocksSayTheSame}
 use Rattle.user_kept.specs.inside.Kept.{AreRight, AreRightOff, IsKeptBefore, IsRightOf}
 use Rattle.user_kept.specs.declared.kept.Kept.{Kept}
-use Rattle.user_kept.proofs.Names.{few_more}
+use Rattle.user_kept.proofs.Names.{few_inserted, few_more, few_removed}
+
+get-inserted_there : {X : Type 0} (xs : List X) (place : ℕ) (x : X) → place ≤ length xs → slice_get (insert xs place x) place ≡ Some x
+get-inserted_there [] zero x l = refl
+get-inserted_there [] (suc k) x l = absurd (omega (arith, l))
+get-inserted_there (y ∷ ys) zero x l = refl
+get-inserted_there (y ∷ ys) (suc k) x l = get-inserted_there ys k x (omega (arith, l))
 
 state_stays : (texts next : List (List ℕ)) (text : List ℕ) (state : EntryState) → expansion next text ≡ expansion texts text
     → expansion_there (readings next) (reading_of_text text) ≡ expansion_there (readings texts) (reading_of_text text)
@@ -43,45 +53,123 @@ state_stays texts next text _ e f (does_resolve {state = state} h) = does_resolv
   is = h.is;
 })
 
-module _ (law : UntouchedBlocksSayTheSame) (next : List (List ℕ)) (place : ℕ) (rebuilt : List ℕ) (kept : Kept) (h : IsKeptBefore next place rebuilt kept) where
-  pub as_many_kept : length kept.findings.items ≡ length next
-  as_many_kept = h.kept_of.findings.as_many ∙ sym (ap (λ (xs : List (List ℕ)). length xs) h.next_is ∙ length-set h.texts place h.text)
-
-  pub off_kept : AreRightOff next rebuilt kept.findings.items
-  off_kept = λ at text finding off stands f.
-      let there : slice_get (list_after h.texts (replacement place h.text)) at ≡ Some text = ap (λ (xs : List (List ℕ)). slice_get xs at) (sym h.next_is) ∙ stands in
-      let same = law h.texts (replacement place h.text) at text h.in_place there (λ d. off ((h.dependents.dependents at).1 d)) in
-      let right = h.kept_of.findings.each at text finding same.stood f in
-      subst (λ (xs : List (List ℕ)). IsRightOf xs text finding) (sym h.next_is) (record {
-        state = right.state;
-        becomes = state_stays h.texts (list_after h.texts (replacement place h.text)) text right.state same.user_mentions same.mentions right.becomes;
-        by = right.by;
-      })
-
+module _ (next : List (List ℕ)) (edit : List ℕ → Change) (rebuilt : List ℕ) (kept : Kept) (h : IsKeptBefore next edit rebuilt kept) where
   dependent_within : (at : ℕ) → Contains rebuilt at → at < length next
   dependent_within at c =
       let d = (h.dependents.dependents at).0 c in
-      let led = exchanged h.texts (replacement place h.text) h.in_place in
+      let led = exchanged h.texts (edit h.text) h.in_place in
       let here = ap (λ bs. slice_get bs at) (sym (led.new ∙ ap readings (sym h.next_is))) ∙ d.1 in
       let l : at < length (readings next) = slice_get_within (readings next) at d.0 here in
       let n = length-map next reading_of_text in
       omega (arith, l, n)
 
-  pub stands_now : slice_get next place ≡ Some h.text
-  stands_now =
+  pub within_kept : All (λ at. at < length next) rebuilt
+  within_kept = λ k d l. dependent_within (get_or rebuilt k d) (Contains-get_or rebuilt k d l)
+
+  -- a block that stays right, found at another position of what is kept
+  right_there : UntouchedBlocksSayTheSame → (findings : List Finding)
+      → ((at : ℕ) → (PutsAt (edit h.text) at → ⊥) → slice_get findings at ≡ slice_get kept.findings.items (position_before (edit h.text) at))
+      → AreRightOff next rebuilt findings
+  right_there law findings moved = λ at text finding off stands f.
+      let change = edit h.text in
+      let there : slice_get (list_after h.texts change) at ≡ Some text = ap (λ (xs : List (List ℕ)). slice_get xs at) (sym h.next_is) ∙ stands in
+      let other : IsDependent (exchange_of h.texts change) at → ⊥ = λ d. off ((h.dependents.dependents at).1 d) in
+      let same = law h.texts change at text h.in_place there other in
+      let led = exchanged h.texts change h.in_place in
+      let here : slice_get (new_list (exchange_of h.texts change)) at ≡ Some (reading_of_text text) =
+      ap (λ bs. slice_get bs at) led.new ∙ read_text (list_after h.texts change) at text there in
+      let apart : PutsAt change at → ⊥ = λ p. other (reading_of_text text, here, inl (put_in h.texts change at h.in_place p)) in
+      let right = h.kept_of.findings.each (position_before change at) text finding same.stood (sym (moved at apart) ∙ f) in
+      subst (λ (xs : List (List ℕ)). IsRightOf xs text finding) (sym h.next_is) (record {
+        state = right.state;
+        becomes = state_stays h.texts (list_after h.texts change) text right.state same.user_mentions same.mentions right.becomes;
+        by = right.by;
+      })
+
+-- ---- a block is replaced
+
+module _ (next : List (List ℕ)) (place : ℕ) (rebuilt : List ℕ) (kept : Kept) (h : IsKeptBefore next (replacement place) rebuilt kept) where
+  pub as_many_replaced : length kept.findings.items ≡ length next
+  as_many_replaced = h.kept_of.findings.as_many ∙ sym (ap (λ (xs : List (List ℕ)). length xs) h.next_is ∙ length-set h.texts place h.text)
+
+  pub right_replaced : UntouchedBlocksSayTheSame → AreRightOff next rebuilt kept.findings.items
+  right_replaced law = right_there next (replacement place) rebuilt kept h law kept.findings.items (λ at apart. refl)
+
+  pub stands_replaced : slice_get next place ≡ Some h.text
+  stands_replaced =
       let old = item_at h.texts place h.in_place in
       ap (λ (xs : List (List ℕ)). slice_get xs place) h.next_is ∙ get-set_same h.texts place old.0 h.text old.1
 
   -- no more names than were kept, and those of the new block
-  pub few_names : name_count next (length next) ≤ kept.names + length (names_of (user_reading_of_text h.text).items)
-  few_names =
+  pub names_replaced : name_count next (length next) ≤ kept.names + length (names_of (user_reading_of_text h.text).items)
+  names_replaced =
       let a = few_more h.texts place h.text h.in_place in
       let b = h.kept_of.names in
       let c = ap (λ (xs : List (List ℕ)). name_count xs (length xs)) h.next_is in
       omega (arith, a, b, c)
 
-  pub within_kept : All (λ at. at < length next) rebuilt
-  within_kept = λ k d l. dependent_within (get_or rebuilt k d) (Contains-get_or rebuilt k d l)
+-- ---- a block is put in
+
+module _ (next : List (List ℕ)) (place : ℕ) (rebuilt : List ℕ) (kept : Kept) (h : IsKeptBefore next (insertion place) rebuilt kept) where
+  pub place_inserted : place ≤ length kept.findings.items
+  place_inserted =
+      let l : place ≤ length h.texts = h.in_place in
+      let n = h.kept_of.findings.as_many in
+      omega (arith, l, n)
+
+  pub as_many_inserted : (finding : Finding) → length (insert kept.findings.items place finding) ≡ length next
+  as_many_inserted finding =
+      let l : place ≤ length h.texts = h.in_place in
+      let n = h.kept_of.findings.as_many in
+      let a = length-insert kept.findings.items place finding place_inserted in
+      let b = length-insert h.texts place h.text l in
+      let c = ap (λ (xs : List (List ℕ)). length xs) h.next_is in
+      omega (arith, a, b, c, n)
+
+  pub right_inserted : UntouchedBlocksSayTheSame → (finding : Finding) → AreRightOff next rebuilt (insert kept.findings.items place finding)
+  right_inserted law finding =
+      right_there next (insertion place) rebuilt kept h law (insert kept.findings.items place finding)
+      (λ at apart. remained h.texts (insertion place h.text) kept.findings.items finding at h.in_place h.kept_of.findings.as_many apart)
+
+  pub stands_inserted : slice_get next place ≡ Some h.text
+  stands_inserted = ap (λ (xs : List (List ℕ)). slice_get xs place) h.next_is ∙ get-inserted_there h.texts place h.text h.in_place
+
+  pub names_inserted : name_count next (length next) ≤ kept.names + length (names_of (user_reading_of_text h.text).items)
+  names_inserted =
+      let a = few_inserted h.texts place h.text h.in_place in
+      let b = h.kept_of.names in
+      let c = ap (λ (xs : List (List ℕ)). name_count xs (length xs)) h.next_is in
+      omega (arith, a, b, c)
+
+-- ---- a block is taken out
+
+module _ (next : List (List ℕ)) (place : ℕ) (rebuilt : List ℕ) (kept : Kept) (h : IsKeptBefore next (λ _. removal place) rebuilt kept) where
+  pub place_removed : place < length kept.findings.items
+  place_removed =
+      let l : place < length h.texts = h.in_place in
+      let n = h.kept_of.findings.as_many in
+      omega (arith, l, n)
+
+  pub as_many_removed : length (remove kept.findings.items place) ≡ length next
+  as_many_removed =
+      let l : place < length h.texts = h.in_place in
+      let n = h.kept_of.findings.as_many in
+      let a = length-remove kept.findings.items place place_removed in
+      let b = length-remove h.texts place l in
+      let c = ap (λ (xs : List (List ℕ)). length xs) h.next_is in
+      omega (arith, a, b, c, n)
+
+  pub right_removed : UntouchedBlocksSayTheSame → (finding : Finding) → AreRightOff next rebuilt (remove kept.findings.items place)
+  right_removed law finding =
+      right_there next (λ _. removal place) rebuilt kept h law (remove kept.findings.items place)
+      (λ at apart. remained h.texts (removal place) kept.findings.items finding at h.in_place h.kept_of.findings.as_many apart)
+
+  pub names_removed : name_count next (length next) ≤ kept.names
+  names_removed =
+      let a = few_removed h.texts place in
+      let b = h.kept_of.names in
+      let c = ap (λ (xs : List (List ℕ)). name_count xs (length xs)) h.next_is in
+      omega (arith, a, b, c)
 
 -- ---- found out again, one after the other
 

@@ -1,8 +1,8 @@
--- A replacement brings no more distinct names than its block says.
+-- An edit brings no more distinct names than its block says.
 use Rattle.std.proofs.Common.{◌≡◌, inl, inr, ℕ, zero, suc, ◌+◌, ◌<◌, ◌≤◌, Bool, true, false, ◌||◌, cond, List, [], ◌∷◌, ◌++◌, map, length, take}
 use Rattle.std.proofs.Common.{refl, sym, ap, ◌∙◌, subst, arith, length-append, slice_set}
 use Rattle.std.specs.Str.{bytes_eq}
-use Rattle.std.specs.List.{list_any}
+use Rattle.std.specs.List.{insert, list_any, remove}
 use Rattle.std.proofs.lemmas.Bool.{cases_Bool, false≢true}
 use Rattle.std.proofs.lemmas.List.{take_all}
 use Rattle.std.proofs.lemmas.List.Folds.{list_any-append}
@@ -142,6 +142,27 @@ replaced (t ∷ ts) (suc k) text found l =
     let old = ap (λ (ns : Names). length ns) (distinct_after-append found (names_said t) (names_there ts)) in
     omega (arith, rest, new, old)
 
+inserted : (texts : List (List ℕ)) (place : ℕ) (text : List ℕ) (found : Names) → place ≤ length texts
+    → count_after found (names_there (insert texts place text)) ≤ count_after found (names_there texts) + length (names_said text)
+inserted [] zero text found l = (put_in found (names_said text) []).1
+inserted [] (suc k) text found l = absurd (omega (arith, l))
+inserted (t ∷ ts) zero text found l = (put_in found (names_said text) (names_there (t ∷ ts))).1
+inserted (t ∷ ts) (suc k) text found l =
+    let rest = inserted ts k text (distinct_after found (names_said t)) (omega (arith, l)) in
+    let new = ap (λ (ns : Names). length ns) (distinct_after-append found (names_said t) (names_there (insert ts k text))) in
+    let old = ap (λ (ns : Names). length ns) (distinct_after-append found (names_said t) (names_there ts)) in
+    omega (arith, rest, new, old)
+
+removed : (texts : List (List ℕ)) (place : ℕ) (found : Names) → count_after found (names_there (remove texts place)) ≤ count_after found (names_there texts)
+removed [] zero found = omega arith
+removed [] (suc k) found = omega arith
+removed (t ∷ ts) zero found = (put_in found (names_said t) (names_there ts)).0
+removed (t ∷ ts) (suc k) found =
+    let rest = removed ts k (distinct_after found (names_said t)) in
+    let new = ap (λ (ns : Names). length ns) (distinct_after-append found (names_said t) (names_there (remove ts k))) in
+    let old = ap (λ (ns : Names). length ns) (distinct_after-append found (names_said t) (names_there ts)) in
+    omega (arith, rest, new, old)
+
 whole : (texts : List (List ℕ)) → name_count texts (length texts) ≡ count_after [] (names_there texts)
 whole texts = ap (λ (ts : List (List ℕ)). count_after [] (names_there ts)) (take_all (length texts) texts (omega arith))
 
@@ -150,5 +171,20 @@ pub few_more : (texts : List (List ℕ)) (place : ℕ) (text : List ℕ) → pla
 few_more texts place text l =
     let a = replaced texts place text [] l in
     let b = whole (slice_set texts place text) in
+    let c = whole texts in
+    omega (arith, a, b, c)
+
+pub few_inserted : (texts : List (List ℕ)) (place : ℕ) (text : List ℕ) → place ≤ length texts
+    → name_count (insert texts place text) (length (insert texts place text)) ≤ name_count texts (length texts) + length (names_said text)
+few_inserted texts place text l =
+    let a = inserted texts place text [] l in
+    let b = whole (insert texts place text) in
+    let c = whole texts in
+    omega (arith, a, b, c)
+
+pub few_removed : (texts : List (List ℕ)) (place : ℕ) → name_count (remove texts place) (length (remove texts place)) ≤ name_count texts (length texts)
+few_removed texts place =
+    let a = removed texts place [] in
+    let b = whole (remove texts place) in
     let c = whole texts in
     omega (arith, a, b, c)

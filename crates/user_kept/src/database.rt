@@ -1,7 +1,7 @@
 //! A database that keeps what was found out about the user-defined capabilities of its blocks.
 ghost use Rattle.std.specs.Prelude.{◌≡◌, List, ℕ};
 
-use crate::kept::{Kept, kept_after_replacement};
+use crate::kept::{Kept, kept_after_insertion, kept_after_removal, kept_after_replacement};
 use std::alloc::{AllocError, Global};
 use std::marker::Model;
 use ti_base::{Database, EditError, Edited};
@@ -9,7 +9,7 @@ use user_compiling::{ExtendedFault, found_faults};
 use user_values::ValuesError;
 
 /// A database that keeps what was found out about the user-defined capabilities of its blocks. After
-/// an edit that replaces a block only what depends on it is found out anew.
+/// an edit only what depends on it is found out anew.
 #[derive(Drop)]
 pub struct KeptDatabase {
     alloc: Global,
@@ -89,22 +89,36 @@ impl KeptDatabase {
         }
     }
 
-    /// Puts a block in, as `Database::insert`. All is then found out anew.
+    /// Puts a block in, as `Database::insert`. What was found out is kept likewise.
     pub fn insert(&mut self, at: usize, text: &[u8]) -> Result<Edited, EditError>
         ensures step { EditStep self.old (insertion at text.now) (outcome_of result) self.new }
         ensures rebuilds { IfOk result (λ edited. Rebuilds self.old (insertion at text.now) edited.rebuilt.items edited.work) }
     {
-        self.kept = None;
-        self.database.insert(at, text)
+        match self.database.insert(at, text) {
+            Ok(edited) => {
+                let old = self.kept.take();
+                let rebuilt = edited.rebuilt.as_slice();
+                self.kept = kept_after_insertion(self.alloc, &self.database, old, at, rebuilt);
+                Ok(edited)
+            }
+            Err(error) => Err(error),
+        }
     }
 
-    /// Takes a block out, as `Database::remove`. All is then found out anew.
+    /// Takes a block out, as `Database::remove`. What was found out is kept likewise.
     pub fn remove(&mut self, at: usize) -> Result<Edited, EditError>
         ensures step { EditStep self.old (removal at) (outcome_of result) self.new }
         ensures rebuilds { IfOk result (λ edited. Rebuilds self.old (removal at) edited.rebuilt.items edited.work) }
     {
-        self.kept = None;
-        self.database.remove(at)
+        match self.database.remove(at) {
+            Ok(edited) => {
+                let old = self.kept.take();
+                let rebuilt = edited.rebuilt.as_slice();
+                self.kept = kept_after_removal(self.alloc, &self.database, old, at, rebuilt);
+                Ok(edited)
+            }
+            Err(error) => Err(error),
+        }
     }
 
     // The faults by what was found out, which is kept.

@@ -1,5 +1,6 @@
 //! What is kept of a source, and what remains of it after an edit.
 ghost use Rattle.std.specs.Prelude.{◌≡◌, ◌<◌, ◌≤◌, ℕ, List, All, IfOk, IfSome, IsErrOf, OnOk, length, true};
+ghost use Rattle.base_meaning.specs.Edits.{insertion, removal, replacement};
 ghost use Rattle.user_values.specs.Limit.{name_count, name_limit, IsOverLimitAt};
 ghost use Rattle.user_kept.specs.inside.Kept.{AreRight, AreRightOff, IsKeptBefore, IsKeptOf};
 
@@ -58,6 +59,30 @@ fn find_again(
     Ok(true)
 }
 
+// What is kept once it is found out anew about the blocks at these positions. None if too many blocks
+// are to be read.
+fn found_again(
+    alloc: Global,
+    database: &Database,
+    places: &[usize],
+    findings: Vec<Finding>,
+    names: usize,
+) -> Result<Option<Kept>, AllocError>
+    requires as_many { length findings.items ≡ length database.now }
+    requires within { All (λ at. at < length database.now) places.now }
+    requires right { AreRightOff database.now places.now findings.items }
+    requires names { name_count database.now (length database.now) ≤ names }
+    requires few { names ≤ name_limit }
+    ensures { IfOk result (λ kept. IfSome kept (IsKeptOf database.now)) }
+{
+    let mut findings = findings;
+    if find_again(alloc, database, places, &mut findings)? {
+        Ok(Some(Kept { findings, names }))
+    } else {
+        Ok(None)
+    }
+}
+
 impl Kept {
     /// What is kept of a source.
     ///
@@ -85,25 +110,63 @@ impl Kept {
         at: usize,
         rebuilt: &[usize],
     ) -> Result<Option<Kept>, AllocError>
-        requires { IsKeptBefore database.now at rebuilt.now self }
+        requires { IsKeptBefore database.now (replacement at) rebuilt.now self }
         ensures { IfOk result (λ kept. IfSome kept (IsKeptOf database.now)) }
     {
         // A law, with no code: a block that does not depend on an edit says what it said.
         user_base::laws::untouched_blocks_say_the_same();
-        let mut findings = self.findings;
         let names = self.names.saturating_add(says_at(alloc, database, at)?);
         if names > NAME_LIMIT {
             return Ok(None);
         }
-        if find_again(alloc, database, rebuilt, &mut findings)? {
-            Ok(Some(Kept { findings, names }))
-        } else {
-            Ok(None)
+        found_again(alloc, database, rebuilt, self.findings, names)
+    }
+
+    // The same once a block is put in at a position.
+    fn after_insertion(
+        self,
+        alloc: Global,
+        database: &Database,
+        at: usize,
+        rebuilt: &[usize],
+    ) -> Result<Option<Kept>, AllocError>
+        requires { IsKeptBefore database.now (insertion at) rebuilt.now self }
+        ensures { IfOk result (λ kept. IfSome kept (IsKeptOf database.now)) }
+    {
+        user_base::laws::untouched_blocks_say_the_same();
+        let names = self.names.saturating_add(says_at(alloc, database, at)?);
+        if names > NAME_LIMIT {
+            return Ok(None);
         }
+        let mut left = BLOCKS_READ;
+        let Some(finding) = find(alloc, database, at, &mut left)? else {
+            return Ok(None);
+        };
+        let mut findings = self.findings;
+        findings.insert(at, finding)?;
+        found_again(alloc, database, rebuilt, findings, names)
+    }
+
+    // The same once the block at a position is taken out.
+    fn after_removal(
+        self,
+        alloc: Global,
+        database: &Database,
+        at: usize,
+        rebuilt: &[usize],
+    ) -> Result<Option<Kept>, AllocError>
+        requires { IsKeptBefore database.now (λ _. removal at) rebuilt.now self }
+        ensures { IfOk result (λ kept. IfSome kept (IsKeptOf database.now)) }
+    {
+        user_base::laws::untouched_blocks_say_the_same();
+        let mut findings = self.findings;
+        findings.remove(at);
+        found_again(alloc, database, rebuilt, findings, self.names)
     }
 }
 
-/// What remains of what was kept once the block at a position is replaced and these are rebuilt.
+/// What remains of what was kept once the block at a position is replaced and these are rebuilt. If
+/// memory is short, all is found out anew when it is asked for.
 pub(crate) fn kept_after_replacement(
     alloc: Global,
     database: &Database,
@@ -111,14 +174,51 @@ pub(crate) fn kept_after_replacement(
     at: usize,
     rebuilt: &[usize],
 ) -> Option<Kept>
-    requires { IfSome old (IsKeptBefore database.now at rebuilt.now) }
+    requires { IfSome old (IsKeptBefore database.now (replacement at) rebuilt.now) }
     ensures { IfSome result (IsKeptOf database.now) }
 {
     match old {
         None => None,
-        // If memory is short, all is found out anew when it is asked for.
         Some(kept) => kept
             .after_replacement(alloc, database, at, rebuilt)
+            .unwrap_or(None),
+    }
+}
+
+/// The same once a block is put in at a position.
+pub(crate) fn kept_after_insertion(
+    alloc: Global,
+    database: &Database,
+    old: Option<Kept>,
+    at: usize,
+    rebuilt: &[usize],
+) -> Option<Kept>
+    requires { IfSome old (IsKeptBefore database.now (insertion at) rebuilt.now) }
+    ensures { IfSome result (IsKeptOf database.now) }
+{
+    match old {
+        None => None,
+        Some(kept) => kept
+            .after_insertion(alloc, database, at, rebuilt)
+            .unwrap_or(None),
+    }
+}
+
+/// The same once the block at a position is taken out.
+pub(crate) fn kept_after_removal(
+    alloc: Global,
+    database: &Database,
+    old: Option<Kept>,
+    at: usize,
+    rebuilt: &[usize],
+) -> Option<Kept>
+    requires { IfSome old (IsKeptBefore database.now (λ _. removal at) rebuilt.now) }
+    ensures { IfSome result (IsKeptOf database.now) }
+{
+    match old {
+        None => None,
+        Some(kept) => kept
+            .after_removal(alloc, database, at, rebuilt)
             .unwrap_or(None),
     }
 }

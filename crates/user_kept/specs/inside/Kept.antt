@@ -2,7 +2,7 @@
 use Rattle.std.specs.Prelude.{ℕ, ◌≡◌, ◌≤◌, List, Some, Contains, length, slice_get}
 use Rattle.base_meaning.specs.Compiled.{EntryState}
 use Rattle.base_meaning.specs.Dependents.{AreDependents}
-use Rattle.base_meaning.specs.Edits.{IsInPlace, list_after, replacement}
+use Rattle.base_meaning.specs.Edits.{Change, IsInPlace, list_after}
 use Rattle.base_meaning.specs.Exchange.{exchange_of}
 use Rattle.user_values.specs.Limit.{name_count, name_limit}
 use Rattle.user_compiling.specs.Entries.{IsStateOf}
@@ -33,12 +33,11 @@ pub record IsKeptOf (texts : List (List ℕ)) (kept : Kept) : Type 0 where
   pub names : name_count texts (length texts) ≤ kept.names
   pub few : kept.names ≤ name_limit
 
--- this was kept before the block at that position was replaced, which led to that source and made
--- those blocks anew
-pub record IsKeptBefore (next : List (List ℕ)) (place : ℕ) (rebuilt : List ℕ) (kept : Kept) : Type 0 where
+-- this was kept before an edit, which led to that source and made those blocks anew
+pub record IsKeptBefore (next : List (List ℕ)) (edit : List ℕ → Change) (rebuilt : List ℕ) (kept : Kept) : Type 0 where
   pub texts : List (List ℕ)
   pub text : List ℕ
   pub kept_of : IsKeptOf texts kept
-  pub in_place : IsInPlace texts (replacement place text)
-  pub next_is : next ≡ list_after texts (replacement place text)
-  pub dependents : AreDependents (exchange_of texts (replacement place text)) rebuilt
+  pub in_place : IsInPlace texts (edit text)
+  pub next_is : next ≡ list_after texts (edit text)
+  pub dependents : AreDependents (exchange_of texts (edit text)) rebuilt

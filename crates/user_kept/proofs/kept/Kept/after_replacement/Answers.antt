@@ -1,23 +1,24 @@
 use Rattle.std.proofs.Common.{arith}
-use Rattle.user_kept.proofs.Keeping.{few_names, off_kept, stands_now, within_kept}
+use Rattle.base_meaning.specs.Edits.{replacement}
+use Rattle.user_kept.proofs.Keeping.{as_many_replaced, names_replaced, right_replaced, stands_replaced, within_kept}
 use Rattle.user_kept.proofs.kept.Kept.after_replacement.Goals as goal
 
-pub find_again-requires-clause-within : goal.find_again-requires-clause-within
-find_again-requires-clause-within c =
-    within_kept c.untouched_blocks_say_the_same.ensures c.args.database.now c.args.at c.args.rebuilt.now c.args.self c.requires
+pub found_again-requires-clause-as_many : goal.found_again-requires-clause-as_many
+found_again-requires-clause-as_many c = as_many_replaced c.args.database.now c.args.at c.args.rebuilt.now c.args.self c.requires
 
-pub find_again-requires-clause-right : goal.find_again-requires-clause-right
-find_again-requires-clause-right c =
-    off_kept c.untouched_blocks_say_the_same.ensures c.args.database.now c.args.at c.args.rebuilt.now c.args.self c.requires
+pub found_again-requires-clause-within : goal.found_again-requires-clause-within
+found_again-requires-clause-within c = within_kept c.args.database.now (replacement c.args.at) c.args.rebuilt.now c.args.self c.requires
 
-pub returns-then-branch : goal.returns-then-branch
-returns-then-branch c =
-    let law = c.untouched_blocks_say_the_same.ensures in
+pub found_again-requires-clause-right : goal.found_again-requires-clause-right
+found_again-requires-clause-right c =
+    right_replaced c.args.database.now c.args.at c.args.rebuilt.now c.args.self c.requires c.untouched_blocks_say_the_same.ensures
+
+pub found_again-requires-clause-names : goal.found_again-requires-clause-names
+found_again-requires-clause-names c =
     let db = c.args.database.now in
-    let names = few_names law db c.args.at c.args.rebuilt.now c.args.self c.requires in
-    let says = c.in_ok-says_at.ensures c.requires.text (stands_now law db c.args.at c.args.rebuilt.now c.args.self c.requires) in
-    record {
-      findings = c.in_ok-find_again.ensures c.if-branch.true;
-      names = omega (arith, names, says, c.saturating_add-names.ensures, c.if-names-gt-NAME_LIMIT.false);
-      few = omega (arith, c.if-names-gt-NAME_LIMIT.false);
-    }
+    let names = names_replaced db c.args.at c.args.rebuilt.now c.args.self c.requires in
+    let says = c.in_ok-says_at.ensures c.requires.text (stands_replaced db c.args.at c.args.rebuilt.now c.args.self c.requires) in
+    omega (arith, names, says, c.saturating_add-names.ensures, c.if-names-gt-NAME_LIMIT.false)
+
+pub found_again-requires-clause-few : goal.found_again-requires-clause-few
+found_again-requires-clause-few c = omega (arith, c.if-names-gt-NAME_LIMIT.false)
