@@ -188,6 +188,18 @@ obsolete_item_data kind label detail documentation range =
     (member (codes "tags") (array (item (natural 1) no_items))
     (member (codes "textEdit") (text_edit_data label range) no_members))))))))
 
+-- "CompletionItem" that comes after those that have no text to sort by, and before obsolete ones:
+-- the bar is after letters and digits, and before the tilde
+abbrev pub later_item_data : ItemKind → List ℕ → List ℕ → List ℕ → Range → Data
+later_item_data kind label detail documentation range =
+    object (member (codes "detail") (string detail)
+    (member (codes "documentation") (string documentation)
+    (member (codes "filterText") (string label)
+    (member (codes "kind") (natural (item_number kind))
+    (member (codes "label") (string label)
+    (member (codes "sortText") (string (codes "|" ++ label))
+    (member (codes "textEdit") (text_edit_data label range) no_members)))))))
+
 -- "CompletionList"
 abbrev pub list_data : Items → Data
 list_data items = object (member (codes "isIncomplete") (boolean false) (member (codes "items") (array items) no_members))

@@ -2,7 +2,7 @@
 ghost use Rattle.std.specs.Prelude.{◌≡◌, IfOk, option_map};
 ghost use Rattle.serde_json.specs.Data.{item, no_items};
 ghost use Rattle.serde_json.specs.View.{items_view, view};
-ghost use Rattle.lsp_values.specs.Shapes.{action_data, folding_data, highlight_data, hover_data, item_data, list_data, location_data, obsolete_item_data, plain_data, symbol_data, symbol_information_data, text_edit_data, workspace_edit_data};
+ghost use Rattle.lsp_values.specs.Shapes.{action_data, folding_data, highlight_data, hover_data, item_data, later_item_data, list_data, location_data, obsolete_item_data, plain_data, symbol_data, symbol_information_data, text_edit_data, workspace_edit_data};
 
 use crate::objects::{with_number, with_text, with_value};
 use crate::writing::range_value;
@@ -231,6 +231,33 @@ pub fn obsolete_item_value(
     let members = with_text(alloc, members, "label", label)?;
     let members = with_text(alloc, members, "sortText", last.as_str())?;
     let members = with_value(alloc, members, "tags", tags)?;
+    let members = with_value(alloc, members, "textEdit", edit)?;
+    Ok(Value::Object(members))
+}
+
+/// An item of a completion ("CompletionItem") that comes after those of `item_value`, and before
+/// obsolete ones. Else it is as that of `item_value`.
+///
+/// # Errors
+/// `AllocError` if memory ran out.
+pub fn later_item_value(
+    alloc: Global,
+    kind: ItemKind,
+    label: &str,
+    detail: &str,
+    documentation: &str,
+    range: Range,
+) -> Result<Value, AllocError>
+    ensures { IfOk result (λ v. view v ≡ later_item_data kind label.now detail.now documentation.now range) }
+{
+    let later = format!(in alloc; "|{label}")?;
+    let edit = text_edit_value(alloc, label, range)?;
+    let members = with_text(alloc, Map::new(alloc), "detail", detail)?;
+    let members = with_text(alloc, members, "documentation", documentation)?;
+    let members = with_text(alloc, members, "filterText", label)?;
+    let members = with_number(alloc, members, "kind", kind.number())?;
+    let members = with_text(alloc, members, "label", label)?;
+    let members = with_text(alloc, members, "sortText", later.as_str())?;
     let members = with_value(alloc, members, "textEdit", edit)?;
     Ok(Value::Object(members))
 }

@@ -3,9 +3,9 @@ use lsp_messages::{Client, Message, Notice, parse, read_message};
 use lsp_types::{Failure, ItemKind, Position, Range, Severity};
 use lsp_values::Reply;
 use lsp_values::answers::{
-    action_value, folding_value, highlight_value, hover_value, item_value, list_value,
-    location_value, obsolete_item_value, symbol_information_value, symbol_value, text_edit_value,
-    workspace_edit_value,
+    action_value, folding_value, highlight_value, hover_value, item_value, later_item_value,
+    list_value, location_value, obsolete_item_value, symbol_information_value, symbol_value,
+    text_edit_value, workspace_edit_value,
 };
 use lsp_values::writing::{
     diagnostic_value, initialized_value, position_value, publish_value, range_value, refusal_value,
@@ -53,6 +53,9 @@ const DESCRIBED_ITEM_TEXT: &str =
 const OBSOLETE_ITEM_TEXT: &str =
     r#"{"detail":"d","documentation":"D","filterText":"OTbs","kind":5,"label":"OTbs","sortText":"~OTbs","tags":[1],"textEdit":{"newText":"OTbs","range":{"end":{"character":0,"line":3},"start":{"character":1,"line":2}}}}"#;
 
+const LATER_ITEM_TEXT: &str =
+    r#"{"detail":"d","documentation":"D","filterText":"Tc","kind":5,"label":"Tc","sortText":"|Tc","textEdit":{"newText":"Tc","range":{"end":{"character":0,"line":3},"start":{"character":1,"line":2}}}}"#;
+
 const LIST_TEXT: &str = r#"{"isIncomplete":false,"items":[null]}"#;
 
 #[test]
@@ -64,6 +67,8 @@ fn completions(rt: HostRuntime) -> Result<(), Fail> {
     assert!(rt; item.to_string(alloc)?.as_str() == DESCRIBED_ITEM_TEXT);
     let item = obsolete_item_value(alloc, ItemKind::Capability, "OTbs", "d", "D", RANGE)?;
     assert!(rt; item.to_string(alloc)?.as_str() == OBSOLETE_ITEM_TEXT);
+    let item = later_item_value(alloc, ItemKind::Capability, "Tc", "d", "D", RANGE)?;
+    assert!(rt; item.to_string(alloc)?.as_str() == LATER_ITEM_TEXT);
     let items = Vec::from_array(alloc, [Value::Null])?;
     let list = list_value(alloc, items)?;
     assert!(rt; list.to_string(alloc)?.as_str() == LIST_TEXT);
