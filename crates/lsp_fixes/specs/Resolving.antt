@@ -7,8 +7,8 @@ use Rattle.lsp_spans.specs.Touching.{ItemSeen, item_at}
 use Rattle.lsp_types.specs.declared.places.Position.{Position}
 use Rattle.lsp_document.specs.Diagnostics.{Shown, text_at}
 use Rattle.lsp_document.specs.Documents.{held}
-use Rattle.lsp_document.specs.declared.diagnostics.Problem.{Problem}
-use Rattle.lsp_document.specs.declared.diagnostics.Problem.TheVariants.{Fault}
+use Rattle.lsp_diagnostics.specs.declared.diagnostics.Problem.{Problem}
+use Rattle.lsp_diagnostics.specs.declared.diagnostics.Problem.TheVariants.{Fault}
 use Rattle.lsp_blocks.specs.Spots.{range_in, spot_at}
 use Rattle.lsp_blocks.specs.declared.spots.Spot.{Spot}
 use Rattle.lsp_fixes.specs.Edits.{AdviceSeen, advises_name, advises_sign, advises_spelling, advises_caret}

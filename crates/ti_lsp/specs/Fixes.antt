@@ -7,7 +7,7 @@ use Rattle.ti_caps.specs.declared.capability.Kind.TheVariants.{Flag, Number, Tex
 use Rattle.lsp_values.specs.Shapes.{action_data}
 use Rattle.lsp_fixes.specs.Edits.{AdviceSeen, advises_name, advises_sign, advises_spelling, advises_caret}
 use Rattle.lsp_document.specs.Diagnostics.{Shown, diagnostics_by}
-use Rattle.lsp_document.specs.declared.capabilities.Capabilities.{Capabilities}
+use Rattle.lsp_diagnostics.specs.declared.capabilities.Capabilities.{Capabilities}
 use Rattle.lsp_fixes.specs.Fixes.{FixSeen, fixes_of}
 use Rattle.lsp_fixes.specs.Resolving.{resolved_by}
 use Rattle.lsp_types.specs.declared.places.Range.{Range}
