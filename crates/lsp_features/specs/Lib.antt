@@ -7,4 +7,5 @@ pub mod Meanings
 pub mod Names
 pub mod Renamed
 pub mod Renaming
+pub mod UserMeanings
 pub mod inside

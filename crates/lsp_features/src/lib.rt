@@ -2,7 +2,8 @@
 //! Protocol 3.17, chapter "Language Features".
 //!
 //! - `names`: where the names of a document lead
-//! - `meanings`: what an item says, as it is read
+//! - `meanings`: what an item says, as it is read; `user_meanings`: what one says of a user-defined
+//!   name
 //! - `hovers`: what an editor shows about a position
 //! - `renaming`: what an editor renames
 //! - `completions`: what an editor offers to complete a word with
@@ -16,6 +17,7 @@ pub mod laws;
 mod meanings;
 mod names;
 mod renaming;
+mod user_meanings;
 
 pub use completions::{Completion, Offers, completion_of};
 pub use formatting::{LayoutEdit, layout_of};

@@ -47,8 +47,8 @@ fn all_printed(alloc: Global, bytes: &[u8]) -> Result<Vec<u8>, AllocError>
     Ok(shown)
 }
 
-// The bytes of a string as the source spells them.
-fn spelled(alloc: Global, value: &[u8]) -> Result<String, AllocError>
+/// The bytes of a string as the source spells them.
+pub(crate) fn spelled(alloc: Global, value: &[u8]) -> Result<String, AllocError>
     ensures { IfOk result (λ text. string_bytes text ≡ spec.spelled value.now) }
 {
     let spelling = escape(alloc, value)?;

@@ -4,8 +4,8 @@ use std::process::Abort;
 use std::test::Fail;
 use ti_caps::find;
 
-// Names with their kinds and their documentation: of both tables, the first and the last row, and of
-// keys with the least and the most modifiers.
+// Names with their kinds and their documentation: of both tables, the first and the last row, and
+// of keys with the least and the most modifiers.
 static KNOWN: [(&'static str, &'static str, &'static str); 15] = [
     (
         "AN",

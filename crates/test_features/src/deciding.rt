@@ -1,7 +1,7 @@
 //! The blocks that decide what an entry inherits.
 use crate::documents::document_of;
 use lsp_blocks::DecidingBlock;
-use lsp_document::Document;
+use lsp_document::{Capabilities, Document};
 use lsp_features::{About, Hover, hover_of};
 use lsp_types::Position;
 use std::alloc::{AllocError, Global};
@@ -70,7 +70,7 @@ fn are_wanted(sources: &[DecidingBlock], wanted: &[Decided]) -> bool {
 fn is_told(told: &Hover, wanted: &[Decided]) -> bool {
     match &told.about {
         About::Name { sources, .. } => are_wanted(sources, wanted),
-        About::Item { .. } => false,
+        About::Item { .. } | About::UserItem { .. } => false,
     }
 }
 
@@ -82,7 +82,8 @@ fn expect_sources(
     (line, column): (usize, usize),
     wanted: &[Decided],
 ) -> Result<(), AllocError> {
-    let told = hover_of(alloc, document, Position { line, column })?;
+    let place = Position { line, column };
+    let told = hover_of(alloc, Capabilities::Profile, document, place)?;
     assert!(rt; told.is_some());
     if let Some(told) = &told {
         assert!(rt; is_told(told, wanted));

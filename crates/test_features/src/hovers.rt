@@ -1,7 +1,7 @@
 //! What is shown about positions in documents.
 use crate::documents::{document_of, range_of};
 use lsp_blocks::{Entry, Holding};
-use lsp_document::Document;
+use lsp_document::{Capabilities, Document};
 use lsp_features::{About, Hover, Meaning, hover_of};
 use lsp_types::{Position, Range};
 use std::alloc::{AllocError, Global};
@@ -21,7 +21,7 @@ d,\tuse=x, use=f, use = a,
 
 /// How an item is read, as it is wanted.
 #[derive(Clone, Copy)]
-enum Reads {
+pub(crate) enum Reads {
     Nothing,
     Set,
     Number(u32),
@@ -85,7 +85,7 @@ const ROWS: [((usize, usize), (usize, usize), Wanted); 15] = [
 ];
 
 /// Whether a meaning is as it is wanted.
-fn is_read(meaning: &Meaning, wanted: Reads) -> bool {
+pub(crate) fn is_read(meaning: &Meaning, wanted: Reads) -> bool {
     match (meaning, wanted) {
         (Meaning::Nothing, Reads::Nothing) => true,
         (Meaning::Set, Reads::Set) => true,
@@ -135,7 +135,8 @@ fn hovers(rt: HostRuntime) -> Result<(), AllocError> {
     let document = document_of(rt.alloc(), SOURCE)?;
     for ((line, column), (start, end), wanted) in ROWS {
         let range = range_of((line, start, end));
-        let told = hover_of(rt.alloc(), &document, Position { line, column })?;
+        let place = Position { line, column };
+        let told = hover_of(rt.alloc(), Capabilities::Profile, &document, place)?;
         assert!(rt; told.is_some_and(|told| is_wanted(&told, range, wanted)));
     }
     Ok(())
@@ -182,10 +183,11 @@ fn is_told(
     found: Becomes,
 ) -> Result<bool, AllocError> {
     let (line, column) = place;
-    match hover_of(alloc, document, Position { line, column })? {
+    let place = Position { line, column };
+    match hover_of(alloc, Capabilities::Profile, document, place)? {
         Some(told) => match &told.about {
             About::Name { name, entry, .. } => Ok(name.as_str() == wanted && became(entry, found)),
-            About::Item { .. } => Ok(false),
+            About::Item { .. } | About::UserItem { .. } => Ok(false),
         },
         None => Ok(false),
     }
@@ -242,7 +244,8 @@ const NOWHERE: [(usize, usize); 7] = [(0, 1), (1, 6), (2, 4), (4, 18), (4, 27), 
 fn nothing_is_told(rt: HostRuntime) -> Result<(), AllocError> {
     let document = document_of(rt.alloc(), SOURCE)?;
     for (line, column) in NOWHERE {
-        let told = hover_of(rt.alloc(), &document, Position { line, column })?;
+        let place = Position { line, column };
+        let told = hover_of(rt.alloc(), Capabilities::Profile, &document, place)?;
         assert!(rt; told.is_none());
     }
     Ok(())

@@ -10,6 +10,7 @@
 //! - `names`: where the names of documents lead
 //! - `outlines`: the blocks of documents as their outlines show them
 //! - `renaming`: what is renamed in documents
+//! - `user_hovers`: what is shown about items of user-defined names
 #![tactic(auto)]
 
 #[cfg(test)]
@@ -32,3 +33,5 @@ mod names;
 mod outlines;
 #[cfg(test)]
 mod renaming;
+#[cfg(test)]
+mod user_hovers;

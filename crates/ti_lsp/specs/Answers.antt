@@ -8,6 +8,7 @@ use Rattle.lsp_values.specs.Shapes.{text_edit_data, workspace_edit_data}
 use Rattle.lsp_messages.specs.declared.clients.Client.{Client}
 use Rattle.lsp_types.specs.declared.items.ItemKind.TheVariants as items
 use Rattle.lsp_types.specs.declared.places.Range.{Range}
+use Rattle.lsp_diagnostics.specs.declared.capabilities.Capabilities.{Capabilities}
 use Rattle.lsp_blocks.specs.Symbols.{SymbolSeen, symbols_of}
 use Rattle.lsp_features.specs.Completions.{CompletionSeen, OffersSeen, completion_of, offers_capabilities, offers_names}
 use Rattle.lsp_features.specs.Formatting.{layout_of}
@@ -19,7 +20,7 @@ use Rattle.lsp_features.specs.Renaming.{RenamingSeen, refuses, renamable_at, ren
 use Rattle.lsp_server.specs.Sayings.{Sayings}
 use Rattle.ti_lsp.specs.Hovers.{hover_shown}
 use Rattle.ti_lsp.specs.Laying.{folds_data, layout_data}
-use Rattle.ti_lsp.specs.Offers.{all_capabilities, capability_item}
+use Rattle.ti_lsp.specs.Offers.{capability_items}
 use Rattle.ti_lsp.specs.Searching.{searched}
 use Rattle.ti_lsp.specs.Shown.{capabilities_of, shown_of}
 
@@ -50,15 +51,16 @@ highlights_data ranges = array (items_of (map highlight_data ranges))
 abbrev pub entry_item : Range → List ℕ → Data
 entry_item range name = item_data items.Entry name (codes "entry") None range
 
--- the items of what is offered, each put in place of a range
-abbrev pub offered_items : Range → OffersSeen → List Data
-offered_items range offers_capabilities = map (capability_item range) all_capabilities
-offered_items range (offers_names names) = map (entry_item range) names
+-- the items of what is offered in a source that may have these capabilities, each put in place of a
+-- range
+abbrev pub offered_items : Capabilities → Range → OffersSeen → List Data
+offered_items capabilities range offers_capabilities = capability_items capabilities range
+offered_items capabilities range (offers_names names) = map (entry_item range) names
 
 -- what completes a word; no items where no word is completed
-abbrev pub completion_data : Option CompletionSeen → Data
-completion_data None = list_data (items_of [])
-completion_data (Some found) = list_data (items_of (offered_items found.range found.offers))
+abbrev pub completion_data : Capabilities → Option CompletionSeen → Data
+completion_data capabilities None = list_data (items_of [])
+completion_data capabilities (Some found) = list_data (items_of (offered_items capabilities found.range found.offers))
 
 -- edits that put a name in place of parts of a text
 abbrev pub edits_data : List ℕ → List ℕ → List Range → Data
@@ -77,8 +79,8 @@ renamable_data (Some range) = range_data range
 
 -- what comes of a question of a client about a text, under the URI of its document
 abbrev pub answer_of : Client → List ℕ → List ℕ → Query → Said
-answer_of client text uri (completion place) = said_answer (completion_data (completion_of text place))
-answer_of client text uri (hover place) = said_answer (hover_shown (hover_of text place))
+answer_of client text uri (completion place) = said_answer (completion_data (capabilities_of client) (completion_of text place))
+answer_of client text uri (hover place) = said_answer (hover_shown (hover_of (capabilities_of client) text place))
 answer_of client text uri (definition place) = said_answer (definition_data uri (definition_of text place))
 answer_of client text uri (references place with_declaration) = said_answer (references_data uri (references_of text place with_declaration))
 answer_of client text uri symbols = said_answer (outline_data client.nests_symbols uri (symbols_of text))

@@ -1,11 +1,13 @@
 -- No diagnostic and no answer has a float.
 use Rattle.std.specs.Prelude.{ℕ, ◌≡◌, Bool, cond, List, [], ◌∷◌, ◌++◌, false, true, Option, None, Some, map, refl}
-use Rattle.serde_json.specs.Data.{Items}
+use Rattle.serde_json.specs.Data.{Data, Items}
 use Rattle.serde_json.specs.View.{items_of}
 use Rattle.serde_json.specs.Written.{has_float, items_have_float}
 use Rattle.ti_caps.specs.Tables.{Capability, name_of}
 use Rattle.lsp_document.specs.Diagnostics.{Shown, diagnostics_by}
 use Rattle.lsp_diagnostics.specs.declared.capabilities.Capabilities.{Capabilities}
+use Rattle.lsp_diagnostics.specs.declared.capabilities.Capabilities.TheVariants.{Profile, UserDefined}
+use Rattle.lsp_descriptions.specs.UserDescriptions.{UserDescribed, user_descriptions}
 use Rattle.lsp_blocks.specs.Symbols.{SymbolSeen, symbols_of}
 use Rattle.lsp_features.specs.Completions.{CompletionSeen, OffersSeen, completion_of, offers_capabilities, offers_names}
 use Rattle.lsp_features.specs.Formatting.{LayoutSeen, layout_of}
@@ -25,7 +27,7 @@ use Rattle.lsp_server.specs.Sayings.{HasNoFloats, SaidHasNoFloat}
 use Rattle.ti_lsp.specs.Answers.{answer_of, completion_data, definition_data, entry_item, offered_items, renamable_data, renamed_said, sayings, symbol_shown}
 use Rattle.ti_lsp.specs.Hovers.{hover_shown}
 use Rattle.ti_lsp.specs.Laying.{fold_data, layout_data}
-use Rattle.ti_lsp.specs.Offers.{all_capabilities, capability_item, described_item, is_obsolete}
+use Rattle.ti_lsp.specs.Offers.{all_capabilities, capability_item, described_item, is_obsolete, user_item, user_items}
 use Rattle.ti_lsp.specs.Searching.{holds, symbols_found}
 use Rattle.ti_lsp.specs.Shown.{capabilities_of, shown_data, shown_of}
 
@@ -69,21 +71,33 @@ none_in_described : (obsolete : Bool) (range : Range) (cap : Capability) → has
 none_in_described true range cap = refl
 none_in_described false range cap = refl
 
-none_in_capabilities : (range : Range) (caps : List Capability) → items_have_float (items_of (map (capability_item range) caps)) ≡ false
-none_in_capabilities range [] = refl
-none_in_capabilities range (cap ∷ caps) = rw (none_in_described (is_obsolete (name_of cap)) range cap) (none_in_capabilities range caps)
+none_in_users : (range : Range) (all : List UserDescribed) → items_have_float (items_of (map (user_item range) all)) ≡ false
+none_in_users range [] = refl
+none_in_users range (said ∷ all) = none_in_users range all
+
+none_in_user_items : (capabilities : Capabilities) (range : Range) → items_have_float (items_of (user_items capabilities range)) ≡ false
+none_in_user_items Profile range = refl
+none_in_user_items UserDefined range = none_in_users range user_descriptions
+
+-- nor in the items of capabilities before others that have none
+none_in_capabilities : (range : Range) (caps : List Capability) (rest : List Data) → items_have_float (items_of rest) ≡ false
+    → items_have_float (items_of (map (capability_item range) caps ++ rest)) ≡ false
+none_in_capabilities range [] rest none = none
+none_in_capabilities range (cap ∷ caps) rest none = rw (none_in_described (is_obsolete (name_of cap)) range cap) (none_in_capabilities range caps rest none)
 
 none_in_names : (range : Range) (names : List (List ℕ)) → items_have_float (items_of (map (entry_item range) names)) ≡ false
 none_in_names range [] = refl
 none_in_names range (name ∷ names) = none_in_names range names
 
-none_in_offers : (range : Range) (offers : OffersSeen) → items_have_float (items_of (offered_items range offers)) ≡ false
-none_in_offers range offers_capabilities = none_in_capabilities range all_capabilities
-none_in_offers range (offers_names names) = none_in_names range names
+none_in_offers : (capabilities : Capabilities) (range : Range) (offers : OffersSeen)
+    → items_have_float (items_of (offered_items capabilities range offers)) ≡ false
+none_in_offers capabilities range offers_capabilities =
+    none_in_capabilities range all_capabilities (user_items capabilities range) (none_in_user_items capabilities range)
+none_in_offers capabilities range (offers_names names) = none_in_names range names
 
-none_in_completion : (found : Option CompletionSeen) → has_float (completion_data found) ≡ false
-none_in_completion None = refl
-none_in_completion (Some found) = rw (none_in_offers found.range found.offers) refl
+none_in_completion : (capabilities : Capabilities) (found : Option CompletionSeen) → has_float (completion_data capabilities found) ≡ false
+none_in_completion capabilities None = refl
+none_in_completion capabilities (Some found) = rw (none_in_offers capabilities found.range found.offers) refl
 
 none_in_hover : (shown : Option HoverSeen) → has_float (hover_shown shown) ≡ false
 none_in_hover None = refl
@@ -119,8 +133,8 @@ none_in_wanted capabilities text uri range true = none_in_fixes text uri (diagno
 none_in_wanted capabilities text uri range false = refl
 
 answers_have_no_floats : (client : Client) (text uri : List ℕ) (query : Query) → SaidHasNoFloat (answer_of client text uri query)
-answers_have_no_floats client text uri (completion place) = none_in_completion (completion_of text place)
-answers_have_no_floats client text uri (hover place) = none_in_hover (hover_of text place)
+answers_have_no_floats client text uri (completion place) = none_in_completion (capabilities_of client) (completion_of text place)
+answers_have_no_floats client text uri (hover place) = none_in_hover (hover_of (capabilities_of client) text place)
 answers_have_no_floats client text uri (definition place) = none_in_definition uri (definition_of text place)
 answers_have_no_floats client text uri (references place with_declaration) = none_in_references uri (references_of text place with_declaration)
 answers_have_no_floats client text uri symbols = none_in_outline client.nests_symbols uri (symbols_of text)

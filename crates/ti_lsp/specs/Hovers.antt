@@ -9,8 +9,9 @@ use Rattle.lsp_document.specs.Diagnostics.{Shown, label_of_problem}
 use Rattle.lsp_blocks.specs.Deciding.{SourceSeen}
 use Rattle.lsp_blocks.specs.Holdings.{EntrySeen, entry_missing, entry_faulty, entry_held}
 use Rattle.lsp_blocks.specs.declared.holdings.Holding.{Holding}
-use Rattle.lsp_features.specs.Hovers.{AboutSeen, HoverSeen, about_item, about_name}
+use Rattle.lsp_features.specs.Hovers.{AboutSeen, HoverSeen, about_item, about_name, about_user}
 use Rattle.lsp_features.specs.Meanings.{MeaningSeen, means_cancelled, means_nothing, means_number, means_set, means_text}
+use Rattle.lsp_descriptions.specs.UserDescriptions.{UserDescribed, user_described}
 use Rattle.lsp_descriptions.specs.Words.{detail_of, documentation_of}
 
 -- what an entry holds: its bytes, and how many values of each kind it has
@@ -46,6 +47,37 @@ capability_sentence c text meaning =
     name_of c ++ (codes ": " ++ (detail_of c
     ++ (codes "\n" ++ (documentation_of c ++ (codes "\nWritten: " ++ (text ++ (codes "\nRead: " ++ meaning_text meaning)))))))
 
+-- what an item of a user-defined name means
+abbrev pub user_meaning_text : MeaningSeen → List ℕ
+user_meaning_text means_nothing = codes "nothing, since the value is invalid"
+user_meaning_text means_set = meaning_text means_set
+user_meaning_text (means_number number) = meaning_text (means_number number)
+user_meaning_text (means_text text) = meaning_text (means_text text)
+user_meaning_text means_cancelled = meaning_text means_cancelled
+
+-- the kind of a value, after a comma, if there is one
+abbrev pub kind_meant : MeaningSeen → List ℕ
+kind_meant means_nothing = []
+kind_meant means_set = codes ", boolean"
+kind_meant (means_number number) = codes ", number"
+kind_meant (means_text text) = codes ", string"
+kind_meant means_cancelled = []
+
+-- what a user-defined name is, if it is known: its kinds and a sentence; else the kind of the value
+-- that it is given here
+abbrev pub user_facts : Option UserDescribed → MeaningSeen → List ℕ
+user_facts None meaning = kind_meant meaning
+user_facts (Some said) meaning = codes ", " ++ (said.kinds ++ (codes "\n" ++ said.documentation))
+
+-- lines with an item as it is written, and as it is read
+abbrev pub item_lines : List ℕ → List ℕ → List ℕ
+item_lines text meaning = codes "\nWritten: " ++ (text ++ (codes "\nRead: " ++ meaning))
+
+-- what a user-defined name is, and the item as it is written and as it is read
+abbrev pub user_sentence : List ℕ → List ℕ → MeaningSeen → List ℕ
+user_sentence name text meaning =
+    name ++ (codes ": user-defined" ++ (user_facts (user_described name) meaning ++ item_lines text (user_meaning_text meaning)))
+
 -- the names of capabilities, each after a comma
 abbrev pub later_names : List Capability → List ℕ
 later_names [] = []
@@ -72,6 +104,7 @@ name_sentence name entry sources = name ++ codes ": " ++ entry_sentence entry ++
 -- what a position is on
 abbrev pub about_text : AboutSeen → List ℕ
 about_text (about_item c text meaning) = capability_sentence c text meaning
+about_text (about_user name text meaning) = user_sentence name text meaning
 about_text (about_name name entry sources) = name_sentence name entry sources
 
 -- what is shown ("Hover"), or null

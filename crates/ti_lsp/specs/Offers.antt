@@ -1,12 +1,15 @@
 -- The capabilities as a completion offers them (own; LSP 3.17, "Completion Request").
-use Rattle.std.specs.Prelude.{ℕ, ◌==◌, ◌&&◌, ◌++◌, Bool, List, Some, false, slice_get, true, unwrap_or}
+use Rattle.std.specs.Prelude.{ℕ, ◌==◌, ◌&&◌, ◌++◌, Bool, List, [], Some, codes, false, map, slice_get, true, unwrap_or}
 use Rattle.serde_json.specs.Data.{Data}
 use Rattle.ti_caps.specs.NameOrder.{in_name_order}
 use Rattle.ti_caps.specs.Tables.{Capability, name_of}
 use Rattle.ti_caps.specs.declared.capability.Kind.TheVariants.{Flag, Number, Text}
-use Rattle.lsp_values.specs.Shapes.{item_data, obsolete_item_data}
+use Rattle.lsp_values.specs.Shapes.{item_data, later_item_data, obsolete_item_data}
 use Rattle.lsp_types.specs.declared.items.ItemKind.TheVariants as items
 use Rattle.lsp_types.specs.declared.places.Range.{Range}
+use Rattle.lsp_diagnostics.specs.declared.capabilities.Capabilities.{Capabilities}
+use Rattle.lsp_diagnostics.specs.declared.capabilities.Capabilities.TheVariants.{Profile, UserDefined}
+use Rattle.lsp_descriptions.specs.UserDescriptions.{UserDescribed, user_descriptions}
 use Rattle.lsp_descriptions.specs.Words.{detail_of, documentation_of}
 
 -- the byte of a name at that place, or 0 after the end
@@ -29,3 +32,21 @@ capability_item range c = described_item (is_obsolete (name_of c)) range c
 -- all capabilities: the booleans, the numbers and the strings, each by the bytes of their names
 unfoldable pub all_capabilities : List Capability
 all_capabilities = in_name_order Flag ++ in_name_order Number ++ in_name_order Text
+
+-- what is said of a user-defined capability besides its name and its sentence
+abbrev pub user_detail : UserDescribed → List ℕ
+user_detail said = codes "user-defined, " ++ said.kinds
+
+-- the item of a user-defined capability, put in place of a range: it comes after those of the
+-- others, but for obsolete ones
+abbrev pub user_item : Range → UserDescribed → Data
+user_item range said = later_item_data items.Capability said.name (user_detail said) said.documentation range
+
+-- the items of the user-defined capabilities that are known, if a source may have such
+abbrev pub user_items : Capabilities → Range → List Data
+user_items Profile range = []
+user_items UserDefined range = map (user_item range) user_descriptions
+
+-- the items of the capabilities that a source may have, put in place of a range
+abbrev pub capability_items : Capabilities → Range → List Data
+capability_items capabilities range = map (capability_item range) all_capabilities ++ user_items capabilities range

@@ -10,7 +10,7 @@ ghost use Rattle.lsp_values.specs.Shapes.{highlight_data, location_data};
 
 use crate::offers::capability_items;
 use lsp_blocks::{Symbol, symbols_of};
-use lsp_document::Document;
+use lsp_document::{Capabilities, Document};
 use lsp_features::{Offers, completion_of, definition_of, references_of};
 use lsp_types::{ItemKind, Position, Range};
 use lsp_values::answers::{
@@ -188,25 +188,40 @@ fn name_items(alloc: Global, names: &[String], range: Range) -> Result<Vec<Value
     Ok(items)
 }
 
-// The items of what is offered, each put in place of a range.
-fn offered_items(alloc: Global, offers: &Offers, range: Range) -> Result<Vec<Value>, AllocError>
-    ensures { IfOk result (λ items. map view items.items ≡ offered_items range (offers_seen offers.now)) }
+// The items of what is offered in a source that may have these capabilities, each put in place of a
+// range.
+fn offered_items(
+    alloc: Global,
+    capabilities: Capabilities,
+    offers: &Offers,
+    range: Range,
+) -> Result<Vec<Value>, AllocError>
+    ensures { IfOk result (λ items. map view items.items ≡ offered_items capabilities range (offers_seen offers.now)) }
 {
     match offers {
-        Offers::Capabilities => capability_items(alloc, range),
+        Offers::Capabilities => capability_items(alloc, capabilities, range),
         Offers::Names(names) => name_items(alloc, names, range),
     }
 }
 
-/// What completes the word before a place: nothing if no word is completed.
+/// What completes the word before a place of a source that may have these capabilities: nothing if
+/// no word is completed.
 ///
 /// # Errors
 /// Out of memory.
-pub fn completion(alloc: Global, document: &Document, place: Position) -> Result<Value, AllocError>
-    ensures { IfOk result (λ v. view v ≡ completion_data (completion_of document.now place)) }
+pub fn completion(
+    alloc: Global,
+    capabilities: Capabilities,
+    document: &Document,
+    place: Position,
+) -> Result<Value, AllocError>
+    ensures { IfOk result (λ v. view v ≡ completion_data capabilities (completion_of document.now place)) }
 {
     match completion_of(alloc, document, place)? {
         None => list_value(alloc, Vec::new(alloc)),
-        Some(found) => list_value(alloc, offered_items(alloc, &found.offers, found.range)?),
+        Some(found) => {
+            let items = offered_items(alloc, capabilities, &found.offers, found.range)?;
+            list_value(alloc, items)
+        }
     }
 }

@@ -7,12 +7,14 @@ ghost use Rattle.lsp_blocks.specs.Deciding.{source_seen};
 ghost use Rattle.lsp_blocks.specs.Holdings.{entry_faulty, entry_held, entry_seen};
 ghost use Rattle.lsp_features.specs.Hovers.{about_seen, hover_of};
 ghost use Rattle.lsp_features.specs.Meanings.{meaning_seen};
+ghost use Rattle.lsp_descriptions.specs.UserDescriptions.{user_described};
 ghost use Rattle.lsp_document.specs.Diagnostics.{diagnostic_seen};
+ghost use Rattle.ti_lsp.specs.Hovers.{item_lines, kind_meant, user_facts, user_meaning_text, user_sentence};
 ghost use Rattle.ti_lsp.specs.Hovers.{about_text, capabilities_line, capability_sentence, cause_sentence, entry_sentence, holding_sentence, hover_shown, later_names, meaning_text, name_sentence, source_line, source_lines};
 
 use lsp_blocks::{DecidingBlock, Entry, Holding};
-use lsp_descriptions::{detail_of, documentation_of};
-use lsp_document::{Diagnostic, Document};
+use lsp_descriptions::{detail_of, documentation_of, user_description};
+use lsp_document::{Capabilities, Diagnostic, Document};
 use lsp_features::{About, Meaning, hover_of};
 use lsp_types::Position;
 use lsp_values::answers::hover_value;
@@ -84,6 +86,67 @@ fn capability_sentence(
     format!(in alloc; "{name}: {detail}\n{documentation}\nWritten: {text}\nRead: {meaning}")
 }
 
+// What an item of a user-defined name means.
+fn user_meaning_text(alloc: Global, meaning: &Meaning) -> Result<String, AllocError>
+    ensures { IfOk result (λ text. string_bytes text ≡ user_meaning_text (meaning_seen meaning.now)) }
+{
+    match meaning {
+        Meaning::Nothing => String::from_str(alloc, "nothing, since the value is invalid"),
+        Meaning::Set | Meaning::Number(_) | Meaning::Text(_) | Meaning::Cancelled => {
+            meaning_text(alloc, meaning)
+        }
+    }
+}
+
+// The kind of a value, after a comma, if there is one.
+fn kind_meant(meaning: &Meaning) -> &'static str
+    ensures { result.now ≡ kind_meant (meaning_seen meaning.now) }
+{
+    match meaning {
+        Meaning::Nothing | Meaning::Cancelled => "",
+        Meaning::Set => ", boolean",
+        Meaning::Number(_) => ", number",
+        Meaning::Text(_) => ", string",
+    }
+}
+
+// What a user-defined name is: its kinds and a sentence, if it is known, else the kind of the value
+// that it is given here.
+fn user_facts(alloc: Global, name: &str, meaning: &Meaning) -> Result<String, AllocError>
+    ensures { IfOk result (λ text. string_bytes text ≡ user_facts (user_described name.now) (meaning_seen meaning.now)) }
+{
+    match user_description(alloc, name.as_bytes())? {
+        None => String::from_str(alloc, kind_meant(meaning)),
+        Some(said) => {
+            let kinds = said.kinds;
+            let documentation = said.documentation.as_str();
+            format!(in alloc; ", {kinds}\n{documentation}")
+        }
+    }
+}
+
+// Lines with an item as it is written, and as it is read.
+fn item_lines(alloc: Global, text: &str, meaning: &str) -> Result<String, AllocError>
+    ensures { IfOk result (λ lines. string_bytes lines ≡ item_lines text.now meaning.now) }
+{
+    format!(in alloc; "\nWritten: {text}\nRead: {meaning}")
+}
+
+// What a user-defined name is, and the item as it is written and as it is read.
+fn user_sentence(
+    alloc: Global,
+    name: &str,
+    text: &str,
+    meaning: &Meaning,
+) -> Result<String, AllocError>
+    ensures { IfOk result (λ sentence. string_bytes sentence ≡ user_sentence name.now text.now (meaning_seen meaning.now)) }
+{
+    let facts = user_facts(alloc, name, meaning)?;
+    let meaning = user_meaning_text(alloc, meaning)?;
+    let lines = item_lines(alloc, text, meaning.as_str())?;
+    format!(in alloc; "{name}: user-defined{facts}{lines}")
+}
+
 // Adds the names of capabilities, each after a comma.
 fn push_later_names(text: &mut String, capabilities: &[Cap]) -> Result<(), AllocError>
     ensures { OnOk result (string_bytes text.new ≡ string_bytes text.old ++ later_names capabilities.now) }
@@ -153,6 +216,11 @@ fn about_text(alloc: Global, about: &About) -> Result<String, AllocError>
             text,
             meaning,
         } => capability_sentence(alloc, *capability, text.as_str(), meaning),
+        About::UserItem {
+            name,
+            text,
+            meaning,
+        } => user_sentence(alloc, name.as_str(), text.as_str(), meaning),
         About::Name {
             name,
             entry,
@@ -161,14 +229,19 @@ fn about_text(alloc: Global, about: &About) -> Result<String, AllocError>
     }
 }
 
-/// What is shown about a position in a source.
+/// What is shown about a position in a source that may have these capabilities.
 ///
 /// # Errors
 /// Out of memory.
-pub fn hover(alloc: Global, document: &Document, place: Position) -> Result<Value, AllocError>
-    ensures { IfOk result (λ v. view v ≡ hover_shown (hover_of document.now place)) }
+pub fn hover(
+    alloc: Global,
+    capabilities: Capabilities,
+    document: &Document,
+    place: Position,
+) -> Result<Value, AllocError>
+    ensures { IfOk result (λ v. view v ≡ hover_shown (hover_of capabilities document.now place)) }
 {
-    match hover_of(alloc, document, place)? {
+    match hover_of(alloc, capabilities, document, place)? {
         None => Ok(Value::Null),
         Some(shown) => {
             let text = about_text(alloc, &shown.about)?;

@@ -81,13 +81,17 @@ impl HeldText for Terminfo {
         question: Question<'_>,
     ) -> Result<Reply, AllocError> {
         let answer = match question {
-            Question::Completion(place) => completion(alloc, &self.document, place)?,
+            Question::Completion(place) => {
+                completion(alloc, capabilities_of(client), &self.document, place)?
+            }
             Question::Definition(place) => definition(alloc, &self.document, uri, place)?,
             Question::References {
                 place,
                 with_declaration,
             } => references(alloc, &self.document, uri, place, with_declaration)?,
-            Question::Hover(place) => hover(alloc, &self.document, place)?,
+            Question::Hover(place) => {
+                hover(alloc, capabilities_of(client), &self.document, place)?
+            }
             Question::Symbols => outline(alloc, client.nests_symbols, &self.document, uri)?,
             Question::Highlights(place) => highlights(alloc, &self.document, place)?,
             Question::Folding => folds(alloc, &self.document)?,
