@@ -4,7 +4,7 @@ use std::alloc::{AllocError, Global};
 use std::fmt::Write;
 use std::test::Fail;
 use ti_base::Database;
-use user_compiling::{Finding, compile, found_faults, report_of};
+use user_compiling::{Finding, compile, findings_of, found_faults, report_of};
 use user_kept::KeptDatabase;
 use user_values::ValuesError;
 
@@ -193,9 +193,15 @@ fn findings_one_by_one(rt: HostRuntime) -> Result<(), Fail> {
     let Ok(states) = compile(alloc, &database) else {
         return Err(Fail::new("too many names"));
     };
-    let mut findings = Vec::new(alloc);
-    for (at, state) in states.iter().enumerate() {
-        findings.push(Finding::of(alloc, &database, at, state)?)?;
+    if states.len() != database.len() || states.len() != 2 {
+        return Err(Fail::new("a state is missing"));
+    }
+    let mut findings = findings_of(alloc, &database, &states)?;
+    findings.clear();
+    findings.push(Finding::of(alloc, &database, 0, &states[0])?)?;
+    findings.push(Finding::of(alloc, &database, 1, &states[1])?)?;
+    if findings.len() != database.len() {
+        return Err(Fail::new("a finding is missing"));
     }
     let found = found_faults(alloc, &database, &findings)?;
     let report = report_of(alloc, &database, &found, 1)?;
