@@ -1,0 +1,79 @@
+//! How many errors and warnings there are, and whether they are bad.
+ghost use Rattle.std.specs.Prelude.{◌≡◌, ◌≤◌, ◌++◌, OnOk, length, nat_eq, count_by};
+ghost use Rattle.std.specs.List.{list_any};
+ghost use Rattle.everyday_forms.specs.Counts as spec;
+ghost use Rattle.everyday_forms.specs.Counts.{is_bad, is_error};
+
+use lsp_types::Severity;
+use std::alloc::{AllocError, Global};
+use std::fmt::Write;
+
+// How many errors there are.
+fn errors_in(severities: &[Severity]) -> usize
+    ensures { result ≡ count_by is_error severities.now }
+{
+    let mut count = 0;
+    for severity in severities {
+        if *severity == Severity::Error {
+            count += 1;
+        }
+    }
+    count
+}
+
+// Adds how many there are of what has that name.
+fn push_counted(
+    alloc: Global,
+    out: &mut Vec<u8>,
+    count: usize,
+    name: &[u8],
+) -> Result<(), AllocError>
+    ensures { OnOk result (out.new.items ≡ out.old.items ++ spec.counted count name.now) }
+{
+    let number = count.to_string(alloc)?;
+    out.extend_from_slice(number.as_bytes())?;
+    out.push(b' ')?;
+    out.extend_from_slice(name)?;
+    if count == 1 {
+        return Ok(());
+    }
+    out.extend_from_slice(b"s")
+}
+
+/// Adds the line that says how many errors and warnings there are, in how many files.
+///
+/// # Errors
+/// Out of memory.
+pub fn push_summary(
+    alloc: Global,
+    out: &mut Vec<u8>,
+    severities: &[Severity],
+    files: usize,
+) -> Result<(), AllocError>
+    ensures { OnOk result (out.new.items ≡ out.old.items ++ spec.summary severities.now files) }
+{
+    let errors = errors_in(severities);
+    push_counted(alloc, out, errors, b"error")?;
+    out.extend_from_slice(b", ")?;
+    push_counted(alloc, out, severities.len() - errors, b"warning")?;
+    out.extend_from_slice(b" in ")?;
+    push_counted(alloc, out, files, b"file")?;
+    out.extend_from_slice(b"\n")
+}
+
+// Whether it is bad: an error, or, if warnings are as bad, a warning.
+fn is_bad(strict: bool, severity: Severity) -> bool
+    ensures { result ≡ is_bad strict severity }
+{
+    match severity {
+        Severity::Error => true,
+        Severity::Warning => strict,
+    }
+}
+
+/// Whether one of them is bad: an error, or, with `strict`, a warning.
+pub fn has_bad(strict: bool, severities: &[Severity]) -> bool
+    ensures { result ≡ list_any (is_bad strict) severities.now }
+{
+    severities.iter().any(|severity| is_bad(strict, *severity))
+}

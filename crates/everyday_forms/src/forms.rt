@@ -1,0 +1,42 @@
+//! What is told in a form.
+ghost use Rattle.std.specs.Prelude.{◌≡◌, ◌++◌, IfOk, OnOk};
+ghost use Rattle.everyday_forms.specs.Forms as spec;
+ghost use Rattle.everyday_forms.specs.Told.{told_seen};
+
+use crate::gcc::push_gcc;
+use crate::github::push_github;
+use crate::json::{array_of, push_json};
+use crate::told::{Form, Told};
+use std::alloc::{AllocError, Global};
+
+/// Adds what is told in a form.
+///
+/// # Errors
+/// Out of memory.
+pub fn push_told(
+    alloc: Global,
+    out: &mut Vec<u8>,
+    form: Form,
+    told: &Told<'_>,
+) -> Result<(), AllocError>
+    ensures { OnOk result (out.new.items ≡ out.old.items ++ spec.told_text form (told_seen told.now)) }
+{
+    match form {
+        Form::Gcc { color } => push_gcc(alloc, out, color, told),
+        Form::Github => push_github(alloc, out, told),
+        Form::Json => push_json(alloc, out, told),
+    }
+}
+
+/// The whole output, by all that was told in a form.
+///
+/// # Errors
+/// Out of memory.
+pub fn whole(alloc: Global, form: Form, told: Vec<u8>) -> Result<Vec<u8>, AllocError>
+    ensures { IfOk result (λ all. all.items ≡ spec.whole form told.items) }
+{
+    match form {
+        Form::Gcc { .. } | Form::Github => Ok(told),
+        Form::Json => array_of(alloc, told.as_slice()),
+    }
+}
