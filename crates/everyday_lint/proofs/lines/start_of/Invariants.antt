@@ -1,0 +1,10 @@
+use Rattle.std.proofs.Common.{◌≡◌, ◌+◌, ◌-◌, ◌≤◌, drop, length}
+use Rattle.lsp_places.specs.Position.{line_start}
+use Rattle.everyday_lint.proofs.lines.start_of.Given as goal
+
+-- what is left of the lines begins so much later
+abbrev pub invariant-loop-passed : goal.invariant-loop-passed
+invariant-loop-passed l = record {
+  within : l.start ≤ length l.text;
+  left : l.start + line_start (drop l.start l.text) (l.number - l._passed) ≡ line_start l.text l.number;
+}

@@ -1,0 +1,79 @@
+-- What becomes of files (own).
+use Rattle.std.specs.Prelude.{◌≡◌, ◌⊎◌, ℕ, ◌+◌, Bool, true, false, List, [], ◌∷◌, ◌++◌, Option, Some, None}
+use Rattle.std.specs.String.{string_bytes}
+use Rattle.tools_devices.specs.Tree.{ChangesOnly, Files, FindsFile, Sets}
+use Rattle.everyday_fmt.specs.Fates.{Held, Holds, IsReason, whole_size}
+use Rattle.everyday_lint.specs.Checking.{IsLintedText, made_in}
+use Rattle.everyday_lint.specs.Mending.{fix_lines, mended}
+use Rattle.everyday_lint.specs.Offers.{OfferSeen}
+use Rattle.everyday_lint.specs.declared.checking.Linted.{Linted}
+use Rattle.everyday_lint.specs.declared.files.Done.{Done}
+use Rattle.everyday_lint.specs.declared.files.Fate.{Fate}
+use Rattle.everyday_lint.specs.declared.files.Fate.TheVariants.{Absent, Checked, Failed}
+use Rattle.everyday_lint.specs.declared.options.LintOptions.{LintOptions}
+
+-- ---- one file
+
+-- at most the file at a path changed, and none unless fixes are made
+abbrev pub MayChange : Bool → List ℕ → Option Files → Option Files → Type 0
+MayChange true path before after = ChangesOnly path before after
+MayChange false path before after = after ≡ before
+
+-- the same, by the options
+abbrev pub Stays : LintOptions → List ℕ → Option Files → Option Files → Type 0
+Stays options path before after = MayChange options.fix path before after
+
+-- a failure comes with its reason
+abbrev pub TellsFailure : Option (List ℕ) → Fate → Type 0
+TellsFailure cause (Failed reason) = IsReason cause (string_bytes reason)
+TellsFailure cause fate = ⊥
+
+-- what becomes of the file at a path, of this source, in which these fixes are made: it gets the source
+-- with them, and that is what is told of; or it could not be written, and the tree says why
+abbrev pub Mends : LintOptions → (path source : List ℕ) → List OfferSeen → Held → Held → Fate → Type 0
+Mends options path source offers before after (Checked linted) =
+    IsLintedText options path (mended source 0 offers) (fix_lines path source offers) linted
+    × Sets (path, mended source 0 offers) before.files after.files × (after.failures ≡ before.failures)
+Mends options path source offers before after Absent = ⊥
+Mends options path source offers before after (Failed reason) =
+    IsReason after.cause (string_bytes reason) × (after.failures ≡ before.failures + 1) × ChangesOnly path before.files after.files
+
+-- the same if there may be no fixes: then it stays as it is
+abbrev pub MendsIfSome : LintOptions → (path source : List ℕ) → List OfferSeen → Held → Held → Fate → Type 0
+MendsIfSome options path source [] before after (Checked linted) =
+    IsLintedText options path source [] linted × (after.files ≡ before.files) × (after.failures ≡ before.failures)
+MendsIfSome options path source [] before after fate = ⊥
+MendsIfSome options path source (offer ∷ offers) before after fate = Mends options path source (offer ∷ offers) before after fate
+
+-- what becomes of the file at a path, of this source
+abbrev pub Finds : LintOptions → (path source : List ℕ) → Held → Held → Fate → Type 0
+Finds options path source before after fate = MendsIfSome options path source (made_in options source) before after fate
+
+-- what becomes of the file at a path: what is in it is told of; or it is not there, or could not be
+-- read, and the tree says why
+abbrev pub LintsFile : LintOptions → List ℕ → Held → Held → Fate → Type 0
+LintsFile options path before after Absent =
+    FindsFile path whole_size before.files None × (after.files ≡ before.files) × (after.failures ≡ before.failures)
+LintsFile options path before after (Checked linted) =
+    (source : List ℕ) × Holds path before.files source × Finds options path source before after (Checked linted)
+LintsFile options path before after (Failed reason) =
+    IsReason after.cause (string_bytes reason) × (after.failures ≡ before.failures + 1)
+    × ((after.files ≡ before.files)
+    ⊎ ((source : List ℕ) × Holds path before.files source × Finds options path source before after (Failed reason)))
+
+-- ---- files in turn
+
+-- what becomes of each of these files, one after another
+abbrev pub LintsFiles : LintOptions → List (List ℕ) → Held → Held → List Done → Type 0
+LintsFiles options [] before after [] = after ≡ before
+LintsFiles options (path ∷ paths) before after (done ∷ others) =
+    (string_bytes done.path ≡ path) × (mid : Held) × LintsFile options path before mid done.fate × LintsFiles options paths mid after others
+LintsFiles options paths before after done = ⊥
+
+-- memory ran out: files up to some are done, and of the others at most the next one has changed; or all
+-- are done
+abbrev pub StopsAmong : LintOptions → List (List ℕ) → Held → Option Files → Type 0
+StopsAmong options paths before after =
+    (first : List (List ℕ)) × (others : List (List ℕ)) × (done : List Done) × (mid : Held)
+    × (paths ≡ first ++ others) × LintsFiles options first before mid done
+    × ((after ≡ mid.files) ⊎ ((next : List ℕ) × (rest : List (List ℕ)) × (others ≡ next ∷ rest) × Stays options next mid.files after))

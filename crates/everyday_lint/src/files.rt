@@ -1,0 +1,145 @@
+//! What becomes of a file, and of files in turn.
+ghost use Rattle.std.specs.Prelude.{◌≡◌, IfOk, OnErr, map};
+ghost use Rattle.std.specs.String.{string_bytes};
+ghost use Rattle.everyday_fmt.specs.Fates.{held};
+ghost use Rattle.tools_devices.specs.Tree.{ChangesOnly};
+ghost use Rattle.everyday_lint.specs.Fates.{Finds, LintsFile, LintsFiles, Mends, StopsAmong, Stays, TellsFailure};
+ghost use Rattle.everyday_lint.specs.Checking.{made_in};
+ghost use Rattle.everyday_lint.specs.Offers.{made_seen};
+
+use crate::checking::{Linted, check_text, offers_in};
+use crate::mending::{fix_lines, made, mended};
+use crate::offers::Offer;
+use crate::options::LintOptions;
+use everyday_fmt::ReasonedTree;
+use lsp_document::Document;
+use std::alloc::{AllocError, Global};
+use tools_devices::TreeFault;
+
+/// What becomes of a file.
+#[derive(Debug, PartialEq, Eq, Drop)]
+pub enum Fate {
+    /// It was checked, and was written if fixes were made.
+    Checked(Linted),
+    /// It is not there.
+    Absent,
+    /// It could not be read or written, and what the system says of that.
+    Failed(String),
+}
+
+/// A file, and what became of it.
+#[derive(Debug, PartialEq, Eq, Drop)]
+pub struct Done {
+    /// Its path.
+    pub path: String,
+    /// What became of it.
+    pub fate: Fate,
+}
+
+// That a call has just failed.
+fn failure<T: ReasonedTree>(alloc: Global, tree: &T) -> Result<Fate, AllocError>
+    ensures { IfOk result (TellsFailure (T.cause tree.now)) }
+{
+    Ok(Fate::Failed(tree.reason(alloc)?))
+}
+
+// Writes a document with fixes made, and finds out about it.
+fn mend_file<T: ReasonedTree>(
+    alloc: Global,
+    tree: &mut T,
+    options: LintOptions,
+    path: &str,
+    source: &[u8],
+    offers: &[&Offer],
+) -> Result<Fate, AllocError>
+    ensures done { IfOk result (Mends options path.now source.now (map made_seen offers.now)
+        (held T.files T.failures T.cause tree.old) (held T.files T.failures T.cause tree.new)) }
+    ensures refused { OnErr result (ChangesOnly path.now (T.files tree.old) (T.files tree.new)) }
+{
+    let fixes = fix_lines(alloc, path, source, offers)?;
+    let mut document = Document::open(alloc, mended(alloc, source, offers)?)?;
+    let linted = check_text(alloc, options, path, &mut document, fixes)?;
+    match tree.write(path, document.text()) {
+        Ok(()) => Ok(Fate::Checked(linted)),
+        Err(TreeFault::Failed) => failure(alloc, tree),
+        Err(TreeFault::Memory) => Err(AllocError),
+    }
+}
+
+// Finds out about a document of a file, in which these fixes are made.
+fn lint_made<T: ReasonedTree>(
+    alloc: Global,
+    tree: &mut T,
+    options: LintOptions,
+    path: &str,
+    document: &mut Document,
+    offers: &[&Offer],
+) -> Result<Fate, AllocError>
+    requires { map made_seen offers.now ≡ made_in options document.old }
+    ensures done { IfOk result (Finds options path.now document.old (held T.files T.failures T.cause tree.old) (held T.files T.failures T.cause tree.new)) }
+    ensures refused { OnErr result (Stays options path.now (T.files tree.old) (T.files tree.new)) }
+{
+    if offers.is_empty() {
+        let fixes = Vec::new(alloc);
+        return Ok(Fate::Checked(check_text(alloc, options, path, document, fixes)?));
+    }
+    mend_file(alloc, tree, options, path, document.text(), offers)
+}
+
+// Finds out about a source of a file, and makes the fixes that are certain, if fixes are made.
+fn lint_source<T: ReasonedTree>(
+    alloc: Global,
+    tree: &mut T,
+    options: LintOptions,
+    path: &str,
+    source: Vec<u8>,
+) -> Result<Fate, AllocError>
+    ensures done { IfOk result (Finds options path.now source.items (held T.files T.failures T.cause tree.old) (held T.files T.failures T.cause tree.new)) }
+    ensures refused { OnErr result (Stays options path.now (T.files tree.old) (T.files tree.new)) }
+{
+    let mut document = Document::open(alloc, source)?;
+    let offers = offers_in(alloc, options, &mut document)?;
+    let made = made(alloc, document.text(), &offers)?;
+    lint_made(alloc, tree, options, path, &mut document, &made)
+}
+
+// Finds out about a file, and makes the fixes that are certain, if fixes are made.
+fn lint_file<T: ReasonedTree>(
+    alloc: Global,
+    tree: &mut T,
+    options: LintOptions,
+    path: &str,
+) -> Result<Fate, AllocError>
+    ensures done { IfOk result (LintsFile options path.now (held T.files T.failures T.cause tree.old) (held T.files T.failures T.cause tree.new)) }
+    ensures refused { OnErr result (Stays options path.now (T.files tree.old) (T.files tree.new)) }
+{
+    match tree.read(alloc, path, usize::MAX) {
+        Ok(Some(source)) => lint_source(alloc, tree, options, path, source),
+        Ok(None) => Ok(Fate::Absent),
+        Err(TreeFault::Failed) => failure(alloc, tree),
+        Err(TreeFault::Memory) => Err(AllocError),
+    }
+}
+
+/// Finds out about each of these files, in order, and makes the fixes that are certain, if fixes are
+/// made.
+///
+/// # Errors
+/// Out of memory: the files up to some are done, and of the others at most the next one has changed.
+pub(crate) fn lint_each<T: ReasonedTree>(
+    alloc: Global,
+    tree: &mut T,
+    options: LintOptions,
+    paths: &[String],
+) -> Result<Vec<Done>, AllocError>
+    ensures done { IfOk result (λ done. LintsFiles options (map string_bytes paths.now) (held T.files T.failures T.cause tree.old) (held T.files T.failures T.cause tree.new) done.items) }
+    ensures refused { OnErr result (StopsAmong options (map string_bytes paths.now) (held T.files T.failures T.cause tree.old) (T.files tree.new)) }
+{
+    let mut done = Vec::with_capacity(alloc, paths.len())?;
+    for path in paths {
+        let copy = String::from_str(alloc, path.as_str())?;
+        let fate = lint_file(alloc, tree, options, path.as_str())?;
+        done.push(Done { path: copy, fate })?;
+    }
+    Ok(done)
+}

@@ -1,0 +1,160 @@
+//! A source with fixes made, and what is told of them.
+ghost use Rattle.std.specs.Prelude.{◌≡◌, ◌≤◌, ◌++◌, IfOk, OnOk, length, map};
+ghost use Rattle.std.specs.String.{string_bytes};
+ghost use Rattle.lsp_fixes.specs.Edits.{advice_seen};
+ghost use Rattle.everyday_lint.specs.Mending as spec;
+ghost use Rattle.everyday_lint.specs.Mending.{begins, ends, fix_line, made};
+ghost use Rattle.everyday_forms.specs.Gcc.{ordinal};
+ghost use Rattle.everyday_lint.specs.Offers.{made_seen, offer_seen};
+
+use crate::lines::Line;
+use crate::offers::Offer;
+use crate::words::title_of;
+use lsp_fixes::Advice;
+use lsp_places::offset_of;
+use lsp_types::Position;
+use std::alloc::{AllocError, Global};
+use std::fmt::Write;
+use ti_caps::Kind;
+
+// Where in a text what a fix exchanges begins.
+fn begins(text: &[u8], offer: &Offer) -> usize
+    ensures begins { result ≡ begins text.now (offer_seen offer.now) }
+    ensures within { result ≤ length text.now }
+{
+    offset_of(text, offer.fix.range.start)
+}
+
+// Where it ends.
+fn ends(text: &[u8], offer: &Offer) -> usize
+    ensures ends { result ≡ ends text.now (offer_seen offer.now) }
+    ensures within { result ≤ length text.now }
+{
+    begins(text, offer).max(offset_of(text, offer.fix.range.end))
+}
+
+/// Those of some fixes of a text that are made: each begins where the one before it ends, or later.
+///
+/// # Errors
+/// Out of memory.
+pub(crate) fn made<'a>(
+    alloc: Global,
+    text: &[u8],
+    offers: &'a [Offer],
+) -> Result<Vec<&'a Offer>, AllocError>
+    ensures { IfOk result (λ all. map made_seen all.items ≡ made text.now 0 (map offer_seen offers.now)) }
+{
+    let mut all = Vec::new(alloc);
+    let mut at = 0;
+    for offer in offers {
+        if at <= begins(text, offer) {
+            at = ends(text, offer);
+            all.push(offer)?;
+        }
+    }
+    Ok(all)
+}
+
+/// A text with these fixes made.
+///
+/// # Errors
+/// Out of memory.
+pub(crate) fn mended(alloc: Global, text: &[u8], offers: &[&Offer]) -> Result<Vec<u8>, AllocError>
+    ensures { IfOk result (λ all. all.items ≡ spec.mended text.now 0 (map made_seen offers.now)) }
+{
+    let mut all = Vec::new(alloc);
+    let mut at = 0;
+    for offer in offers {
+        let start = begins(text, offer);
+        all.extend_from_slice(&text[at.min(start)..start])?;
+        all.extend_from_slice(offer.fix.text.as_bytes())?;
+        at = ends(text, offer);
+    }
+    all.extend_from_slice(&text[at..])?;
+    Ok(all)
+}
+
+// What a fix did.
+fn deed(advice: &Advice) -> &'static str
+    ensures { result.now ≡ spec.deed (advice_seen advice.now) }
+{
+    match advice {
+        Advice::Name(_) => "wrote another name",
+        Advice::Sign(Kind::Flag) => "removed the sign",
+        Advice::Sign(Kind::Number) => "wrote `#` before the number",
+        Advice::Sign(Kind::Text) => "wrote `=` before the string",
+        Advice::Spelling => "rewrote the string as it is read",
+        Advice::Caret => "wrote `\\^` at the end",
+    }
+}
+
+// The number of what is at that place, counted from 0, if it is counted from 1.
+fn ordinal(alloc: Global, at: usize) -> Result<String, AllocError>
+    ensures { IfOk result (λ text. string_bytes text ≡ ordinal at) }
+{
+    (at as u128 + 1).to_string(alloc)
+}
+
+// Adds the place of a fix that was made in a text.
+fn push_place(
+    alloc: Global,
+    out: &mut Vec<u8>,
+    file: &str,
+    text: &[u8],
+    start: Position,
+) -> Result<(), AllocError>
+    ensures { OnOk result (out.new.items ≡ out.old.items ++ spec.place file.now text.now start) }
+{
+    let line = ordinal(alloc, start.line)?;
+    let column = ordinal(alloc, Line::at(text, start.line).offset_of(start.column))?;
+    out.extend_from_slice(file.as_bytes())?;
+    out.push(b':')?;
+    out.extend_from_slice(line.as_bytes())?;
+    out.push(b':')?;
+    out.extend_from_slice(column.as_bytes())
+}
+
+// Adds what a fix did, and what it was for.
+fn push_deed(alloc: Global, out: &mut Vec<u8>, offer: &Offer) -> Result<(), AllocError>
+    ensures { OnOk result (out.new.items ≡ out.old.items ++ spec.words (offer_seen offer.now)) }
+{
+    let title = title_of(alloc, offer.problem)?;
+    out.extend_from_slice(b": fixed: ")?;
+    out.extend_from_slice(deed(&offer.fix.advice).as_bytes())?;
+    out.extend_from_slice(b" [")?;
+    out.extend_from_slice(title.as_bytes())?;
+    out.extend_from_slice(b"]\n")
+}
+
+// Adds what is told of a fix that was made in a text.
+fn push_fix(
+    alloc: Global,
+    out: &mut Vec<u8>,
+    file: &str,
+    text: &[u8],
+    offer: &Offer,
+) -> Result<(), AllocError>
+    ensures { OnOk result (out.new.items ≡ out.old.items ++ fix_line file.now text.now (offer_seen offer.now)) }
+{
+    push_place(alloc, out, file, text, offer.fix.range.start)?;
+    push_deed(alloc, out, offer)
+}
+
+/// What is told of fixes that were made in a text.
+///
+/// # Errors
+/// Out of memory.
+pub(crate) fn fix_lines(
+    alloc: Global,
+    file: &str,
+    text: &[u8],
+    offers: &[&Offer],
+) -> Result<Vec<u8>, AllocError>
+    ensures { IfOk result (λ lines. lines.items ≡ spec.fix_lines file.now text.now (map made_seen offers.now)) }
+{
+    let mut lines = Vec::new(alloc);
+    for offer in offers {
+        push_fix(alloc, &mut lines, file, text, offer)?;
+    }
+    Ok(lines)
+}

@@ -1,0 +1,80 @@
+//! What comes of files, and of standard input.
+ghost use Rattle.std.specs.Prelude.{IfOk, OnErr, map};
+ghost use Rattle.std.specs.String.{string_bytes};
+ghost use Rattle.everyday_fmt.specs.Fates.{held};
+ghost use Rattle.everyday_lint.specs.Fates.{StopsAmong};
+ghost use Rattle.everyday_lint.specs.Tool.{ComesOfFiles, IsOutcomeOf, IsOutcomeOfInput};
+
+use crate::checking::check_text;
+use crate::files::{Done, lint_each};
+use crate::options::{LintOptions, LintOutcome};
+use crate::report::{count_of, lines_of_files, severities_of_files, status_of, told_of_files};
+use everyday_fmt::ReasonedTree;
+use everyday_forms::{has_bad, push_summary, whole};
+use lsp_document::Document;
+use std::alloc::{AllocError, Global};
+
+// What standard input is called.
+const STANDARD_INPUT: &str = "<stdin>";
+
+// What is printed of files, and the status.
+fn outcome_of(alloc: Global, options: LintOptions, done: &[Done]) -> Result<LintOutcome, AllocError>
+    ensures { IfOk result (IsOutcomeOf options done.now) }
+{
+    let told = told_of_files(alloc, done)?;
+    let severities = severities_of_files(alloc, done)?;
+    let mut errors = lines_of_files(alloc, done)?;
+    push_summary(alloc, &mut errors, &severities, count_of(done))?;
+    Ok(LintOutcome {
+        output: whole(alloc, options.form, told)?,
+        errors,
+        status: status_of(options.strict, &severities, done),
+    })
+}
+
+/// Finds out what is wrong with each of these files, in order, and makes the fixes that are certain,
+/// if fixes are made. A file is read whole before anything is written, and is not written if there
+/// is no such fix. A file that cannot be read or written is reported, and the others are still done.
+///
+/// # Errors
+/// Out of memory: the files up to some are done, and of the others at most the next one has changed.
+pub fn lint_files<T: ReasonedTree>(
+    alloc: Global,
+    tree: &mut T,
+    options: LintOptions,
+    paths: &[String],
+) -> Result<LintOutcome, AllocError>
+    ensures done { IfOk result (ComesOfFiles options (map string_bytes paths.now) (held T.files T.failures T.cause tree.old) (held T.files T.failures T.cause tree.new)) }
+    ensures refused { OnErr result (StopsAmong options (map string_bytes paths.now) (held T.files T.failures T.cause tree.old) (T.files tree.new)) }
+{
+    let done = lint_each(alloc, tree, options, paths)?;
+    outcome_of(alloc, options, &done)
+}
+
+/// Finds out what is wrong with standard input. No fix is made.
+///
+/// # Errors
+/// Out of memory.
+pub fn lint_input(
+    alloc: Global,
+    options: LintOptions,
+    source: Vec<u8>,
+) -> Result<LintOutcome, AllocError>
+    ensures { IfOk result (IsOutcomeOfInput options source.items) }
+{
+    let mut document = Document::open(alloc, source)?;
+    let fixes = Vec::new(alloc);
+    let linted = check_text(alloc, options, STANDARD_INPUT, &mut document, fixes)?;
+    let mut errors = Vec::new(alloc);
+    push_summary(alloc, &mut errors, &linted.severities, 1)?;
+    let status = if has_bad(options.strict, &linted.severities) {
+        1
+    } else {
+        0
+    };
+    Ok(LintOutcome {
+        output: whole(alloc, options.form, linted.told)?,
+        errors,
+        status,
+    })
+}
