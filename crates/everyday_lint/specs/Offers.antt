@@ -5,9 +5,9 @@ use Rattle.std.specs.Borrow.{Bor}
 use Rattle.ti_source.specs.declared.code.Code.{Code}
 use Rattle.ti_source.specs.declared.code.Code.TheVariants as code
 use Rattle.lsp_document.specs.Diagnostics.{Shown}
-use Rattle.lsp_document.specs.declared.capabilities.Capabilities.{Capabilities}
-use Rattle.lsp_document.specs.declared.diagnostics.Problem.{Problem}
-use Rattle.lsp_document.specs.declared.diagnostics.Problem.TheVariants.{Fault}
+use Rattle.lsp_diagnostics.specs.declared.capabilities.Capabilities.{Capabilities}
+use Rattle.lsp_diagnostics.specs.declared.diagnostics.Problem.{Problem}
+use Rattle.lsp_diagnostics.specs.declared.diagnostics.Problem.TheVariants.{Fault}
 use Rattle.lsp_fixes.specs.Edits.{AdviceSeen, advises_name}
 use Rattle.lsp_fixes.specs.Fixes.{FixSeen, fix_seen, fixes_of}
 use Rattle.everyday_lint.specs.declared.offers.Offer.{Offer}

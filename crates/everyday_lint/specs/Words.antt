@@ -6,8 +6,8 @@ use Rattle.ti_source.specs.declared.code.Code.{Code}
 use Rattle.base_meaning.specs.Report.{shown_detail}
 use Rattle.lsp_spans.specs.Sentences.{sentence}
 use Rattle.lsp_document.specs.Diagnostics.{fault_message}
-use Rattle.lsp_document.specs.declared.diagnostics.Problem.{Problem}
-use Rattle.lsp_document.specs.declared.diagnostics.Problem.TheVariants.{Fault, BadUserDefined, BlockTooLong, TooManyBlocks}
+use Rattle.lsp_diagnostics.specs.declared.diagnostics.Problem.{Problem}
+use Rattle.lsp_diagnostics.specs.declared.diagnostics.Problem.TheVariants.{Fault, BadUserDefined, BlockTooLong, TooManyBlocks}
 
 -- the code of a problem with its name, such as `E3 BadNumber`
 abbrev pub title_of : Problem → List ℕ
