@@ -15,13 +15,13 @@
 ##   make tinfo      builds the C library and libtinfo.so.6 over it, for programs that
 ##                   are built for ncurses's
 ##   make lsp        builds the language server, ti-lsp
-##   make everyday   builds ti-everyday, the program of ti-tic, ti-infocmp, ti-tput
-##                   and ti-fmt
+##   make everyday   builds ti-everyday, the program of ti-tic, ti-infocmp, ti-tput,
+##                   ti-fmt and ti-lint
 ##   make bench      measures the tools and ncurses's on the same work, and edits of lists
 ##   make install    installs the program, its manual pages, README and docs, completions and
 ##                   examples, and the highlighting for Vim, Neovim and Emacs, below DESTDIR
 ##                   and PREFIX (which is /usr/local); with TOOLS=1 also ti-everyday, with its
-##                   links ti-tic, ti-infocmp, ti-tput and ti-fmt; the C library,
+##                   links ti-tic, ti-infocmp, ti-tput, ti-fmt and ti-lint; the C library,
 ##                   libtinfo.so.6 and the language server too, if they are built
 ##   make install-library   installs only the C library, with its headers and page, into
 ##                   LIBDIR and INCLUDEDIR
@@ -66,9 +66,9 @@ EDITORS = $(wildcard $(addprefix editors/,*.el *.json *.lua *.toml *.vim *.xml t
 EDITOR_DIRS = vscode textmate vim/syntax vim/ftplugin vim/ftdetect vim
 PAGES = man/ti.1 man/ti-profile-tic.1 man/ti-profile-infocmp.1 man/ti-profile-tput.1 \
 	man/ti-session.1 man/ti-everyday.1 man/ti-tic.1 man/ti-infocmp.1 man/ti-tput.1 \
-	man/ti-fmt.1 man/ti-report.7
+	man/ti-fmt.1 man/ti-lint.1 man/ti-report.7
 # the links to ti-everyday
-TOOL_NAMES = ti-tic ti-infocmp ti-tput ti-fmt
+TOOL_NAMES = ti-tic ti-infocmp ti-tput ti-fmt ti-lint
 LIBRARY = crates/ti_c/out/lib
 HEADERS = ti.h ti_names.h
 # what ti.h declares: each name leads to the page

@@ -1,5 +1,5 @@
-# Completion for bash of ti, and of the everyday tools ti-tic, ti-infocmp, ti-tput and ti-fmt:
-# options, terminal names from the places of entries, capability names, and files.
+# Completion for bash of ti, and of the everyday tools ti-tic, ti-infocmp, ti-tput, ti-fmt and
+# ti-lint: options, terminal names from the places of entries, capability names, and files.
 
 # The capabilities of terminfo(5), booleans, numbers and strings, in the order of the tables.
 _ti_capabilities='
@@ -177,6 +177,20 @@ _ti_fmt() {
     fi
 }
 
+_ti_lint() {
+    case $previous in
+        --format) _ti_words gcc github json ;;
+        --color) _ti_words always never auto ;;
+        *)
+            if [[ $current == -* ]]; then
+                _ti_options -x --strict --fix --format --color
+            else
+                _ti_files -f
+            fi
+            ;;
+    esac
+}
+
 _ti_session() {
     [[ $current != -* ]] || _ti_words -h --help
 }
@@ -197,7 +211,7 @@ _ti() {
     esac
     case $tool in
         tic | infocmp | tput | session) "_ti_$tool" ;;
-        fmt) [[ -z $everyday ]] || _ti_fmt ;;
+        fmt | lint) [[ -z $everyday ]] || "_ti_$tool" ;;
         help) ((COMP_CWORD > 2)) || _ti_words tic infocmp tput session ;;
     esac
     # a name may be in several places
@@ -213,4 +227,4 @@ _ti() {
     fi
 }
 
-complete -F _ti ti ti-tic ti-infocmp ti-tput ti-fmt
+complete -F _ti ti ti-tic ti-infocmp ti-tput ti-fmt ti-lint

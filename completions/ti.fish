@@ -1,5 +1,5 @@
-# Completion for fish of ti, and of the everyday tools ti-tic, ti-infocmp, ti-tput and ti-fmt:
-# options, terminal names from the places of entries, capability names, and files.
+# Completion for fish of ti, and of the everyday tools ti-tic, ti-infocmp, ti-tput, ti-fmt and
+# ti-lint: options, terminal names from the places of entries, capability names, and files.
 
 # The capabilities of terminfo(5), booleans, numbers and strings, in the order of the tables.
 function __ti_capabilities
@@ -179,7 +179,7 @@ complete -c ti -n '__ti_is tput' -o S -d 'Read commands from standard input, one
 
 complete -c ti -n '__ti_is session' -f
 
-for command in ti-tic ti-infocmp ti-tput ti-fmt
+for command in ti-tic ti-infocmp ti-tput ti-fmt ti-lint
     complete -c $command -s h -l help -d 'Print help'
     complete -c $command -s V -l version -d 'Print version'
 end
@@ -214,3 +214,9 @@ complete -c ti-tput -s S -d 'Read commands from standard input, one per line'
 
 complete -c ti-fmt -l check -d 'Print the names of files that would change, and write none'
 complete -c ti-fmt -s w -x -d 'Columns of a line, from 20 to 4096'
+
+complete -c ti-lint -s x -d 'Know user-defined capabilities'
+complete -c ti-lint -l strict -d 'Exit with status 1 if there are warnings, too'
+complete -c ti-lint -l fix -d 'Make the fixes that are certain'
+complete -c ti-lint -l format -x -a 'gcc github json' -d 'The form of the report'
+complete -c ti-lint -l color -x -a 'always never auto' -d 'When the form gcc is colored'

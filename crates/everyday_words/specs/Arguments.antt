@@ -14,6 +14,7 @@ use Rattle.tools_commands.specs.declared.mistakes.Mistake.{Mistake}
 use Rattle.everyday_words.specs.Commands.{OfTool}
 use Rattle.everyday_words.specs.FmtWords.{fmt_asked}
 use Rattle.everyday_words.specs.InfocmpWords.{infocmp_asked}
+use Rattle.everyday_words.specs.LintWords.{lint_asked}
 use Rattle.everyday_words.specs.Names.{shown_name}
 use Rattle.everyday_words.specs.Requests.{Wanted, wanted_of, wants_tic}
 use Rattle.everyday_words.specs.TicWords.{tic_asked}
@@ -34,6 +35,7 @@ asked_by tool.Tic rows = Ok (wants_tic (tic_asked rows))
 asked_by tool.Infocmp rows = infocmp_asked rows
 asked_by tool.Tput rows = tput_asked rows
 asked_by tool.Fmt rows = fmt_asked rows
+asked_by tool.Lint rows = lint_asked rows
 
 -- what the words ask of a tool, by its command line
 abbrev pub asked_of : Tool → App → List Text → Asked

@@ -1,12 +1,13 @@
 -- The command lines of the tools, as what clap reads of them (tic(1), infocmp(1), tput(1)).
-use Rattle.std.specs.Prelude.{codes, true, Some}
+use Rattle.std.specs.Prelude.{◌≡◌, codes, map, true, Some, [], ◌∷◌}
 use Rattle.ti_text.specs.Ascii.{byte_of}
 use Rattle.clap.specs.Simple.{App, new_app, new_rule, on_top, with_rule}
 use Rattle.clap.specs.Walk.{Rule, Text}
 use Rattle.clap.specs.declared.builder.action.ArgAction.TheVariants.{SetTrue}
+use Rattle.clap.specs.declared.builder.value_parser.ValueParser.TheVariants as parser
 use Rattle.tools_commands.specs.Commands.{rate_max}
 use Rattle.tools_commands.specs.InfocmpWords.{IsOrders, first_mode_rules, layout_rules, name_rules, other_mode_rules, width_max, width_min}
-use Rattle.tools_commands.specs.Rules.{Choices, flag_rule, long_number_rule, number_rule, operand_rule, operands_rule, option_rule}
+use Rattle.tools_commands.specs.Rules.{Choices, flag_rule, long_number_rule, long_option_rule, number_rule, operand_rule, operands_rule, option_rule}
 use Rattle.everyday_words.specs.declared.names.Tool.{Tool}
 use Rattle.everyday_words.specs.declared.names.Tool.TheVariants as tool
 
@@ -17,6 +18,10 @@ everyday_app name = on_top (λ top. record top { has_version = true; args_overri
 -- an option that is on or off, which has only a long name, such as `--check`
 abbrev pub long_flag_rule : Text → Rule
 long_flag_rule id = record (new_rule id) { long = Some id; action = Some SetTrue }
+
+-- an option whose value is one of some names, which has only a long name, such as `--format gcc`
+abbrev pub long_choice_rule : Text → Choices → Rule
+long_choice_rule id names = record (long_option_rule id) { parser = Some (parser.Names names) }
 
 -- `ti-tic [-c] [-s] [-x] ..`
 abbrev pub tic_flags_app : App
@@ -62,18 +67,54 @@ fmt_app = with_rule (with_rule (with_rule (everyday_app (codes "ti-fmt"))
     (number_rule (codes "width") (byte_of "w") width_min width_max))
     (operands_rule (codes "files"))
 
--- the command line of a tool, given where the names of the orders of `ti-infocmp` are in memory
-unfoldable pub tool_app : Choices → Tool → App
-tool_app orders tool.Tic = tic_app
-tool_app orders tool.Infocmp = infocmp_app orders
-tool_app orders tool.Tput = tput_app
-tool_app orders tool.Fmt = fmt_app
+-- the names of the forms of `ti-lint`
+abbrev pub IsForms : Choices → Type 0
+IsForms forms = map (λ name. name.now) forms.now ≡ codes "gcc" ∷ codes "github" ∷ codes "json" ∷ []
 
--- what holds of a tool's command line. Nothing that clap reads depends on the place of the names of
--- the orders in memory, so this is said of one such place, or of each.
+-- when `ti-lint` uses colors
+abbrev pub IsColors : Choices → Type 0
+IsColors colors = map (λ name. name.now) colors.now ≡ codes "always" ∷ codes "never" ∷ codes "auto" ∷ []
+
+-- `ti-lint [-x] [--strict] [--fix] ..`
+abbrev pub lint_flags_app : App
+lint_flags_app = with_rule (with_rule (with_rule (everyday_app (codes "ti-lint"))
+    (flag_rule (codes "user") (byte_of "x")))
+    (long_flag_rule (codes "strict")))
+    (long_flag_rule (codes "fix"))
+
+-- `ti-lint [-x] [--strict] [--fix] [--format FORM] [--color WHEN] [FILE..]`
+abbrev pub lint_app : (forms colors : Choices) → App
+lint_app forms colors = with_rule (with_rule (with_rule lint_flags_app
+    (long_choice_rule (codes "format") forms))
+    (long_choice_rule (codes "color") colors))
+    (operands_rule (codes "files"))
+
+-- lists of names, each wherever it is in memory: of the orders of `ti-infocmp`, of the forms of
+-- `ti-lint`, and of when that uses colors
+pub record Lists : Type 0 where
+  pub orders : Choices
+  pub forms : Choices
+  pub colors : Choices
+
+-- the lists have the names that they are for
+pub record AreLists (lists : Lists) : Type 0 where
+  pub orders : IsOrders lists.orders
+  pub forms : IsForms lists.forms
+  pub colors : IsColors lists.colors
+
+-- the command line of a tool, given where the names are in memory
+unfoldable pub tool_app : Lists → Tool → App
+tool_app lists tool.Tic = tic_app
+tool_app lists tool.Infocmp = infocmp_app lists.orders
+tool_app lists tool.Tput = tput_app
+tool_app lists tool.Fmt = fmt_app
+tool_app lists tool.Lint = lint_app lists.forms lists.colors
+
+-- what holds of a tool's command line. Nothing that clap reads depends on the places of the names in
+-- memory, so this is said of some such places, or of each.
 abbrev pub OfTool : Tool → (App → Type 0) → Type 0
-OfTool t P = (orders : Choices) × IsOrders orders × P (tool_app orders t)
+OfTool t P = (lists : Lists) × AreLists lists × P (tool_app lists t)
 
 -- what holds of it wherever these names are
 abbrev pub OfEachTool : Tool → (App → Type 0) → Type 0
-OfEachTool t P = (orders : Choices) → IsOrders orders → P (tool_app orders t)
+OfEachTool t P = (lists : Lists) → AreLists lists → P (tool_app lists t)

@@ -3,6 +3,7 @@ pub mod Arguments
 pub mod Commands
 pub mod FmtWords
 pub mod InfocmpWords
+pub mod LintWords
 pub mod Names
 pub mod Requests
 pub mod TicWords

@@ -12,6 +12,7 @@ shown_name tool.Tic = codes "ti-tic"
 shown_name tool.Infocmp = codes "ti-infocmp"
 shown_name tool.Tput = codes "ti-tput"
 shown_name tool.Fmt = codes "ti-fmt"
+shown_name tool.Lint = codes "ti-lint"
 
 -- whether a name is one of two
 abbrev pub is_either : List ℕ → List ℕ → List ℕ → Bool
@@ -24,6 +25,7 @@ named_tool name =
     else if is_either (codes "ti-infocmp") (codes "infocmp") name then Some tool.Infocmp
     else if is_either (codes "ti-tput") (codes "tput") name then Some tool.Tput
     else if bytes_eq name (codes "ti-fmt") then Some tool.Fmt
+    else if bytes_eq name (codes "ti-lint") then Some tool.Lint
     else None
 
 -- the tool that is called by a word, which may be a path

@@ -6,6 +6,9 @@ use Rattle.ti_list.specs.declared.layout.Layout.{Layout}
 use Rattle.tools_commands.specs.declared.jobs.InfocmpMode.{InfocmpMode}
 use Rattle.everyday_words.specs.declared.requests.FmtRequest.{FmtRequest}
 use Rattle.everyday_words.specs.declared.requests.InfocmpRequest.{InfocmpRequest}
+use Rattle.everyday_words.specs.declared.requests.LintColor.{LintColor}
+use Rattle.everyday_words.specs.declared.requests.LintForm.{LintForm}
+use Rattle.everyday_words.specs.declared.requests.LintRequest.{LintRequest}
 use Rattle.everyday_words.specs.declared.requests.Request.{Request}
 use Rattle.everyday_words.specs.declared.requests.Request.TheVariants as request
 use Rattle.everyday_words.specs.declared.requests.TicRequest.{TicRequest}
@@ -47,6 +50,17 @@ pub record FmtWanted : Type 0 where
   pub width : ℕ
   pub files : List Text
 
+-- of `ti-lint`: whether sources may have user-defined capabilities, whether warnings are as bad as
+-- errors, whether fixes are made, the form of what is said, when colors are used, and the files,
+-- none for standard input
+pub record LintWanted : Type 0 where
+  pub user_defined : Bool
+  pub strict : Bool
+  pub fix : Bool
+  pub form : LintForm
+  pub color : LintColor
+  pub files : List Text
+
 -- what is asked of a tool
 pub data Wanted : Type 0 where
   wants_tic : TicWanted → Wanted
@@ -54,6 +68,7 @@ pub data Wanted : Type 0 where
   wants_directories : Wanted
   wants_tput : TputWanted → Wanted
   wants_fmt : FmtWanted → Wanted
+  wants_lint : LintWanted → Wanted
 
 -- ---- a request that holds its words in memory, as plain data
 
@@ -92,6 +107,17 @@ tput_seen r = record {
 abbrev pub fmt_seen : FmtRequest → FmtWanted
 fmt_seen r = record { check = r.check; width = r.width; files = map string_bytes r.files.items }
 
+-- of `ti-lint`
+abbrev pub lint_seen : LintRequest → LintWanted
+lint_seen r = record {
+  user_defined = r.user_defined;
+  strict = r.strict;
+  fix = r.fix;
+  form = r.form;
+  color = r.color;
+  files = map string_bytes r.files.items;
+}
+
 -- of any tool
 abbrev pub wanted_of : Request → Wanted
 wanted_of (request.Tic r) = wants_tic (tic_seen r)
@@ -99,3 +125,4 @@ wanted_of (request.Infocmp r) = wants_infocmp (infocmp_seen r)
 wanted_of request.Directories = wants_directories
 wanted_of (request.Tput r) = wants_tput (tput_seen r)
 wanted_of (request.Fmt r) = wants_fmt (fmt_seen r)
+wanted_of (request.Lint r) = wants_lint (lint_seen r)

@@ -12,6 +12,7 @@ ghost use Rattle.everyday_words.specs.declared.arguments.Refusal.TheVariants.{Me
 use crate::commands::command;
 use crate::fmt_words::fmt_request;
 use crate::infocmp_words::infocmp_request;
+use crate::lint_words::lint_request;
 use crate::mistakes::NoRequest;
 use crate::names::Tool;
 use crate::requests::Request;
@@ -64,6 +65,7 @@ fn tool_request(alloc: Global, tool: Tool, matches: &ArgMatches<'_>) -> Result<R
         Tool::Infocmp => infocmp_request(alloc, matches),
         Tool::Tput => tput_request(alloc, matches),
         Tool::Fmt => fmt_request(alloc, matches),
+        Tool::Lint => lint_request(alloc, matches),
     }
 }
 

@@ -3,12 +3,12 @@ ghost use Rattle.std.specs.Prelude.{◌≡◌, IfOk, false};
 ghost use Rattle.std.specs.List.{fold};
 ghost use Rattle.clap.specs.Words.{app_of};
 ghost use Rattle.clap.specs.declared.builder.Command.TheViews.{out-Command as fields_of};
-ghost use Rattle.tools_commands.specs.InfocmpWords.{IsOrders};
-ghost use Rattle.everyday_words.specs.Commands.{OfTool, everyday_app, tool_app};
-ghost use Rattle.everyday_words.specs.inside.Commands.{app_for, choices_of, with_argument};
+ghost use Rattle.everyday_words.specs.Commands.{AreLists, OfTool, everyday_app, tool_app};
+ghost use Rattle.everyday_words.specs.inside.Commands.{app_for, lists_of, with_argument};
 
 use crate::fmt_words::FMT;
 use crate::infocmp_words::INFOCMP;
+use crate::lint_words::LINT;
 use crate::names::Tool;
 use crate::rules::Argument;
 use crate::tic_words::TIC;
@@ -71,14 +71,15 @@ impl<'a> CommandLine<'a> {
 // The command line of a tool.
 #[tactic(auto, unfolding(crate::specs::Commands::tool_app))]
 fn command_line(tool: Tool) -> CommandLine<'static>
-    ensures app { app_for result ≡ tool_app (choices_of result) tool }
-    ensures orders { IsOrders (choices_of result) }
+    ensures app { app_for result ≡ tool_app (lists_of result) tool }
+    ensures lists { AreLists (lists_of result) }
 {
     match tool {
         Tool::Tic => TIC,
         Tool::Infocmp => INFOCMP,
         Tool::Tput => TPUT,
         Tool::Fmt => FMT,
+        Tool::Lint => LINT,
     }
 }
 

@@ -67,8 +67,8 @@ fn columns_of(matches: &ArgMatches<'_>) -> Option<usize>
     }
 }
 
-// Whether these are `-` alone, which stands for standard input.
-fn is_dash(paths: &[&str]) -> bool
+/// Whether these are `-` alone, which stands for standard input.
+pub(crate) fn is_dash(paths: &[&str]) -> bool
     ensures { result ≡ is_dash (map (λ path. path.now) paths.now) }
 {
     match paths {

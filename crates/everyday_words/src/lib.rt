@@ -14,8 +14,8 @@
 //! - `requests`: what may be asked for (`Request`)
 //! - `arguments`: what the words ask for, or why they ask for nothing, and the message (`request`)
 //! - `commands`: the command line of each tool, for clap (`command`); `rules` has the kinds of
-//!   options, and `tic_words`, `infocmp_words`, `tput_words` and `fmt_words` the options of each
-//!   tool, and what they ask for
+//!   options, and `tic_words`, `infocmp_words`, `tput_words`, `fmt_words` and `lint_words` the
+//!   options of each tool, and what they ask for
 //! - `matches`: what clap's matches say of an argument; `mistakes`: why words that clap takes ask for
 //!   nothing
 #![tactic(auto)]
@@ -24,6 +24,7 @@ mod arguments;
 mod commands;
 mod fmt_words;
 mod infocmp_words;
+mod lint_words;
 mod matches;
 mod mistakes;
 mod names;
@@ -35,6 +36,8 @@ mod tput_words;
 pub use arguments::{Refusal, request};
 pub use commands::{VERSION, command};
 pub use names::{Tool, called_tool, called_words};
-pub use requests::{FmtRequest, InfocmpRequest, Request, TicRequest, TputRequest};
+pub use requests::{
+    FmtRequest, InfocmpRequest, LintColor, LintForm, LintRequest, Request, TicRequest, TputRequest,
+};
 pub use ti_list::{Layout, Order};
 pub use tools_commands::{InfocmpMode, Mistake};

@@ -16,6 +16,8 @@ pub enum Tool {
     Tput,
     /// The tool that gives sources their layout.
     Fmt,
+    /// The tool that says what is wrong with sources.
+    Lint,
 }
 
 impl Tool {
@@ -28,6 +30,7 @@ impl Tool {
             Tool::Infocmp => "ti-infocmp",
             Tool::Tput => "ti-tput",
             Tool::Fmt => "ti-fmt",
+            Tool::Lint => "ti-lint",
         }
     }
 }
@@ -42,6 +45,7 @@ pub fn called_tool(word: &str) -> Option<Tool>
         "ti-infocmp" | "infocmp" => Some(Tool::Infocmp),
         "ti-tput" | "tput" => Some(Tool::Tput),
         "ti-fmt" => Some(Tool::Fmt),
+        "ti-lint" => Some(Tool::Lint),
         _ => None,
     }
 }

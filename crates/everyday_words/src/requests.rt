@@ -60,6 +60,45 @@ pub struct FmtRequest {
     pub files: Vec<String>,
 }
 
+/// The form in which `ti-lint` says what is wrong with sources.
+#[derive(Clone, Copy, Debug, PartialEq, Eq)]
+pub enum LintForm {
+    /// Lines as those of GNU's compilers.
+    Gcc,
+    /// Workflow commands of GitHub Actions.
+    Github,
+    /// JSON, with the diagnostics of the Language Server Protocol.
+    Json,
+}
+
+/// When `ti-lint` uses colors.
+#[derive(Clone, Copy, Debug, PartialEq, Eq)]
+pub enum LintColor {
+    /// Wherever it prints.
+    Always,
+    /// Nowhere.
+    Never,
+    /// On a terminal.
+    Auto,
+}
+
+/// What is asked of `ti-lint`: to say what is wrong with sources.
+#[derive(Debug, PartialEq, Eq, Drop)]
+pub struct LintRequest {
+    /// The sources may have user-defined capabilities.
+    pub user_defined: bool,
+    /// Warnings are as bad as errors for the status.
+    pub strict: bool,
+    /// The fixes that are certain are made.
+    pub fix: bool,
+    /// The form of what is said.
+    pub form: LintForm,
+    /// When colors are used, by escape sequences of ECMA-48.
+    pub color: LintColor,
+    /// The files of the sources; none for standard input.
+    pub files: Vec<String>,
+}
+
 /// What the words of a command line ask for.
 #[derive(Debug, PartialEq, Eq, Drop)]
 pub enum Request {
@@ -73,4 +112,6 @@ pub enum Request {
     Tput(TputRequest),
     /// To give sources their layout.
     Fmt(FmtRequest),
+    /// To say what is wrong with sources.
+    Lint(LintRequest),
 }

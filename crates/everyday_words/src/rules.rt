@@ -25,6 +25,8 @@ pub enum Form<'a> {
     LongNumber(&'a str, u64, u64),
     /// An option whose value is one of some names.
     Choice(char, &'a str, &'a [&'a str]),
+    /// The same, which has only a long name.
+    LongChoice(&'a str, &'a [&'a str]),
     /// An operand.
     Operand(&'a str),
     /// Any number of operands.
@@ -63,6 +65,10 @@ impl<'a> Argument<'a> {
             Form::Choice(short, value, names) => {
                 let choices = ValueParser::Names(names);
                 option(alloc, id, short, value, help).value_parser(choices)
+            }
+            Form::LongChoice(value, names) => {
+                let choices = ValueParser::Names(names);
+                long_option(alloc, id, value, help).value_parser(choices)
             }
             Form::Operand(value) => operand(alloc, id, value, help),
             Form::Operands(value) => operands(alloc, id, value, help),

@@ -1,6 +1,7 @@
 //! Worked command lines, with answers from the manuals and by hand.
 mod fmt_words;
 mod infocmp_words;
+mod lint_words;
 mod said;
 mod tput_words;
 
@@ -40,7 +41,7 @@ fn refusal(alloc: Global, tool: Tool, texts: &[&str]) -> Result<(bool, String), 
 }
 
 // Names by which the program may be called, and the tools.
-const CALLED: [(&str, Option<Tool>); 11] = [
+const CALLED: [(&str, Option<Tool>); 13] = [
     ("ti-tic", Some(Tool::Tic)),
     ("/usr/bin/tic", Some(Tool::Tic)),
     ("./ti-infocmp", Some(Tool::Infocmp)),
@@ -49,6 +50,8 @@ const CALLED: [(&str, Option<Tool>); 11] = [
     ("tput", Some(Tool::Tput)),
     ("bin/ti-fmt", Some(Tool::Fmt)),
     ("fmt", None),
+    ("./ti-lint", Some(Tool::Lint)),
+    ("lint", None),
     ("ti", None),
     ("ti-everyday", None),
     ("", None),

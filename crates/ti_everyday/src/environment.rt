@@ -2,7 +2,8 @@
 use crate::stopping::Stop;
 use everyday_directories::{Environment, entry_directories};
 use std::env::{self, VarError};
-use std::rt::Env;
+use std::fs;
+use std::rt::{Env, Files};
 
 // What a variable of the environment is set to.
 fn variable<R: Env + AllocGlobal>(rt: &R, name: &'static str) -> Result<Option<String>, Stop> {
@@ -71,4 +72,36 @@ pub fn read_variables<R: Env + AllocGlobal>(rt: &R) -> Result<Variables, Stop> {
 pub fn directories<R: Env + AllocGlobal>(rt: &R) -> Result<Vec<String>, Stop> {
     let variables = read_variables(rt)?;
     Ok(entry_directories(rt.alloc(), &variables.environment())?)
+}
+
+// Whether a variable of the environment is set, and not empty.
+fn is_set<R: Env + AllocGlobal>(rt: &R, name: &'static str) -> bool {
+    match variable(rt, name) {
+        Ok(Some(value)) => !value.is_empty(),
+        Ok(None) => false,
+        Err(_) => true,
+    }
+}
+
+// Whether standard output is a terminal, by what its descriptor leads to.
+fn is_terminal<R: Files + AllocGlobal>(rt: &R) -> bool {
+    match fs::read_link(rt, "/proc/self/fd/1") {
+        Ok(path) => path.as_str().starts_with("/dev/pts/") || path.as_str().starts_with("/dev/tty"),
+        Err(_) => false,
+    }
+}
+
+// Whether `TERM` names a terminal that is dumb.
+fn is_dumb<R: Env + AllocGlobal>(rt: &R) -> bool {
+    match own_terminal(rt) {
+        Ok(Some(term)) => term.as_str() == "dumb",
+        Ok(None) => false,
+        Err(_) => false,
+    }
+}
+
+/// Whether standard output takes colors: it is a terminal, `TERM` does not name one that is dumb, and
+/// `NO_COLOR` is not set, or is empty.
+pub fn takes_colors<R: Env + Files + AllocGlobal>(rt: &R) -> bool {
+    is_terminal(rt) && !is_dumb(rt) && !is_set(rt, "NO_COLOR")
 }

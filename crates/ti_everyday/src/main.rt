@@ -1,10 +1,11 @@
-//! The program of the everyday tools, `ti-tic`, `ti-infocmp`, `ti-tput` and `ti-fmt`, by the name that
-//! it is called by, over real files, streams and the environment.
+//! The program of the everyday tools, `ti-tic`, `ti-infocmp`, `ti-tput`, `ti-fmt` and `ti-lint`, by the
+//! name that it is called by, over real files, streams and the environment.
 #![tactic(auto)]
 
 mod environment;
 mod fmt_tool;
 mod infocmp_tool;
+mod lint_tool;
 mod output;
 mod stopping;
 mod tic_tool;
@@ -48,6 +49,7 @@ fn run_request<R: Clock + Env + Files + Input + Print + Eprint + AllocGlobal>(
         Request::Directories => (Tool::Infocmp, infocmp_tool::print_directories(rt)),
         Request::Tput(request) => (Tool::Tput, tput_tool::run(rt, request)),
         Request::Fmt(request) => (Tool::Fmt, fmt_tool::run(rt, request)),
+        Request::Lint(request) => (Tool::Lint, lint_tool::run(rt, request)),
     };
     match done {
         Ok(status) => status,
@@ -70,7 +72,7 @@ fn words<R: Env + AllocGlobal>(rt: &R) -> Result<Vec<String>, Stop> {
 // Says by which names the program is called. It is an error of usage.
 fn unknown_name<R: Eprint>(rt: &R) -> u8 {
     let _ = rt.eprint(
-        "ti-everyday: call it ti-tic, ti-infocmp, ti-tput or ti-fmt, or give one of these names as the first word\n",
+        "ti-everyday: call it ti-tic, ti-infocmp, ti-tput, ti-fmt or ti-lint, or give one of these names as the first word\n",
     );
     2
 }

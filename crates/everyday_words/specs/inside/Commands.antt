@@ -1,14 +1,17 @@
 -- What clap reads of a command line in a table: its name and its arguments in turn (own).
-use Rattle.std.specs.Prelude.{List, [], ◌∷◌, codes}
+use Rattle.std.specs.Prelude.{List, [], ◌∷◌, codes, if◌then◌else◌}
+use Rattle.std.specs.Borrow.{Bor}
 use Rattle.std.specs.List.{fold}
+use Rattle.std.specs.Str.{bytes_eq}
 use Rattle.clap.specs.Simple.{App, with_rule}
+use Rattle.clap.specs.Walk.{Text}
 use Rattle.tools_commands.specs.Rules.{Choices}
-use Rattle.everyday_words.specs.Commands.{everyday_app}
+use Rattle.everyday_words.specs.Commands.{Lists, everyday_app}
 use Rattle.everyday_words.specs.inside.Rules.{rule_for}
 use Rattle.everyday_words.specs.declared.commands.CommandLine.{CommandLine}
 use Rattle.everyday_words.specs.declared.rules.Argument.{Argument}
 use Rattle.everyday_words.specs.declared.rules.Form.{Form}
-use Rattle.everyday_words.specs.declared.rules.Form.TheVariants.{Choice}
+use Rattle.everyday_words.specs.declared.rules.Form.TheVariants.{Choice, LongChoice}
 
 -- the command with one more argument
 abbrev pub with_argument : App → Argument → App
@@ -18,22 +21,37 @@ with_argument app argument = with_rule app (rule_for argument)
 abbrev pub app_for : CommandLine → App
 app_for line = fold with_argument (everyday_app line.name.now) line.arguments.now
 
--- names of the orders, wherever they are in memory
-abbrev pub some_orders : Choices
-some_orders = record {
-  ref_ptr = (0, 0);
-  now = record { ref_ptr = (0, 0); now = codes "d" } ∷ record { ref_ptr = (0, 0); now = codes "i" } ∷ [];
+-- a name, wherever it is in memory
+abbrev pub some_name : Text → Bor Text
+some_name text = record { ref_ptr = (0, 0); now = text }
+
+-- names, wherever they are in memory
+abbrev pub some_names : List (Bor Text) → Choices
+some_names names = record { ref_ptr = (0, 0); now = names }
+
+-- the names of the orders, of the forms, and of when colors are used
+abbrev pub some_lists : Lists
+some_lists = record {
+  orders = some_names (some_name (codes "d") ∷ some_name (codes "i") ∷ []);
+  forms = some_names (some_name (codes "gcc") ∷ some_name (codes "github") ∷ some_name (codes "json") ∷ []);
+  colors = some_names (some_name (codes "always") ∷ some_name (codes "never") ∷ some_name (codes "auto") ∷ []);
 }
 
--- the names of the first choice among some arguments
-abbrev pub choices_by : Form → Choices → Choices
-choices_by (Choice short value names) later = names
-choices_by _ later = later
+-- the names of an argument, if it is this choice
+abbrev pub names_by : Text → Argument → Form → Choices → Choices
+names_by id argument (Choice short value names) later = if bytes_eq argument.id.now id then names else later
+names_by id argument (LongChoice value names) later = if bytes_eq argument.id.now id then names else later
+names_by id argument _ later = later
 
-abbrev pub choices_among : List Argument → Choices → Choices
-choices_among [] later = later
-choices_among (argument ∷ arguments) later = choices_by argument.form (choices_among arguments later)
+-- the names of this choice among some arguments
+abbrev pub names_among : Text → List Argument → Choices → Choices
+names_among id [] later = later
+names_among id (argument ∷ arguments) later = names_by id argument argument.form (names_among id arguments later)
 
--- the names of the first choice of a command line
-abbrev pub choices_of : CommandLine → Choices
-choices_of line = choices_among line.arguments.now some_orders
+-- the names of the choices of a command line
+abbrev pub lists_of : CommandLine → Lists
+lists_of line = record {
+  orders = names_among (codes "sort") line.arguments.now some_lists.orders;
+  forms = names_among (codes "format") line.arguments.now some_lists.forms;
+  colors = names_among (codes "color") line.arguments.now some_lists.colors;
+}

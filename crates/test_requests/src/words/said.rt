@@ -77,7 +77,7 @@ fn what_is_said_of_bad_usage(rt: HostRuntime) -> Result<(), Fail> {
     Ok(())
 }
 
-const TOOLS: [Tool; 4] = [Tool::Tic, Tool::Infocmp, Tool::Tput, Tool::Fmt];
+const TOOLS: [Tool; 5] = [Tool::Tic, Tool::Infocmp, Tool::Tput, Tool::Fmt, Tool::Lint];
 
 #[test]
 fn the_version(rt: HostRuntime) -> Result<(), Fail> {
