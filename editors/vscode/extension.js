@@ -214,12 +214,13 @@ class Client {
     }
 
     async actions(document, part, context) {
-        const pairs = this.faults.get(document.uri.toString()) || [];
-        const diagnostics = pairs.filter(([, shown]) => context.diagnostics.includes(shown)).map(([fault]) => fault);
+        // asked for again after the answer: what is shown may have changed before it
+        const pairs = () => this.faults.get(document.uri.toString()) || [];
+        const diagnostics = pairs().filter(([, shown]) => context.diagnostics.includes(shown)).map(([fault]) => fault);
         const only = context.only && [context.only.value];
         const asked = { range: values.rangeOf(part), context: { diagnostics, only } };
         const same = JSON.stringify;
-        const known = fault => (pairs.find(([other]) => same(other) === same(fault)) || [])[1] || values.diagnostic(fault);
+        const known = fault => (pairs().find(([other]) => same(other) === same(fault)) || [])[1] || values.diagnostic(fault);
         return (await this.ask("codeAction", document, asked) || []).map(action => values.action(action, known));
     }
 }
