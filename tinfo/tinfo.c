@@ -506,11 +506,12 @@ static char *answer_refused(struct buffer *buffer, const char *given) {
 }
 
 /*
- * Expands a format into a buffer that the next call uses again. NULL if memory is refused, but not
- * for a malformed format, since programs do not check for it.
+ * Expands a format with so many parameters, and 0 for each further one, into a buffer that the next
+ * call uses again. NULL if memory is refused, but not for a malformed format, since programs do not
+ * check for it.
  */
 static char *expand(const char *given, struct ti_parameters taken,
-                    const struct ti_parameter *params) {
+                    const struct ti_parameter *params, size_t count) {
     static struct buffer buffer;
     static struct ti_variables without_terminal;
     struct ti_variables *variables = cur_term ? &cur_term->variables : &without_terminal;
@@ -518,7 +519,7 @@ static char *expand(const char *given, struct ti_parameters taken,
     if (!format || !grow(&buffer, 256)) return NULL;
     struct ti_text text = ti_text_of(format);
     for (;;) {
-        struct ti_outcome outcome = ti_expand(text.bytes, text.size, params, PARAMETERS, variables,
+        struct ti_outcome outcome = ti_expand(text.bytes, text.size, params, count, variables,
                                               (uint8_t *)buffer.bytes, buffer.room - 1);
         if (outcome.status == TI_BAD_FORMAT || outcome.status == TI_STACK_FULL)
             return answer_refused(&buffer, given);
@@ -535,18 +536,18 @@ static char *expand_for(const char *format, bool is_long, va_list *given) {
     if (!is_string(format)) return NULL;
     struct ti_parameter params[PARAMETERS];
     struct ti_parameters taken = taken_by(format);
-    for (size_t i = 0; i < PARAMETERS; i++) {
-        params[i] = ti_number_given(0);
-        if (i >= count_of(taken)) continue;
+    size_t count = count_of(taken);
+    for (size_t i = 0; i < count; i++) {
         if (taken.strings[i]) {
             const char *text = va_arg(*given, const char *);
-            if (text) params[i] = ti_text_given((const uint8_t *)text, strlen(text));
+            params[i] = text ? ti_text_given((const uint8_t *)text, strlen(text))
+                             : ti_number_given(0);
         } else {
             long number = is_long ? va_arg(*given, long) : va_arg(*given, int);
             params[i] = ti_number_given((int32_t)number);
         }
     }
-    return expand(format, taken, params);
+    return expand(format, taken, params, count);
 }
 
 EXPORTED char *tparm(const char *format, ...) {
@@ -567,11 +568,8 @@ EXPORTED char *tiparm(const char *format, ...) {
 
 /* Expands a format for two numbers, and 0 for each further one. */
 static char *expand_two(const char *format, struct ti_parameters taken, int first, int second) {
-    struct ti_parameter params[PARAMETERS];
-    for (int i = 0; i < PARAMETERS; i++) params[i] = ti_number_given(0);
-    params[0].number = first;
-    params[1].number = second;
-    return expand(format, taken, params);
+    struct ti_parameter params[] = { ti_number_given(first), ti_number_given(second) };
+    return expand(format, taken, params, sizeof params / sizeof *params);
 }
 
 /* A format of more than two parameters is not for this call. */
