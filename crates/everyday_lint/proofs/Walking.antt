@@ -102,7 +102,9 @@ ascii_column (byte ∷ bytes) (suc column) ascii whole =
     let both = and_parts (nat_lt byte 128) (list_all is_character bytes) ascii in
     let one : nat_lt byte 128 ≡ true = both.0 in
     let later = ascii_column bytes column both.1 (rest_whole byte bytes whole) in
-    let step : column_offset (byte ∷ bytes) (suc column) ≡ suc (column_offset bytes column) = rw (one, le-ltb (suc column) 1 (omega arith), inside byte bytes whole) (ap (λ (n : ℕ). suc (column_offset bytes n)) (less_one column)) in
+    let step : column_offset (byte ∷ bytes) (suc column) ≡ suc (column_offset bytes column) =
+    rw (one, le-ltb (suc column) 1 (omega arith), inside byte bytes whole)
+    (ap (λ (n : ℕ). suc (column_offset bytes n)) (less_one column)) in
     step ∙ omega (arith, later)
 
 -- the same of offsets in a line
