@@ -1,4 +1,4 @@
-use Rattle.std.proofs.Common.{None, Some, Option, ap, refl}
+use Rattle.std.proofs.Common.{None, Option, ap, refl}
 use Rattle.std.specs.Option.{is_some}
 use Rattle.lsp_descriptions.specs.UserDescriptions.{UserDescribed, described_rows, has_name, modified_keys, user_descriptions}
 use Rattle.lsp_descriptions.proofs.UserRows.{in_first, in_second}
