@@ -66,3 +66,7 @@ source color told =
 -- the line, and the source below it
 abbrev pub gcc_text : Bool → ToldSeen → List ℕ
 gcc_text color told = head color told ++ words told ++ source color told
+
+-- the line alone, without colors
+abbrev pub line_text : ToldSeen → List ℕ
+line_text told = head false told ++ words told

@@ -158,3 +158,14 @@ pub(crate) fn push_gcc(
     push_words(out, told)?;
     push_source(out, color, told)
 }
+
+/// Adds what is told as GNU's compilers do, on one line: without the source, and without colors.
+///
+/// # Errors
+/// Out of memory.
+pub(crate) fn push_line(alloc: Global, out: &mut Vec<u8>, told: &Told<'_>) -> Result<(), AllocError>
+    ensures { OnOk result (out.new.items ≡ out.old.items ++ spec.line_text (told_seen told.now)) }
+{
+    push_head(alloc, out, false, told)?;
+    push_words(out, told)
+}

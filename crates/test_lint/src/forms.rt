@@ -96,6 +96,9 @@ fn notes_and_notices(rt: HostRuntime) -> Result<(), AllocError> {
     let said = b"m:2:2: note: ab: Said. [N3 SaidTwice]\n\tab,\n\t^~\n";
     let text = told(rt.alloc(), PLAIN, &HINT)?;
     assert!(&rt; text.as_slice() == said.as_slice());
+    let said = b"m:2:2: note: ab: Said. [N3 SaidTwice]\n";
+    let text = told(rt.alloc(), Form::Lines, &HINT)?;
+    assert!(&rt; text.as_slice() == said.as_slice());
     let said = b"::notice file=m,line=2,col=2,title=N3 SaidTwice::ab: Said.\n";
     let text = told(rt.alloc(), Form::Github, &HINT)?;
     assert!(&rt; text.as_slice() == said.as_slice());
