@@ -1,4 +1,6 @@
+pub mod Buffers
 pub mod Frames
 pub mod FrameLaws
+pub mod Inputs
 pub mod Transfers
 pub mod inside
