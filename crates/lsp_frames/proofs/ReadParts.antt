@@ -8,7 +8,8 @@ use Rattle.lsp_frames.specs.Frames.{HasNoNewline, line_end}
 use Rattle.lsp_frames.specs.Inputs.{Gives, InputSeen}
 use Rattle.lsp_frames.specs.declared.frames.FrameError.{FrameError}
 use Rattle.lsp_frames.specs.declared.frames.FrameError.TheVariants.{Memory, Broken}
-use Rattle.lsp_frames.specs.inside.Parts.{BodyStops, HasNoReturn, LineHasNoReturn, LineIsLong, LineRunsDry, LineStops, StopsAtOnce}
+use Rattle.lsp_frames.specs.Reads.{StopsAtOnce}
+use Rattle.lsp_frames.specs.inside.Parts.{BodyStops, HasNoReturn, LineHasNoReturn, LineIsLong, LineRunsDry, LineStops}
 
 -- ---- lines
 

@@ -8,7 +8,7 @@ use Rattle.tools_devices.specs.Writing.{TakesAll, TakesFront}
 use Rattle.lsp_frames.proofs.Used.{Gives-then, Uses-then}
 use Rattle.lsp_frames.specs.Inputs.{Gives, InputSeen}
 use Rattle.lsp_frames.specs.Transfers.{GivesNoMore}
-use Rattle.lsp_frames.specs.inside.Parts.{RunsDry}
+use Rattle.lsp_frames.specs.Reads.{RunsDry}
 
 -- known bytes that stay are consumed by none
 pub Consumes-keeps : (u v : Option (List ℕ)) → Keeps u v → Consumes u v []

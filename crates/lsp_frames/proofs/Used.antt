@@ -5,7 +5,8 @@ use Rattle.std.specs.Io.KnownBytes.{Consumes, prepend_known}
 use Rattle.std.proofs.lemmas.List.{drop-drop, drop-take, length-drop, length-take, length-take-le, take-append-drop, take-take, take_at}
 use Rattle.tools_devices.proofs.Written.{Consumes-none, Consumes-then}
 use Rattle.lsp_frames.specs.Inputs.{Gives, InputSeen, IsNeeded, Takes, Uses, joined}
-use Rattle.lsp_frames.specs.inside.Parts.{Fills, ReadsSome}
+use Rattle.lsp_frames.specs.Reads.{ReadsSome}
+use Rattle.lsp_frames.specs.inside.Parts.{Fills}
 
 joined-append : (a b : List (List ℕ)) → joined (a ++ b) ≡ joined a ++ joined b
 joined-append [] b = refl

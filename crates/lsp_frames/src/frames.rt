@@ -7,7 +7,8 @@ ghost use Rattle.lsp_frames.specs.Inputs.{Gives};
 ghost use Rattle.lsp_frames.specs.Transfers.{GivesFrame, ReadingStops, WritingEnds};
 ghost use Rattle.lsp_frames.specs.declared.frames.FrameError.TheVariants.{Broken};
 ghost use Rattle.lsp_frames.specs.inside.Headers.{FirstLength, IsNoNumber};
-ghost use Rattle.lsp_frames.specs.inside.Parts.{BodyStops, HasNoReturn, LineStops, ReadsSome, StopsAtOnce};
+ghost use Rattle.lsp_frames.specs.Reads.{ReadsSome, StopsAtOnce};
+ghost use Rattle.lsp_frames.specs.inside.Parts.{BodyStops, HasNoReturn, LineStops};
 
 use crate::input::{Held, Input};
 use std::alloc::{AllocError, Global};

@@ -3,7 +3,8 @@
 ghost use Rattle.std.specs.Prelude.{◌≡◌, ◌<◌, ◌≤◌, [], ℕ, IfErr, IfOk, OnOk, length};
 ghost use Rattle.tools_devices.specs.Counted.{device_of, failures_of};
 ghost use Rattle.lsp_frames.specs.Buffers.{ahead_of, buffered_seen, held_seen};
-ghost use Rattle.lsp_frames.specs.inside.Parts.{Fills, ReadsSome, StopsAtOnce};
+ghost use Rattle.lsp_frames.specs.Reads.{ReadsSome, StopsAtOnce};
+ghost use Rattle.lsp_frames.specs.inside.Parts.{Fills};
 
 use crate::buffered::Buffered;
 use crate::frames::FrameError;
@@ -19,7 +20,7 @@ const PIECE_BYTES: usize = 65_536;
 pub trait Input {
     ghost use Rattle.std.specs.Prelude.{◌≡◌, ◌<◌, IfErr, IfOk, length};
     ghost use Rattle.lsp_frames.specs.Inputs.{InputSeen};
-    ghost use Rattle.lsp_frames.specs.inside.Parts.{ReadsSome, StopsAtOnce};
+    ghost use Rattle.lsp_frames.specs.Reads.{ReadsSome, StopsAtOnce};
 
     // What a contract sees of it.
     ghost seen: { Self → InputSeen };

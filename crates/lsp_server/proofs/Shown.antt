@@ -10,7 +10,7 @@ use Rattle.lsp_messages.specs.Messages.{response, faulty, Told, exited, opened, 
 use Rattle.lsp_messages.specs.declared.clients.Client.{Client}
 use Rattle.lsp_server.specs.Runs.{AllIsShownAtLast, AnswersAreOfShownTexts, IsShown, answers_to, last_shown, shown_by, state_after, OpenDocumentsAreShown}
 use Rattle.lsp_server.specs.Serving.{AllIsServedAtLast, ServedDocumentsAreShown, Turn, replies_to, served_state}
-use Rattle.lsp_server.specs.Steps.{Answer, shown, cleared, warned, Open, Places, State, all_published, answered_of, at_start, changed_by, current_of, opened_for}
+use Rattle.lsp_server.specs.Steps.{Answer, shown, cleared, Open, Places, State, all_published, answered_of, at_start, changed_by, current_of, opened_for}
 use Rattle.lsp_server.specs.Steps.{open_at, outdated, due_if, published, published_if, publishes_first, requested, requested_fresh, requested_running, settled, shown_due}
 use Rattle.lsp_server.specs.Steps.{shown_if_due, step, can_apply, taken, taken_value, told, told_in, with_change, with_document, with_edits, without}
 use Rattle.lsp_server.specs.declared.phase.Phase.{Phase}

@@ -194,11 +194,12 @@ shown_due documents = flat_map shown_if_due documents
 abbrev pub all_published : State → State
 all_published state = record { phase = state.phase; documents = map published state.documents }
 
--- the same, if that is wanted
+-- the state after that, if it is wanted
 abbrev pub published_if : Bool → State → State
 published_if true state = all_published state
 published_if false state = state
 
+-- what is sent then
 abbrev pub due_if : Bool → State → List Answer
 due_if true state = shown_due state.documents
 due_if false state = []
@@ -258,10 +259,11 @@ publishes_first (notification notice) = publishes_told notice
 publishes_first response = false
 publishes_first (faulty id) = false
 
--- the state after a message, and what is sent before it and for it
+-- what is sent before a message, put before what is sent for it
 abbrev pub with_answers : List Answer → State × Option Answer → State × List Answer
 with_answers before after = (after.0, before ++ option_to_list after.1)
 
+-- the state after a message, and what is sent before it and for it
 abbrev pub taken : Places → State → Meaning → State × List Answer
 taken places state message =
     with_answers (due_if (publishes_first message) state) (step places (published_if (publishes_first message) state) message)

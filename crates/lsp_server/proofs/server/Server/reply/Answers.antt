@@ -1,4 +1,4 @@
-use Rattle.std.proofs.Common.{◌≡◌, map, not, option_map, refl}
+use Rattle.std.proofs.Common.{not, option_map, refl}
 use Rattle.serde_json.specs.View.{view}
 use Rattle.lsp_server.proofs.Publishing.{two_sent}
 use Rattle.lsp_server.specs.States.{state_of}

@@ -1,4 +1,4 @@
-use Rattle.std.proofs.Common.{◌≡◌, ◌++◌, [], map, refl, ap}
+use Rattle.std.proofs.Common.{map, refl, ap}
 use Rattle.std.specs.Option.{option_to_list}
 use Rattle.lsp_messages.specs.Views.{message_view}
 use Rattle.serde_json.specs.View.{view}
