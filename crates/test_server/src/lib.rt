@@ -3,8 +3,7 @@
 //!
 //! - `frames`: headers and bodies, read and written
 //! - `values`: the values that are sent
-//! - `measured`: a source for tests; `sessions` has runs of frames over it, with what is written, and
-//!   `waiting` those whose frames come with one read
+//! - `measured`: a source for tests; `sessions` has runs of frames over it, with what is written
 #![tactic(auto)]
 
 #[cfg(test)]
@@ -15,5 +14,3 @@ mod measured;
 mod sessions;
 #[cfg(test)]
 mod values;
-#[cfg(test)]
-mod waiting;

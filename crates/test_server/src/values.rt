@@ -171,7 +171,6 @@ const ABLE: Client = Client {
     takes_actions: true,
     nests_symbols: true,
     user_defined: true,
-    hints: true,
 };
 
 // A client that does neither.
@@ -180,7 +179,6 @@ const LESS: Client = Client {
     takes_actions: false,
     nests_symbols: false,
     user_defined: false,
-    hints: false,
 };
 
 #[test]

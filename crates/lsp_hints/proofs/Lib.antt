@@ -1,4 +1,0 @@
-pub mod Counting
-pub mod Reading
-pub mod Saying
-pub mod Shapes

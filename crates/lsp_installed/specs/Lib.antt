@@ -1,6 +1,0 @@
--- The definitions that the contracts of this crate cite.
-pub mod Directories
-pub mod Names
-pub mod Missed
-pub mod Completed
-pub mod Findings

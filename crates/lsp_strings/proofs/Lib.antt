@@ -1,5 +1,0 @@
-pub mod Appends
-pub mod Expanded
-pub mod Printing
-pub mod Reading
-pub mod Whole
