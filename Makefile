@@ -66,7 +66,7 @@ EDITORS = $(wildcard $(addprefix editors/,*.el *.json *.lua *.toml *.vim *.xml t
 EDITOR_DIRS = vscode textmate vim/syntax vim/ftplugin vim/ftdetect vim
 PAGES = man/ti.1 man/ti-profile-tic.1 man/ti-profile-infocmp.1 man/ti-profile-tput.1 \
 	man/ti-session.1 man/ti-everyday.1 man/ti-tic.1 man/ti-infocmp.1 man/ti-tput.1 \
-	man/ti-fmt.1 man/ti-lint.1 man/ti-report.7
+	man/ti-fmt.1 man/ti-lint.1 man/ti-report.7 man/ti-hints.7
 # the links to ti-everyday
 TOOL_NAMES = ti-tic ti-infocmp ti-tput ti-fmt ti-lint
 LIBRARY = crates/ti_c/out/lib

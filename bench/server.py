@@ -41,7 +41,8 @@ def opened(text):
 
 
 def keys(text, count):
-    """The messages of `count` keys, each in a line in the middle of the text."""
+    """The messages of `count` keys, each in a line in the middle of the text. The request after a key
+    has its diagnostics published, since those of changes that wait are published together."""
     lines = text.split("\n")
     line = next(at for at in range(len(lines) // 2, len(lines)) if lines[at].startswith("\t"))
     messages = b""
@@ -50,6 +51,7 @@ def keys(text, count):
         change = {"range": {"start": place, "end": place}, "text": "x"}
         document = {"uri": "file:///bench.ti", "version": version}
         messages += framed("textDocument/didChange", {"textDocument": document, "contentChanges": [change]})
+        messages += framed("unknown", {}, id=version)
     return messages
 
 

@@ -3,15 +3,20 @@ what the model says, and its diagnostics those that `ti tic -c` reports of the s
 """
 
 import copy
+import itertools
 import json
 import random
 import re
+import subprocess
+import tempfile
 
 from generate import Source
-from limits import LSP, quick
+from limits import LSP, SECONDS_MAX, quick
 from model.server import QUESTIONS, Server, agree, frames_in, seen
 
 EDITS_A_RUN = 20
+# how many bytes the server asks for at a time
+PIECE = 65_536
 LETTERS = [
     "é", "\u20ac", "\U0001d11e", "\U0001f600", "a", "\r", "\r\n", "\n", "\t", "", "x,", "use=a,", "\u2028", "\x85",
     "colr#8,", "kf64=x,", "amm,", "Cols@,", "use=aa,", "cols=80,", "bel#^G,", "am=,", "bel=a\\q\\072,", "li\n\tne#2,",
@@ -186,11 +191,19 @@ class Editor:
                 return
 
 
+def waits_after(bodies):
+    """Of each body whether a whole frame waits after it, if the input is a file: a read brings 65,536
+    bytes of it, or the rest."""
+    ends = list(itertools.accumulate(len(framed(body)) for body in bodies))
+    read = [-(-end // PIECE) * PIECE for end in ends]
+    return [following <= come for come, following in zip(read, ends[1:])] + [False]
+
+
 def wanted_of(bodies):
     """What the model sends for bodies, with what it then shows of each text, and the status."""
     server, answers, shown = Server(), [], []
-    for body in bodies:
-        for answer in server.answer(body):
+    for body, waits in zip(bodies, waits_after(bodies)):
+        for answer in server.answer(body, waits):
             answers.append(answer)
             text = server.texts.get(answer.get("uri")) if answer.get("shown") is not None else None
             if text is not None:
@@ -200,10 +213,21 @@ def wanted_of(bodies):
     return answers, shown, 1
 
 
+def served(bodies):
+    """A run of the server with the frames of bodies in a file: its status, what it wrote, and its errors."""
+    with tempfile.TemporaryFile() as given:
+        given.write(b"".join(map(framed, bodies)))
+        given.seek(0)
+        done = subprocess.run(
+            [LSP], stdin=given, env={}, stdout=subprocess.PIPE, stderr=subprocess.PIPE, timeout=SECONDS_MAX, check=False,
+        )
+    return done.returncode, done.stdout, done.stderr
+
+
 def run_fault(bodies):
     """What is wrong with what the server sends for bodies."""
     wanted, shown, status = wanted_of(bodies)
-    code, out, err = quick([], b"".join(map(framed, bodies)), program=LSP)
+    code, out, err = served(bodies)
     got = [seen(answer) for answer in frames_in(out)]
     for at, (one, other) in enumerate(zip(got, wanted)):
         if not agree(one, other):

@@ -81,7 +81,7 @@ def check_install():
         wanted = [f"usr/bin/{name}" for name in ("ti", "ti-everyday", *EVERYDAY_TOOLS)]
         wanted += [f"usr/share/bash-completion/completions/{name}" for name in ("ti", *EVERYDAY_TOOLS)]
         wanted += [f"usr/share/fish/vendor_completions.d/{name}.fish" for name in ("ti", *EVERYDAY_TOOLS)]
-        wanted += ["usr/share/zsh/site-functions/_ti", "usr/share/man/man7/ti-report.7"]
+        wanted += ["usr/share/zsh/site-functions/_ti", "usr/share/man/man7/ti-report.7", "usr/share/man/man7/ti-hints.7"]
         wanted += [f"usr/share/man/man1/{page}" for page in INSTALLED_PAGES if page.endswith(".1")]
         wanted += [f"usr/share/{place}/syntax/terminfo.vim" for place in ("vim/vimfiles", "nvim/site")]
         wanted += ["usr/share/emacs/site-lisp/terminfo-mode.el"]

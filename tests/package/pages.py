@@ -12,7 +12,7 @@ SECTIONS = [
     "NAME", "SYNOPSIS", "DESCRIPTION", "ENVIRONMENT", "FILES", "EXIT STATUS", "EXAMPLES", "COMPATIBILITY",
     "SEE ALSO", "HISTORY", "AUTHORS", "BUGS",
 ]
-# what ti-report.7, which is about no command, does not have
+# what pages about no command do not have
 OF_COMMANDS = ("SYNOPSIS", "ENVIRONMENT", "FILES", "EXIT STATUS")
 WIDTH = 100
 # words for which the pages have plainer ones: after, next to or compared with, directory, fix, is,
@@ -64,7 +64,7 @@ def check_pages():
         yield f"ti-report.7 has the codes {codes}"
     for name in PAGES_OF_ALL:
         lacking = [section for section in SECTIONS if f".Sh {section}\n" not in text_of("man", name)]
-        if name == "ti-report.7":
+        if name.endswith(".7"):
             lacking = [section for section in lacking if section not in OF_COMMANDS]
         if lacking:
             yield f"{name}: no section {', '.join(lacking)}"

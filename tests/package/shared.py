@@ -22,7 +22,7 @@ PAGE_OF = {
     "session": "ti-session.1",
     **{tool: f"{tool}.1" for tool in EVERYDAY_TOOLS},
 }
-PAGES = [*PAGE_OF.values(), "ti-everyday.1", "ti-lsp.1", "ti-report.7"]
+PAGES = [*PAGE_OF.values(), "ti-everyday.1", "ti-lsp.1", "ti-report.7", "ti-hints.7"]
 # the page of ti-run is of another package
 PAGES_OF_ALL = [*PAGES, "ti-run.1"]
 # the language server and its page are installed if it is built

@@ -4,14 +4,16 @@ use Rattle.std.specs.Prelude.{ℕ, ◌+◌, ◌++◌, ◌∷◌, [], Bool, true,
 use Rattle.std.specs.Fmt.{decimal}
 use Rattle.ti_text.specs.Ascii as ascii
 use Rattle.lsp_types.specs.declared.severities.Severity.{Severity}
-use Rattle.lsp_types.specs.declared.severities.Severity.TheVariants.{Error, Warning}
+use Rattle.lsp_types.specs.declared.severities.Severity.TheVariants.{Error, Warning, Information, Hint}
 use Rattle.everyday_forms.specs.Excerpts.{excerpt, indent, mark_of}
 use Rattle.everyday_forms.specs.Told.{ToldSeen}
 
--- what an error and a warning are called
+-- what an error, a warning and a hint are called
 abbrev pub severity_word : Severity → List ℕ
 severity_word Error = codes "error"
 severity_word Warning = codes "warning"
+severity_word Information = codes "note"
+severity_word Hint = codes "note"
 
 -- the number of what is at a place, counted from 0
 abbrev pub ordinal : ℕ → List ℕ
@@ -19,10 +21,12 @@ ordinal at = decimal (at + 1)
 
 -- ---- colors
 
--- that of an error is red, that of a warning magenta; both are bold
+-- that of an error is red, that of a warning magenta, that of a hint cyan; all are bold
 abbrev pub severity_color : Severity → List ℕ
 severity_color Error = codes "1;31"
 severity_color Warning = codes "1;35"
+severity_color Information = codes "1;36"
+severity_color Hint = codes "1;36"
 
 -- what begins a color, if colors are used
 abbrev pub begin_color : Bool → List ℕ → List ℕ
@@ -62,3 +66,7 @@ source color told =
 -- the line, and the source below it
 abbrev pub gcc_text : Bool → ToldSeen → List ℕ
 gcc_text color told = head color told ++ words told ++ source color told
+
+-- the line alone, without colors
+abbrev pub line_text : ToldSeen → List ℕ
+line_text told = head false told ++ words told

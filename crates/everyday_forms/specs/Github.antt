@@ -2,7 +2,9 @@
 -- the escapes are those of GitHub's own toolkit).
 use Rattle.std.specs.Prelude.{ℕ, ◌++◌, ◌∷◌, [], ◌==◌, List, codes, flat_map, if◌then◌else◌}
 use Rattle.ti_text.specs.Ascii as ascii
-use Rattle.everyday_forms.specs.Gcc.{ordinal, severity_word}
+use Rattle.lsp_types.specs.declared.severities.Severity.{Severity}
+use Rattle.lsp_types.specs.declared.severities.Severity.TheVariants.{Error, Warning, Information, Hint}
+use Rattle.everyday_forms.specs.Gcc.{ordinal}
 use Rattle.everyday_forms.specs.Told.{ToldSeen}
 
 -- a byte of a message
@@ -28,9 +30,16 @@ message_data text = flat_map data_byte text
 abbrev pub property : List ℕ → List ℕ
 property text = flat_map property_byte text
 
+-- the name of the command for an error, a warning and a hint
+abbrev pub command_name : Severity → List ℕ
+command_name Error = codes "error"
+command_name Warning = codes "warning"
+command_name Information = codes "notice"
+command_name Hint = codes "notice"
+
 -- the name of the command, and the file
 abbrev pub command : ToldSeen → List ℕ
-command told = codes "::" ++ severity_word told.severity ++ codes " file=" ++ property told.file
+command told = codes "::" ++ command_name told.severity ++ codes " file=" ++ property told.file
 
 -- the line, and the column in bytes, each counted from 1
 abbrev pub place : ToldSeen → List ℕ

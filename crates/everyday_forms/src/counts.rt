@@ -1,12 +1,33 @@
-//! How many errors and warnings there are, and whether they are bad.
+//! How many errors, warnings and hints there are, and whether they are bad.
 ghost use Rattle.std.specs.Prelude.{◌≡◌, ◌≤◌, ◌++◌, OnOk, length, nat_eq, count_by};
 ghost use Rattle.std.specs.List.{list_any};
 ghost use Rattle.everyday_forms.specs.Counts as spec;
-ghost use Rattle.everyday_forms.specs.Counts.{is_bad, is_error};
+ghost use Rattle.everyday_forms.specs.Counts.{is_bad, is_error, is_hint, is_warning};
 
 use lsp_types::Severity;
 use std::alloc::{AllocError, Global};
 use std::fmt::Write;
+
+// Whether it is an error.
+fn is_error(severity: Severity) -> bool
+    ensures { result ≡ is_error severity }
+{
+    matches!(severity, Severity::Error)
+}
+
+// Whether it is a warning.
+fn is_warning(severity: Severity) -> bool
+    ensures { result ≡ is_warning severity }
+{
+    matches!(severity, Severity::Warning)
+}
+
+// Whether it is a hint, or information.
+fn is_hint(severity: Severity) -> bool
+    ensures { result ≡ is_hint severity }
+{
+    matches!(severity, Severity::Information | Severity::Hint)
+}
 
 // How many errors there are.
 fn errors_in(severities: &[Severity]) -> usize
@@ -14,7 +35,33 @@ fn errors_in(severities: &[Severity]) -> usize
 {
     let mut count = 0;
     for severity in severities {
-        if *severity == Severity::Error {
+        if is_error(*severity) {
+            count += 1;
+        }
+    }
+    count
+}
+
+// How many warnings there are.
+fn warnings_in(severities: &[Severity]) -> usize
+    ensures { result ≡ count_by is_warning severities.now }
+{
+    let mut count = 0;
+    for severity in severities {
+        if is_warning(*severity) {
+            count += 1;
+        }
+    }
+    count
+}
+
+// How many hints there are.
+fn hints_in(severities: &[Severity]) -> usize
+    ensures { result ≡ count_by is_hint severities.now }
+{
+    let mut count = 0;
+    for severity in severities {
+        if is_hint(*severity) {
             count += 1;
         }
     }
@@ -40,7 +87,19 @@ fn push_counted(
     out.extend_from_slice(b"s")
 }
 
-/// Adds the line that says how many errors and warnings there are, in how many files.
+// Adds how many hints there are, if there are any.
+fn push_hints(alloc: Global, out: &mut Vec<u8>, hints: usize) -> Result<(), AllocError>
+    ensures { OnOk result (out.new.items ≡ out.old.items ++ spec.hints_counted hints) }
+{
+    if hints == 0 {
+        return Ok(());
+    }
+    out.extend_from_slice(b", ")?;
+    push_counted(alloc, out, hints, b"hint")
+}
+
+/// Adds the line that says how many errors and warnings there are, and hints if there are any, in
+/// how many files.
 ///
 /// # Errors
 /// Out of memory.
@@ -52,10 +111,10 @@ pub fn push_summary(
 ) -> Result<(), AllocError>
     ensures { OnOk result (out.new.items ≡ out.old.items ++ spec.summary severities.now files) }
 {
-    let errors = errors_in(severities);
-    push_counted(alloc, out, errors, b"error")?;
+    push_counted(alloc, out, errors_in(severities), b"error")?;
     out.extend_from_slice(b", ")?;
-    push_counted(alloc, out, severities.len() - errors, b"warning")?;
+    push_counted(alloc, out, warnings_in(severities), b"warning")?;
+    push_hints(alloc, out, hints_in(severities))?;
     out.extend_from_slice(b" in ")?;
     push_counted(alloc, out, files, b"file")?;
     out.extend_from_slice(b"\n")
@@ -68,6 +127,7 @@ fn is_bad(strict: bool, severity: Severity) -> bool
     match severity {
         Severity::Error => true,
         Severity::Warning => strict,
+        Severity::Information | Severity::Hint => false,
     }
 }
 

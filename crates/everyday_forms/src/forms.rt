@@ -3,7 +3,7 @@ ghost use Rattle.std.specs.Prelude.{◌≡◌, ◌++◌, IfOk, OnOk};
 ghost use Rattle.everyday_forms.specs.Forms as spec;
 ghost use Rattle.everyday_forms.specs.Told.{told_seen};
 
-use crate::gcc::push_gcc;
+use crate::gcc::{push_gcc, push_line};
 use crate::github::push_github;
 use crate::json::{array_of, push_json};
 use crate::told::{Form, Told};
@@ -23,6 +23,7 @@ pub fn push_told(
 {
     match form {
         Form::Gcc { color } => push_gcc(alloc, out, color, told),
+        Form::Lines => push_line(alloc, out, told),
         Form::Github => push_github(alloc, out, told),
         Form::Json => push_json(alloc, out, told),
     }
@@ -36,7 +37,7 @@ pub fn whole(alloc: Global, form: Form, told: Vec<u8>) -> Result<Vec<u8>, AllocE
     ensures { IfOk result (λ all. all.items ≡ spec.whole form told.items) }
 {
     match form {
-        Form::Gcc { .. } | Form::Github => Ok(told),
+        Form::Gcc { .. } | Form::Lines | Form::Github => Ok(told),
         Form::Json => array_of(alloc, told.as_slice()),
     }
 }

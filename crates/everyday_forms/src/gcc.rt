@@ -11,23 +11,25 @@ use lsp_types::Severity;
 use std::alloc::{AllocError, Global};
 use std::fmt::Write;
 
-/// What an error and a warning are called.
-pub(crate) fn severity_word(severity: Severity) -> &'static [u8]
+// What an error, a warning and a hint are called.
+fn severity_word(severity: Severity) -> &'static [u8]
     ensures { result.now ≡ spec.severity_word severity }
 {
     match severity {
         Severity::Error => b"error",
         Severity::Warning => b"warning",
+        Severity::Information | Severity::Hint => b"note",
     }
 }
 
-// The color of an error and of a warning.
+// The color of an error, of a warning and of a hint.
 fn severity_color(severity: Severity) -> &'static [u8]
     ensures { result.now ≡ spec.severity_color severity }
 {
     match severity {
         Severity::Error => b"1;31",
         Severity::Warning => b"1;35",
+        Severity::Information | Severity::Hint => b"1;36",
     }
 }
 
@@ -155,4 +157,15 @@ pub(crate) fn push_gcc(
     push_head(alloc, out, color, told)?;
     push_words(out, told)?;
     push_source(out, color, told)
+}
+
+/// Adds what is told as GNU's compilers do, on one line: without the source, and without colors.
+///
+/// # Errors
+/// Out of memory.
+pub(crate) fn push_line(alloc: Global, out: &mut Vec<u8>, told: &Told<'_>) -> Result<(), AllocError>
+    ensures { OnOk result (out.new.items ≡ out.old.items ++ spec.line_text (told_seen told.now)) }
+{
+    push_head(alloc, out, false, told)?;
+    push_words(out, told)
 }

@@ -3,8 +3,9 @@ ghost use Rattle.std.specs.Prelude.{◌≡◌, ◌++◌, OnOk};
 ghost use Rattle.everyday_forms.specs.Github as spec;
 ghost use Rattle.everyday_forms.specs.Told.{told_seen};
 
-use crate::gcc::{ordinal, severity_word};
+use crate::gcc::ordinal;
 use crate::told::Told;
+use lsp_types::Severity;
 use std::alloc::{AllocError, Global};
 
 // Adds a byte of a message as a command has it.
@@ -50,12 +51,23 @@ fn push_property(out: &mut Vec<u8>, text: &[u8]) -> Result<(), AllocError>
     Ok(())
 }
 
+// The name of the command for an error, a warning and a hint.
+fn command_name(severity: Severity) -> &'static [u8]
+    ensures { result.now ≡ spec.command_name severity }
+{
+    match severity {
+        Severity::Error => b"error",
+        Severity::Warning => b"warning",
+        Severity::Information | Severity::Hint => b"notice",
+    }
+}
+
 // Adds the name of the command, and the file.
 fn push_command(out: &mut Vec<u8>, told: &Told<'_>) -> Result<(), AllocError>
     ensures { OnOk result (out.new.items ≡ out.old.items ++ spec.command (told_seen told.now)) }
 {
     out.extend_from_slice(b"::")?;
-    out.extend_from_slice(severity_word(told.severity))?;
+    out.extend_from_slice(command_name(told.severity))?;
     out.extend_from_slice(b" file=")?;
     push_property(out, told.file.as_bytes())
 }

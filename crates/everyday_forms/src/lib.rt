@@ -14,7 +14,7 @@
 //! - `gcc`: the lines of GNU's compilers, with `excerpts` of the source
 //! - `github`: the workflow commands of GitHub Actions
 //! - `json`: objects, each a diagnostic of the Language Server Protocol and its file
-//! - `counts`: how many errors and warnings there are (`push_summary`), and whether one is bad (`has_bad`)
+//! - `counts`: how many errors, warnings and hints there are (`push_summary`), and whether one is bad (`has_bad`)
 #![tactic(auto)]
 
 mod counts;

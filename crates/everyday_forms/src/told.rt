@@ -35,6 +35,8 @@ pub enum Form {
         /// Colors are used, by escape sequences of ECMA-48.
         color: bool,
     },
+    /// The same lines without the source, and without colors.
+    Lines,
     /// Workflow commands of GitHub Actions.
     Github,
     /// One array in JSON.

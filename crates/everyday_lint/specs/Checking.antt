@@ -1,7 +1,8 @@
--- What is found out about a source (own): the diagnostics of the language server, once the fixes that
--- are certain are made, if fixes are made.
+-- What is found out about a source (own): the faults and hints of the language server, once the fixes
+-- that are certain are made, if fixes are made.
 use Rattle.std.specs.Prelude.{◌≡◌, ℕ, List, [], if◌then◌else◌}
 use Rattle.lsp_document.specs.Diagnostics.{diagnostics_by}
+use Rattle.lsp_remarks.specs.Remarks.{remarks_of}
 use Rattle.everyday_lint.specs.Mending.{made}
 use Rattle.everyday_lint.specs.Offers.{OfferSeen, offers_of}
 use Rattle.everyday_lint.specs.Telling.{severities_of, told_of_all}
@@ -16,9 +17,9 @@ offers_in options source = if options.fix then offers_of options.capabilities so
 abbrev pub made_in : LintOptions → List ℕ → List OfferSeen
 made_in options source = made source 0 (offers_in options source)
 
--- what is found out about a text of a file, of which this was told before: what is told are its
--- diagnostics
+-- what is found out about a text of a file, of which this was told before: what is told are its faults,
+-- with its hints among them
 pub record IsLintedText (options : LintOptions) (file text before : List ℕ) (linted : Linted) : Type 0 where
   pub fixes : linted.fixes.items ≡ before
-  pub told : linted.told.items ≡ told_of_all options.form file text (diagnostics_by options.capabilities text)
-  pub severities : linted.severities.items ≡ severities_of (diagnostics_by options.capabilities text)
+  pub told : linted.told.items ≡ told_of_all options.form file text (remarks_of options.capabilities text)
+  pub severities : linted.severities.items ≡ severities_of (remarks_of options.capabilities text)

@@ -11,7 +11,7 @@ use Rattle.lsp_fixes.specs.Edits.{AdviceSeen, advises_caret, advises_name, advis
 use Rattle.everyday_forms.specs.Gcc.{ordinal}
 use Rattle.everyday_lint.specs.Offers.{OfferSeen}
 use Rattle.everyday_lint.specs.Telling.{byte_offset}
-use Rattle.everyday_lint.specs.Words.{title_of}
+use Rattle.everyday_lint.specs.Words.{problem_title}
 
 -- where in a text what a fix exchanges begins
 abbrev pub begins : List ℕ → OfferSeen → ℕ
@@ -53,7 +53,7 @@ place file text start = file ++ codes ":" ++ ordinal start.line ++ codes ":" ++ 
 
 -- what a fix did, and in brackets the title of what it was for
 abbrev pub words : OfferSeen → List ℕ
-words offer = codes ": fixed: " ++ deed offer.fix.advice ++ codes " [" ++ title_of offer.problem ++ codes "]\n"
+words offer = codes ": fixed: " ++ deed offer.fix.advice ++ codes " [" ++ problem_title offer.problem ++ codes "]\n"
 
 -- what is told of a fix that was made in a text
 abbrev pub fix_line : (file text : List ℕ) → OfferSeen → List ℕ

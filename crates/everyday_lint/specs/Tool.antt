@@ -2,7 +2,7 @@
 use Rattle.std.specs.Prelude.{◌≡◌, ℕ, ◌++◌, List, codes, count_by, flat_map, if◌then◌else◌}
 use Rattle.std.specs.List.{list_any}
 use Rattle.everyday_fmt.specs.Fates.{Held}
-use Rattle.lsp_document.specs.Diagnostics.{diagnostics_by}
+use Rattle.lsp_remarks.specs.Remarks.{remarks_of}
 use Rattle.everyday_forms.specs.Counts.{is_bad, summary}
 use Rattle.everyday_forms.specs.Forms.{whole}
 use Rattle.everyday_lint.specs.Fates.{LintsFiles}
@@ -24,10 +24,10 @@ abbrev pub ComesOfFiles : LintOptions → List (List ℕ) → Held → Held → 
 ComesOfFiles options paths before after outcome =
     (done : List Done) × LintsFiles options paths before after done × IsOutcomeOf options done outcome
 
--- what is printed for standard input, by its diagnostics, and the status
+-- what is printed for standard input, by its faults and hints, and the status
 pub record IsOutcomeOfInput (options : LintOptions) (source : List ℕ) (outcome : LintOutcome) : Type 0 where
   pub output : outcome.output.items
-      ≡ whole options.form (told_of_all options.form (codes "<stdin>") source (diagnostics_by options.capabilities source))
-  pub errors : outcome.errors.items ≡ summary (telling.severities_of (diagnostics_by options.capabilities source)) 1
+      ≡ whole options.form (told_of_all options.form (codes "<stdin>") source (remarks_of options.capabilities source))
+  pub errors : outcome.errors.items ≡ summary (telling.severities_of (remarks_of options.capabilities source)) 1
   pub status : outcome.status
-      ≡ (if list_any (is_bad options.strict) (telling.severities_of (diagnostics_by options.capabilities source)) then 1 else 0)
+      ≡ (if list_any (is_bad options.strict) (telling.severities_of (remarks_of options.capabilities source)) then 1 else 0)

@@ -7,6 +7,7 @@ use crate::offers::{Offer, offers_of};
 use crate::options::LintOptions;
 use crate::telling::{severities_of, told_of_all};
 use lsp_document::Document;
+use lsp_remarks::{hints_in, remarks_of};
 use lsp_types::Severity;
 use std::alloc::{AllocError, Global};
 
@@ -35,7 +36,9 @@ pub(crate) fn check_text(
     ensures linted { IfOk result (IsLintedText options file.now document.old fixes.items) }
     ensures text { document.new ≡ document.old }
 {
-    let all = document.diagnostics_by(alloc, options.capabilities)?;
+    let faults = document.diagnostics_by(alloc, options.capabilities)?;
+    let hints = hints_in(alloc, options.capabilities, document, &mut Vec::new(alloc))?;
+    let all = remarks_of(alloc, &faults, &hints)?;
     Ok(Linted {
         fixes,
         told: told_of_all(alloc, options.form, file, document.text(), &all)?,

@@ -20,7 +20,8 @@
 //! - `checking`: what is found out about a source (`Linted`)
 //! - `files`: what becomes of a file, and of files in turn
 //! - `report`: what is printed about them, and the status
-//! - `tool`: what comes of files (`lint_files`), and of standard input (`lint_input`)
+//! - `tool`: what comes of files (`lint_files`), and of standard input (`lint_input`); the hints on a
+//!   source for `ti-tic -c` (`hint_lines`)
 #![tactic(auto)]
 
 mod checking;
@@ -40,5 +41,5 @@ pub use everyday_forms::Form;
 pub use files::{Done, Fate};
 pub use lsp_document::Capabilities;
 pub use options::{LintOptions, LintOutcome};
-pub use tool::{lint_files, lint_input};
+pub use tool::{hint_lines, lint_files, lint_input};
 pub use words::sentences_are_of_faults;

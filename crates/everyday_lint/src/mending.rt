@@ -9,7 +9,7 @@ ghost use Rattle.everyday_lint.specs.Offers.{made_seen, offer_seen};
 
 use crate::lines::Line;
 use crate::offers::Offer;
-use crate::words::title_of;
+use crate::words::problem_title;
 use lsp_fixes::Advice;
 use lsp_places::offset_of;
 use lsp_types::Position;
@@ -118,7 +118,7 @@ fn push_place(
 fn push_deed(alloc: Global, out: &mut Vec<u8>, offer: &Offer) -> Result<(), AllocError>
     ensures { OnOk result (out.new.items ≡ out.old.items ++ spec.words (offer_seen offer.now)) }
 {
-    let title = title_of(alloc, offer.problem)?;
+    let title = problem_title(alloc, offer.problem)?;
     out.extend_from_slice(b": fixed: ")?;
     out.extend_from_slice(deed(&offer.fix.advice).as_bytes())?;
     out.extend_from_slice(b" [")?;

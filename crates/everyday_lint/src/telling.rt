@@ -1,6 +1,6 @@
-//! What is told of diagnostics.
+//! What is told of faults and hints.
 ghost use Rattle.std.specs.Prelude.{◌≡◌, ◌++◌, IfOk, OnOk, map};
-ghost use Rattle.lsp_document.specs.Diagnostics.{diagnostic_seen};
+ghost use Rattle.lsp_remarks.specs.Remarks.{remark_seen};
 ghost use Rattle.everyday_forms.specs.Forms.{told_text};
 ghost use Rattle.everyday_lint.specs.Telling as spec;
 ghost use Rattle.everyday_lint.specs.Telling.{told_of, told_on};
@@ -8,27 +8,26 @@ ghost use Rattle.everyday_lint.specs.Telling.{told_of, told_on};
 use crate::lines::{Line, LineWalk};
 use crate::words::{sentence_of, title_of};
 use everyday_forms::{Form, Told, push_told};
-use lsp_document::Diagnostic;
+use lsp_remarks::Remark;
 use lsp_types::Severity;
 use std::alloc::{AllocError, Global};
 
-// Adds what is told of a diagnostic, if what is faulty begins on this line.
+// Adds what is told of a fault or a hint, if what is faulty begins on this line.
 fn push_on_line(
     alloc: Global,
     out: &mut Vec<u8>,
     form: Form,
     file: &str,
     line: &Line<'_>,
-    diagnostic: &Diagnostic,
+    remark: Remark<'_>,
 ) -> Result<(), AllocError>
-    ensures { OnOk result (out.new.items ≡ out.old.items ++ told_text form (told_on file.now line.now (diagnostic_seen diagnostic.now))) }
+    ensures { OnOk result (out.new.items ≡ out.old.items ++ told_text form (told_on file.now line.now (remark_seen remark.entry))) }
 {
-    let range = diagnostic.range;
-    let problem = diagnostic.problem;
-    let message = diagnostic.message.as_str();
+    let range = remark.range();
+    let message = remark.message();
     let offset = line.offset_of(range.start.column);
     let end = line.offset_of(range.end.column);
-    let title = title_of(alloc, problem)?;
+    let title = title_of(alloc, remark)?;
     push_told(
         alloc,
         out,
@@ -39,32 +38,32 @@ fn push_on_line(
             line: line.bytes(),
             offset,
             size: end.saturating_sub(offset),
-            severity: problem.severity(),
-            code: problem.label(),
+            severity: remark.severity(),
+            code: remark.label(),
             title: title.as_str(),
-            sentence: sentence_of(problem, message),
+            sentence: sentence_of(remark, message),
             message,
         },
     )
 }
 
-// Adds what is told of a diagnostic of a text.
-fn push_diagnostic(
+// Adds what is told of a fault or a hint of a text.
+fn push_remark(
     alloc: Global,
     out: &mut Vec<u8>,
     form: Form,
     file: &str,
     walk: &mut LineWalk<'_>,
-    diagnostic: &Diagnostic,
+    remark: Remark<'_>,
 ) -> Result<(), AllocError>
-    ensures told { OnOk result (out.new.items ≡ out.old.items ++ told_text form (told_of file.now walk.old.0 (diagnostic_seen diagnostic.now))) }
+    ensures told { OnOk result (out.new.items ≡ out.old.items ++ told_text form (told_of file.now walk.old.0 (remark_seen remark.entry))) }
     ensures text { walk.new.0 ≡ walk.old.0 }
 {
-    walk.go_to(diagnostic.range.start.line);
-    push_on_line(alloc, out, form, file, walk.line(), diagnostic)
+    walk.go_to(remark.range().start.line);
+    push_on_line(alloc, out, form, file, walk.line(), remark)
 }
 
-/// What is told of the diagnostics of a text, one after another.
+/// What is told of the faults and hints of a text, one after another.
 ///
 /// # Errors
 /// Out of memory.
@@ -73,31 +72,31 @@ pub(crate) fn told_of_all(
     form: Form,
     file: &str,
     text: &[u8],
-    diagnostics: &[Diagnostic],
+    remarks: &[Remark<'_>],
 ) -> Result<Vec<u8>, AllocError>
-    ensures { IfOk result (λ told. told.items ≡ spec.told_of_all form file.now text.now (map diagnostic_seen diagnostics.now)) }
+    ensures { IfOk result (λ told. told.items ≡ spec.told_of_all form file.now text.now (map remark_seen remarks.now)) }
 {
     let mut told = Vec::new(alloc);
     let mut walk = LineWalk::new(text);
-    for diagnostic in diagnostics {
-        push_diagnostic(alloc, &mut told, form, file, &mut walk, diagnostic)?;
+    for remark in remarks {
+        push_remark(alloc, &mut told, form, file, &mut walk, *remark)?;
     }
     Ok(told)
 }
 
-/// How bad each diagnostic is.
+/// How bad each fault and each hint is.
 ///
 /// # Errors
 /// Out of memory.
 pub(crate) fn severities_of(
     alloc: Global,
-    diagnostics: &[Diagnostic],
+    remarks: &[Remark<'_>],
 ) -> Result<Vec<Severity>, AllocError>
-    ensures { IfOk result (λ severities. severities.items ≡ spec.severities_of (map diagnostic_seen diagnostics.now)) }
+    ensures { IfOk result (λ severities. severities.items ≡ spec.severities_of (map remark_seen remarks.now)) }
 {
-    let mut severities = Vec::with_capacity(alloc, diagnostics.len())?;
-    for diagnostic in diagnostics {
-        severities.push(diagnostic.problem.severity())?;
+    let mut severities = Vec::with_capacity(alloc, remarks.len())?;
+    for remark in remarks {
+        severities.push(remark.severity())?;
     }
     Ok(severities)
 }

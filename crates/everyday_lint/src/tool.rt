@@ -1,17 +1,20 @@
 //! What comes of files, and of standard input.
-ghost use Rattle.std.specs.Prelude.{IfOk, OnErr, map};
+ghost use Rattle.std.specs.Prelude.{◌≡◌, IfOk, OnErr, map};
 ghost use Rattle.std.specs.String.{string_bytes};
 ghost use Rattle.everyday_fmt.specs.Fates.{held};
 ghost use Rattle.everyday_lint.specs.Fates.{StopsAmong};
 ghost use Rattle.everyday_lint.specs.Tool.{ComesOfFiles, IsOutcomeOf, IsOutcomeOfInput};
+ghost use Rattle.everyday_lint.specs.Telling.{hint_lines};
 
 use crate::checking::check_text;
 use crate::files::{Done, lint_each};
 use crate::options::{LintOptions, LintOutcome};
 use crate::report::{count_of, lines_of_files, severities_of_files, status_of, told_of_files};
+use crate::telling::told_of_all;
 use everyday_fmt::ReasonedTree;
-use everyday_forms::{has_bad, push_summary, whole};
-use lsp_document::Document;
+use everyday_forms::{Form, has_bad, push_summary, whole};
+use lsp_document::{Capabilities, Document};
+use lsp_remarks::{hints_in, remarks_of};
 use std::alloc::{AllocError, Global};
 
 // What standard input is called.
@@ -77,4 +80,23 @@ pub fn lint_input(
         errors,
         status,
     })
+}
+
+/// The hints on a source, by which capabilities it may have, each as a line of compilers:
+/// `FILE:LINE:COLUMN: note: SENTENCE [N3 SaidTwice]`.
+///
+/// # Errors
+/// Out of memory.
+pub fn hint_lines(
+    alloc: Global,
+    capabilities: Capabilities,
+    file: &str,
+    source: Vec<u8>,
+) -> Result<Vec<u8>, AllocError>
+    ensures { IfOk result (λ lines. lines.items ≡ hint_lines capabilities file.now source.items) }
+{
+    let document = Document::open(alloc, source)?;
+    let hints = hints_in(alloc, capabilities, &document, &mut Vec::new(alloc))?;
+    let all = remarks_of(alloc, &[], &hints)?;
+    told_of_all(alloc, Form::Lines, file, document.text(), &all)
 }

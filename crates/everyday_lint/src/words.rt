@@ -1,11 +1,14 @@
-//! The words of a diagnostic in each form.
+//! The words of a fault or a hint in each form.
 ghost use Rattle.std.specs.Prelude.{◌≡◌, IfOk};
 ghost use Rattle.std.specs.String.{string_bytes};
 ghost use Rattle.ti_source.specs.Code.{code_text};
+ghost use Rattle.lsp_remarks.specs.Remarks.{remark_seen};
 ghost use Rattle.everyday_lint.specs.Words as spec;
 ghost use Rattle.everyday_lint.specs.Words.{skipped};
 
 use lsp_document::Problem;
+use lsp_hints::HintKind;
+use lsp_remarks::Remark;
 use std::alloc::{AllocError, Global};
 use ti_source::Code;
 
@@ -23,8 +26,8 @@ fn code_title(alloc: Global, code: Code) -> Result<String, AllocError>
 ///
 /// # Errors
 /// Out of memory.
-pub(crate) fn title_of(alloc: Global, problem: Problem) -> Result<String, AllocError>
-    ensures { IfOk result (λ title. string_bytes title ≡ spec.title_of problem) }
+pub(crate) fn problem_title(alloc: Global, problem: Problem) -> Result<String, AllocError>
+    ensures { IfOk result (λ title. string_bytes title ≡ spec.problem_title problem) }
 {
     match problem {
         Problem::Fault(code) => code_title(alloc, code),
@@ -34,14 +37,47 @@ pub(crate) fn title_of(alloc: Global, problem: Problem) -> Result<String, AllocE
     }
 }
 
+// The code of a hint with its name.
+fn hint_title(alloc: Global, kind: HintKind) -> Result<String, AllocError>
+    ensures { IfOk result (λ title. string_bytes title ≡ spec.hint_title kind) }
+{
+    let mut title = String::from_str(alloc, kind.label())?;
+    title.push(' ')?;
+    title.push_str(kind.name())?;
+    Ok(title)
+}
+
+/// The code of a fault or a hint with its name.
+///
+/// # Errors
+/// Out of memory.
+pub(crate) fn title_of(alloc: Global, remark: Remark<'_>) -> Result<String, AllocError>
+    ensures { IfOk result (λ title. string_bytes title ≡ spec.title_of (remark_seen remark.entry)) }
+{
+    match remark {
+        Remark::Fault(fault) => problem_title(alloc, fault.problem),
+        Remark::Hint(hint) => hint_title(alloc, hint.kind),
+    }
+}
+
 // The name with which the message of a problem begins.
-fn name_of(problem: Problem) -> &'static str
-    ensures { result.now ≡ spec.name_of problem }
+fn problem_name(problem: Problem) -> &'static str
+    ensures { result.now ≡ spec.problem_name problem }
 {
     match problem {
         Problem::Fault(code) => code.name(),
         Problem::BadUserDefined => "BadUserDefined",
         Problem::BlockTooLong | Problem::TooManyBlocks => "",
+    }
+}
+
+// The name with which the message of a fault or a hint begins.
+fn name_of(remark: Remark<'_>) -> &'static str
+    ensures { result.now ≡ spec.name_of (remark_seen remark.entry) }
+{
+    match remark {
+        Remark::Fault(fault) => problem_name(fault.problem),
+        Remark::Hint(hint) => hint.kind.name(),
     }
 }
 
@@ -56,10 +92,10 @@ fn skipped<'a>(part: &[u8], text: &'a [u8]) -> &'a [u8]
 }
 
 /// What a message says beside the title: without the name.
-pub(crate) fn sentence_of(problem: Problem, message: &str) -> &[u8]
-    ensures { result.now ≡ spec.sentence_of problem message.now }
+pub(crate) fn sentence_of<'a>(remark: Remark<'_>, message: &'a str) -> &'a [u8]
+    ensures { result.now ≡ spec.sentence_of (remark_seen remark.entry) message.now }
 {
-    let rest = skipped(name_of(problem).as_bytes(), message.as_bytes());
+    let rest = skipped(name_of(remark).as_bytes(), message.as_bytes());
     skipped(b" ", skipped(b": ", rest))
 }
 

@@ -4,14 +4,17 @@
 //! - `words`: the text that an editor shows of a row
 //! - `user_rows`: a row for each user-defined capability that is known, and keys with modifiers
 //! - `user_words`: the text that an editor shows of these
+//! - `known_names`: whether a user-defined name is known
 #![tactic(auto)]
 
 mod descriptions;
+mod known_names;
 pub mod laws;
 mod user_rows;
 mod user_words;
 mod words;
 
 pub use descriptions::{Description, description_of};
+pub use known_names::is_known;
 pub use user_words::{UserDescription, user_description, user_descriptions};
 pub use words::{detail_of, documentation_of};

@@ -1,5 +1,5 @@
--- Which diagnostics of a document a fix resolves (own; Language Server Protocol 3.17, "CodeAction"):
--- that of the fault which it mends.
+-- Which diagnostics of a document a fix resolves (own; Language Server Protocol 3.17,
+-- "CodeAction"): that of the fault which it fixes.
 use Rattle.std.specs.Prelude.{ℕ, ◌==◌, ◌&&◌, Bool, false, true, List, filter, Option, option_and_then, option_map}
 use Rattle.std.specs.Option.{option_map_or}
 use Rattle.ti_source.specs.declared.code.Code.TheVariants as code
@@ -44,8 +44,8 @@ item_start text place = option_and_then (item_start_at (held text)) (spot_at tex
 abbrev pub is_same_place : Position → Position → Bool
 is_same_place one other = one.line == other.line && one.column == other.column
 
--- whether a diagnostic is of the fault that a fix of an item mends which begins there: it is shown
--- from the start of the item on, and of a problem that the advice is against
+-- whether a diagnostic is of the fault that a fix of an item resolves which begins there: it is
+-- shown from the start of the item on, and of a problem that the advice is against
 abbrev pub is_of_fault : Option Position → AdviceSeen → Shown → Bool
 is_of_fault start advice shown = option_map_or (is_same_place shown.range.start) start false && is_against advice shown.problem
 

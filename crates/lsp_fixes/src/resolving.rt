@@ -69,7 +69,7 @@ fn is_same_place(one: Position, other: Position) -> bool
     one.line == other.line && one.column == other.column
 }
 
-// Whether a diagnostic is of the fault that a fix of an item mends which begins there.
+// Whether a diagnostic is of the fault that a fix of an item resolves which begins there.
 fn is_of_fault(start: Option<Position>, advice: &Advice, shown: &Diagnostic) -> bool
     ensures { result ≡ is_of_fault start (advice_seen advice.now) (diagnostic_seen shown.now) }
 {
@@ -81,7 +81,8 @@ fn is_of_fault(start: Option<Position>, advice: &Advice, shown: &Diagnostic) -> 
     }
 }
 
-// Those of some diagnostics that are of the fault that a fix of an item mends which begins there.
+// Those of some diagnostics that are of the fault that a fix of an item resolves which begins
+// there.
 fn of_fault<'a>(
     alloc: Global,
     start: Option<Position>,
@@ -101,7 +102,7 @@ fn of_fault<'a>(
 }
 
 /// Those of some diagnostics that a fix of a document resolves: of the diagnostics of the document
-/// that of the fault which the fix mends.
+/// that of the fault which it fixes.
 ///
 /// # Errors
 /// Out of memory.

@@ -2,14 +2,13 @@
 use Rattle.std.proofs.Common.{ℕ, zero, suc, ◌≡◌, ◌≢◌, ◌+◌, ◌-◌, ◌<◌, ◌≤◌, ◌⊎◌, List, [], ◌∷◌, ◌++◌, All, Option, None, Some, length, drop}
 use Rattle.std.proofs.Common.{refl, ap, sym, ◌∙◌, append_assoc, append-nil, subst, arith, inl, inr, length-append}
 use Rattle.std.proofs.lemmas.List.Elements.{All-append, All-cons, All-nil}
-use Rattle.tools_devices.proofs.Written.{Gives-none, Gives-then}
-use Rattle.tools_devices.specs.Counted.{Observed}
-use Rattle.tools_devices.specs.Reading.{Gives}
 use Rattle.lsp_frames.proofs.NoFrame.{bad_line, header_without_length, long_header, open_body, open_header, open_lines}
 use Rattle.lsp_frames.proofs.Transferred.{RunsDry-then}
-use Rattle.lsp_frames.specs.Frames.{BeginsNoFrame, HasNoNewline, IsHeader, IsHeaderLine, IsLengthLine, IsOneFrameAtMost, ReadsFrame}
+use Rattle.lsp_frames.proofs.Used.{Gives-none, Gives-then}
+use Rattle.lsp_frames.specs.Frames.{BeginsNoFrame, HasNoNewline, IsHeader, IsHeaderLine, IsLengthLine, IsOneFrameAtMost}
 use Rattle.lsp_frames.specs.Frames.{header_bytes_max, line_end, lines_text, number_of}
-use Rattle.lsp_frames.specs.Transfers.{ReadingStops}
+use Rattle.lsp_frames.specs.Inputs.{Gives, InputSeen}
+use Rattle.lsp_frames.specs.Transfers.{GivesBody, ReadingStops}
 use Rattle.lsp_frames.specs.declared.frames.FrameError.{FrameError}
 use Rattle.lsp_frames.specs.declared.frames.FrameError.TheVariants.{Memory, Broken}
 use Rattle.lsp_frames.specs.inside.Headers.{FirstLength, HeaderSoFar, IsNoNumber}
@@ -49,7 +48,7 @@ FirstLength-kept lines line value h = record {
 }
 
 -- no line has come
-pub HeaderSoFar-none : (given : Observed) → HeaderSoFar given given None header_bytes_max
+pub HeaderSoFar-none : (given : InputSeen) → HeaderSoFar given given None header_bytes_max
 HeaderSoFar-none given = record {
   lines = [];
   read = Gives-none given;
@@ -62,7 +61,7 @@ nil_of : (line : List ℕ) → length line ≡ 0 → line ≡ []
 nil_of [] h = refl
 nil_of (byte ∷ line) h = absurd (omega arith)
 
-module _ (given mid left : Observed) (value : Option (List ℕ)) (room : ℕ) (h : HeaderSoFar given mid value room) where
+module _ (given mid left : InputSeen) (value : Option (List ℕ)) (room : ℕ) (h : HeaderSoFar given mid value room) where
   -- a line was read
   module _ (line : List ℕ) (read : Gives mid left (line ++ line_end)) (one : HasNoNewline line) (short : length line + 2 ≤ room) where
     read-line : Gives given left (lines_text (h.lines ++ line ∷ []))
@@ -121,21 +120,21 @@ module _ (given mid left : Observed) (value : Option (List ℕ)) (room : ℕ) (h
     ReadingStops-ended fault empty why =
         let all = read-end empty in
         subst (λ (f : FrameError). ReadingStops given left f) (sym why.0)
-        (lines_text h.lines ++ line_end, all.bytes, inr (header_without_length h.lines value h.each h.first why.1, all.failures))
+        (lines_text h.lines ++ line_end, all.uses, inr (header_without_length h.lines value h.each h.first why.1, all.failures))
 
   -- no line was read
   stopped : LineRunsDry mid left ⊎ LineIsLong room mid left ⊎ LineHasNoReturn mid left → ReadingStops given left Broken
   stopped (inl dry) =
       let all = RunsDry-then given mid left (lines_text h.lines) dry.taken h.read dry.dry in
-      (lines_text h.lines ++ dry.taken, all.bytes, inl (open_header h.lines dry.taken h.each dry.open_line, all.cause))
+      (lines_text h.lines ++ dry.taken, all.uses, inl (open_header h.lines dry.taken h.each dry.open_line, all.cause))
   stopped (inr (inl long)) =
       let all = Gives-then given mid left (lines_text h.lines) long.taken h.read long.gives in
       let enough : header_bytes_max ≤ length (lines_text h.lines ++ long.taken) =
       omega (arith, length-append (lines_text h.lines) long.taken, h.room_is, long.long) in
-      (lines_text h.lines ++ long.taken, all.bytes, inr (long_header h.lines long.taken h.each long.open_line enough, all.failures))
+      (lines_text h.lines ++ long.taken, all.uses, inr (long_header h.lines long.taken h.each long.open_line enough, all.failures))
   stopped (inr (inr bad)) =
       let all = Gives-then given mid left (lines_text h.lines) (bad.line ++ 10 ∷ []) h.read bad.gives in
-      (lines_text h.lines ++ (bad.line ++ 10 ∷ []), all.bytes, inr (bad_line h.lines bad.line h.each bad.one bad.no_return, all.failures))
+      (lines_text h.lines ++ (bad.line ++ 10 ∷ []), all.uses, inr (bad_line h.lines bad.line h.each bad.one bad.no_return, all.failures))
 
   pub ReadingStops-in_line : (fault : FrameError) → LineStops room mid left fault → ReadingStops given left fault
   ReadingStops-in_line Memory why =
@@ -143,13 +142,13 @@ module _ (given mid left : Observed) (value : Option (List ℕ)) (room : ℕ) (h
   ReadingStops-in_line Broken why = stopped why
 
 -- there is no room for one more line
-pub ReadingStops-full : (given left : Observed) (value : Option (List ℕ)) (room : ℕ) → HeaderSoFar given left value room → room ≤ 0
+pub ReadingStops-full : (given left : InputSeen) (value : Option (List ℕ)) (room : ℕ) → HeaderSoFar given left value room → room ≤ 0
     → ReadingStops given left Broken
 ReadingStops-full given left value room h none =
     let whole = append-nil (lines_text h.lines) in
     let long : header_bytes_max ≤ length (lines_text h.lines ++ []) = omega (arith, ap length whole, h.room_is) in
     let none_begins = long_header h.lines [] h.each (All-nil (λ byte. byte ≢ 10)) long in
-    (lines_text h.lines, h.read.bytes, inr (subst BeginsNoFrame whole none_begins, h.read.failures))
+    (lines_text h.lines, h.read.uses, inr (subst BeginsNoFrame whole none_begins, h.read.failures))
 
 -- ---- frames
 
@@ -159,14 +158,14 @@ le_split zero (suc m) h = inl (omega arith)
 le_split (suc n) zero h = absurd (omega arith)
 le_split (suc n) (suc m) h = elim (le_split n m (omega arith)) [ inl low ↦ inl (omega arith) | inr same ↦ inr (ap suc same) ]
 
-module _ (given mid left : Observed) (header : List ℕ) (len : ℕ) (h : IsHeader header len) (read : Gives given mid header) where
+module _ (given mid left : InputSeen) (header : List ℕ) (len : ℕ) (h : IsHeader header len) (read : Gives given mid header) where
   -- a header and a body of the announced length
-  pub ReadsFrame-of : (body : List ℕ) → Gives mid left body → length body ≡ len → ReadsFrame given.bytes left.bytes body × (left.failures ≡ given.failures)
-  ReadsFrame-of body second same =
-      let all = Gives-then given mid left header body read second in (
-        record { header = header; announces = subst (λ (n : ℕ). IsHeader header n) (sym same) h; read = all.bytes },
-        all.failures,
-      )
+  pub GivesBody-of : (body : List ℕ) → Gives mid left body → length body ≡ len → GivesBody given left body
+  GivesBody-of body second same = record {
+    header = header;
+    announces = subst (λ (n : ℕ). IsHeader header n) (sym same) h;
+    read = Gives-then given mid left header body read second;
+  }
 
   one_at_most : (part : List ℕ) → (length part < len) ⊎ (length part ≡ len) → IsOneFrameAtMost (header ++ part)
   one_at_most part (inl low) = inl (open_body header part len h low)
@@ -179,4 +178,4 @@ module _ (given mid left : Observed) (header : List ℕ) (len : ℕ) (h : IsHead
       (header ++ why.0, Gives-then given mid left header why.0 read why.1, one_at_most why.0 (le_split (length why.0) len why.2))
   ReadingStops-in_body Broken why =
       let all = RunsDry-then given mid left header why.0 read why.1 in
-      (header ++ why.0, all.bytes, inl (open_body header why.0 len h why.2, all.cause))
+      (header ++ why.0, all.uses, inl (open_body header why.0 len h why.2, all.cause))

@@ -2,19 +2,19 @@
 use Rattle.std.proofs.Common.{ℕ, ◌≡◌, ◌≢◌, ◌+◌, ◌<◌, ◌≤◌, List, [], ◌∷◌, ◌++◌, length}
 use Rattle.std.proofs.Common.{ap, sym, ◌∙◌, append_assoc, subst, arith, inl, inr, length-append}
 use Rattle.std.proofs.lemmas.List.Elements.{All-cons, All-head, All-nil, All-push, All-tail}
-use Rattle.tools_devices.proofs.Written.{Gives-none, Gives-then}
-use Rattle.tools_devices.specs.Counted.{Observed}
-use Rattle.tools_devices.specs.Reading.{Gives}
 use Rattle.lsp_frames.proofs.Transferred.{Gives-onto, RunsDry-here, RunsDry-then}
+use Rattle.lsp_frames.proofs.Used.{Gives-none, Gives-then}
 use Rattle.lsp_frames.specs.Frames.{HasNoNewline, line_end}
+use Rattle.lsp_frames.specs.Inputs.{Gives, InputSeen}
 use Rattle.lsp_frames.specs.declared.frames.FrameError.{FrameError}
 use Rattle.lsp_frames.specs.declared.frames.FrameError.TheVariants.{Memory, Broken}
-use Rattle.lsp_frames.specs.inside.Parts.{BodyStops, HasNoReturn, LineHasNoReturn, LineIsLong, LineRunsDry, LineStops, StopsAtOnce}
+use Rattle.lsp_frames.specs.Reads.{StopsAtOnce}
+use Rattle.lsp_frames.specs.inside.Parts.{BodyStops, HasNoReturn, LineHasNoReturn, LineIsLong, LineRunsDry, LineStops}
 
 -- ---- lines
 
 -- no byte has come
-pub line_none : (given : Observed) (line : List ℕ) → line ≡ [] → Gives given given line × HasNoNewline line
+pub line_none : (given : InputSeen) (line : List ℕ) → line ≡ [] → Gives given given line × HasNoNewline line
 line_none given line is = (subst (λ (t : List ℕ). Gives given given t) (sym is) (Gives-none given), subst HasNoNewline (sym is) (All-nil (λ byte. byte ≢ 10)))
 
 -- the front of bytes without LF has none
@@ -27,7 +27,7 @@ no_newline-front (x ∷ a) b h =
 pub line_rest : (line rest : List ℕ) → HasNoNewline line → line ≡ rest ++ 13 ∷ [] → HasNoNewline rest
 line_rest line rest h is = no_newline-front rest (13 ∷ []) (subst HasNoNewline is h)
 
-module _ (given mid left : Observed) (line : List ℕ) (read : Gives given mid line) (one : HasNoNewline line) where
+module _ (given mid left : InputSeen) (line : List ℕ) (read : Gives given mid line) (one : HasNoNewline line) where
   -- one more byte came, which is no LF
   pub line_more : (byte : ℕ) (whole : List ℕ) → Gives mid left (byte ∷ []) → byte ≢ 10 → whole ≡ line ++ byte ∷ [] → Gives given left whole × HasNoNewline whole
   line_more byte whole came other is = (
@@ -61,7 +61,7 @@ module _ (given mid left : Observed) (line : List ℕ) (read : Gives given mid l
       subst (λ (f : FrameError). LineStops room given left f) (sym why.0) (inr (inr bad))
 
 -- there is no room for one more byte
-pub line_long : (given left : Observed) (room : ℕ) (line : List ℕ) → Gives given left line → HasNoNewline line → room ≤ length line
+pub line_long : (given left : InputSeen) (room : ℕ) (line : List ℕ) → Gives given left line → HasNoNewline line → room ≤ length line
     → LineStops room given left Broken
 line_long given left room line read one long =
     let found : LineIsLong room given left = record { taken = line; gives = read; open_line = one; long = long } in
@@ -70,10 +70,10 @@ line_long given left room line read one long =
 -- ---- bodies
 
 -- no byte has come
-pub body_none : (given : Observed) (body : List ℕ) (len : ℕ) → body ≡ [] → Gives given given body × (length body ≤ len)
+pub body_none : (given : InputSeen) (body : List ℕ) (len : ℕ) → body ≡ [] → Gives given given body × (length body ≤ len)
 body_none given body len is = (subst (λ (t : List ℕ). Gives given given t) (sym is) (Gives-none given), omega (arith, ap length is))
 
-module _ (given mid left : Observed) (body : List ℕ) (len : ℕ) (read : Gives given mid body) where
+module _ (given mid left : InputSeen) (body : List ℕ) (len : ℕ) (read : Gives given mid body) where
   -- a piece was not read
   pub body_stops : (room : ℕ) (fault : FrameError) → BodyStops room mid left fault → length body + room ≤ len → BodyStops len given left fault
   body_stops room Memory why low = (body ++ why.0, Gives-then given mid left body why.0 read why.1, omega (arith, length-append body why.0, why.2))

@@ -2,12 +2,13 @@
 use Rattle.std.proofs.Common.{ℕ, zero, suc, ◌≡◌, ◌+◌, ◌<◌, ◌≤◌, List, [], ◌∷◌, ◌++◌, Option, None, Some, length, take, get_or}
 use Rattle.std.proofs.Common.{refl, ap, sym, ◌∙◌, append-nil, subst, arith, inl, inr}
 use Rattle.std.specs.Io.KnownBytes.{Appends, Consumes, Keeps}
-use Rattle.tools_devices.proofs.Written.{Appends-then, Consumes-then, Gives-then}
+use Rattle.tools_devices.proofs.Written.{Appends-then}
 use Rattle.tools_devices.specs.Counted.{Observed}
-use Rattle.tools_devices.specs.Reading.{Gives}
 use Rattle.tools_devices.specs.Writing.{TakesAll, TakesFront}
+use Rattle.lsp_frames.proofs.Used.{Gives-then, Uses-then}
+use Rattle.lsp_frames.specs.Inputs.{Gives, InputSeen}
 use Rattle.lsp_frames.specs.Transfers.{GivesNoMore}
-use Rattle.lsp_frames.specs.inside.Parts.{RunsDry}
+use Rattle.lsp_frames.specs.Reads.{RunsDry}
 
 -- known bytes that stay are consumed by none
 pub Consumes-keeps : (u v : Option (List ℕ)) → Keeps u v → Consumes u v []
@@ -22,22 +23,22 @@ Appends-keeps (Some xs) None h = absurd h
 Appends-keeps (Some xs) (Some ys) h = h ∙ sym (append-nil xs)
 
 -- the reader gave no more, counted from before
-pub GivesNoMore-then : (given mid left : Observed) (taken : List ℕ) → Gives given mid taken → GivesNoMore mid left → GivesNoMore given left
+pub GivesNoMore-then : (given mid left : InputSeen) (taken : List ℕ) → Gives given mid taken → GivesNoMore mid left → GivesNoMore given left
 GivesNoMore-then given mid left taken gives (inl failed) = inl (failed ∙ ap (λ (n : ℕ). n + 1) gives.failures)
 GivesNoMore-then given mid left taken gives (inr ended) = inr (ended.0 ∙ gives.failures, ended.1)
 
-pub RunsDry-then : (given mid left : Observed) (a b : List ℕ) → Gives given mid a → RunsDry mid left b → RunsDry given left (a ++ b)
+pub RunsDry-then : (given mid left : InputSeen) (a b : List ℕ) → Gives given mid a → RunsDry mid left b → RunsDry given left (a ++ b)
 RunsDry-then given mid left a b gives dry = record {
-  bytes = Consumes-then given.bytes mid.bytes left.bytes a b gives.bytes dry.bytes;
+  uses = Uses-then given mid left a b gives.uses dry.uses;
   cause = GivesNoMore-then given mid left a gives dry.cause;
 }
 
 -- the same after bytes that are all that were given
-pub RunsDry-here : (given mid left : Observed) (a : List ℕ) → Gives given mid a → RunsDry mid left [] → RunsDry given left a
+pub RunsDry-here : (given mid left : InputSeen) (a : List ℕ) → Gives given mid a → RunsDry mid left [] → RunsDry given left a
 RunsDry-here given mid left a gives dry = subst (λ (t : List ℕ). RunsDry given left t) (append-nil a) (RunsDry-then given mid left a [] gives dry)
 
 -- what was read after other bytes, put after them
-pub Gives-onto : (given mid left : Observed) (a b whole : List ℕ) → Gives given mid a → Gives mid left b → whole ≡ a ++ b → Gives given left whole
+pub Gives-onto : (given mid left : InputSeen) (a b whole : List ℕ) → Gives given mid a → Gives mid left b → whole ≡ a ++ b → Gives given left whole
 Gives-onto given mid left a b whole first second is =
     subst (λ (t : List ℕ). Gives given left t) (sym is) (Gives-then given mid left a b first second)
 

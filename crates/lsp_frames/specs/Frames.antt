@@ -1,5 +1,5 @@
 -- Frames: a header, an empty line, and the body (LSP 3.17, "Base Protocol").
-use Rattle.std.specs.Prelude.{ℕ, ◌≡◌, ◌≢◌, ◌+◌, ◌*◌, ◌-◌, ◌^◌, ◌<◌, ◌≤◌, ◌==◌, ◌&&◌, ◌||◌, List, [], ◌∷◌, ◌++◌, All, Bool, true, Option, None, Some, length}
+use Rattle.std.specs.Prelude.{ℕ, ◌≡◌, ◌≢◌, ◌+◌, ◌*◌, ◌-◌, ◌^◌, ◌<◌, ◌≤◌, ◌==◌, ◌&&◌, ◌||◌, List, [], ◌∷◌, ◌++◌, All, Bool, false, true, Option, None, Some, length}
 use Rattle.std.specs.Prelude.{take, drop, map, codes, decimal, nat_lt, nat_le, if◌then◌else◌, ◌⊎◌}
 use Rattle.std.specs.Io.KnownBytes.{Consumes}
 use Rattle.std.specs.Char.{to_ascii_lowercase}
@@ -113,6 +113,19 @@ frame_view TooLong = None
 -- no frame is at the front of these bytes
 abbrev pub HasNoFrame : List ℕ → Type 0
 HasNoFrame bytes = (header body rest : List ℕ) → IsHeader header (length body) → bytes ≢ (header ++ body) ++ rest
+
+-- a frame is at the front of these bytes
+pub record HasFrame (bytes : List ℕ) : Type 0 where
+  pub header : List ℕ
+  pub body : List ℕ
+  pub rest : List ℕ
+  pub announces : IsHeader header (length body)
+  pub whole : bytes ≡ (header ++ body) ++ rest
+
+-- whether a whole frame is at the front of these bytes
+abbrev pub Waits : List ℕ → Bool → Type 0
+Waits bytes true = HasFrame bytes
+Waits bytes false = HasNoFrame bytes
 
 -- no frame begins with these bytes, whatever follows them
 abbrev pub BeginsNoFrame : List ℕ → Type 0

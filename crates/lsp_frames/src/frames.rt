@@ -1,16 +1,18 @@
 //! Frames: a header that announces how long the body is, and the body ("Base Protocol").
 ghost use Rattle.std.specs.Prelude.{◌≡◌, ◌+◌, ◌<◌, ◌≤◌, ◌++◌, ◌∷◌, [], ℕ, List, IfErr, IfOk, MatchOption, OnOk, Some, drop, length, option_map};
 ghost use Rattle.tools_devices.specs.Counted.{observation};
-ghost use Rattle.tools_devices.specs.Reading.{Gives};
 ghost use Rattle.tools_devices.specs.Writing.{TakesAll, TakesFront};
-ghost use Rattle.lsp_frames.specs.Frames.{HasNoNewline, IsHeader, IsLengthLine, are_blank, digits_number, framed, line_end, number_of};
+ghost use Rattle.lsp_frames.specs.Frames.{HasNoNewline, IsHeader, IsLengthLine, Waits, are_blank, digits_number, framed, line_end, number_of};
+ghost use Rattle.lsp_frames.specs.Inputs.{Gives};
 ghost use Rattle.lsp_frames.specs.Transfers.{GivesFrame, ReadingStops, WritingEnds};
 ghost use Rattle.lsp_frames.specs.declared.frames.FrameError.TheVariants.{Broken};
 ghost use Rattle.lsp_frames.specs.inside.Headers.{FirstLength, IsNoNumber};
-ghost use Rattle.lsp_frames.specs.inside.Parts.{BodyStops, HasNoReturn, LineStops, ReadsSome, StopsAtOnce};
+ghost use Rattle.lsp_frames.specs.Reads.{ReadsSome, StopsAtOnce};
+ghost use Rattle.lsp_frames.specs.inside.Parts.{BodyStops, HasNoReturn, LineStops};
 
+use crate::input::{Held, Input};
 use std::alloc::{AllocError, Global};
-use std::io::{Read, Write};
+use std::io::Write;
 use tools_devices::{Counted, write_out};
 
 /// The most bytes of a header, with the empty line.
@@ -53,28 +55,13 @@ impl From<AllocError> for FrameError {
     }
 }
 
-// Reads some bytes into the front of a piece that has room. The answer is how many came.
-fn read_some<R: Read>(reader: &mut Counted<R>, piece: &mut [u8]) -> Result<usize, FrameError>
-    requires { 0 < length piece.old }
-    ensures read { IfOk result (ReadsSome (observation R.remaining reader.old) (observation R.remaining reader.new) piece.new) }
-    ensures stops { IfErr result (StopsAtOnce (observation R.remaining reader.old) (observation R.remaining reader.new)) }
-{
-    let Ok(count) = reader.read(piece) else {
-        return Err(FrameError::Broken);
-    };
-    if count == 0 {
-        return Err(FrameError::Broken);
-    }
-    Ok(count)
-}
-
 // The next byte.
-fn read_byte<R: Read>(reader: &mut Counted<R>) -> Result<u8, FrameError>
-    ensures read { IfOk result (λ byte. Gives (observation R.remaining reader.old) (observation R.remaining reader.new) (byte ∷ [])) }
-    ensures stops { IfErr result (StopsAtOnce (observation R.remaining reader.old) (observation R.remaining reader.new)) }
+fn read_byte<I: Input>(input: &mut I) -> Result<u8, FrameError>
+    ensures read { IfOk result (λ byte. Gives (I.seen input.old) (I.seen input.new) (byte ∷ [])) }
+    ensures stops { IfErr result (StopsAtOnce (I.seen input.old) (I.seen input.new)) }
 {
     let mut piece = [0_u8];
-    let _count = read_some(reader, &mut piece)?;
+    let _count = input.read_some(&mut piece)?;
     Ok(piece[0])
 }
 
@@ -97,20 +84,16 @@ fn without_return(mut line: Vec<u8>) -> Result<Vec<u8>, FrameError>
 }
 
 // Reads a line of a header, without its end, which is counted in the room.
-fn read_line<R: Read>(
-    alloc: Global,
-    reader: &mut Counted<R>,
-    room: usize,
-) -> Result<Vec<u8>, FrameError>
-    ensures read { IfOk result (λ line. Gives (observation R.remaining reader.old) (observation R.remaining reader.new)
+fn read_line<I: Input>(alloc: Global, input: &mut I, room: usize) -> Result<Vec<u8>, FrameError>
+    ensures read { IfOk result (λ line. Gives (I.seen input.old) (I.seen input.new)
         (line.items ++ line_end)) }
     ensures line { IfOk result (λ line. HasNoNewline line.items) }
     ensures short { IfOk result (λ line. length line.items + 2 ≤ room) }
-    ensures stops { IfErr result (LineStops room (observation R.remaining reader.old) (observation R.remaining reader.new)) }
+    ensures stops { IfErr result (LineStops room (I.seen input.old) (I.seen input.new)) }
 {
     let mut line = Vec::new(alloc);
     while line.len() < room {
-        let byte = read_byte(reader)?;
+        let byte = read_byte(input)?;
         if byte == b'\n' {
             return without_return(line);
         }
@@ -215,15 +198,15 @@ fn announced(value: Option<Vec<u8>>) -> Result<u64, FrameError>
 }
 
 // Reads a header. The answer is the length that it announces.
-fn read_header<R: Read>(alloc: Global, reader: &mut Counted<R>) -> Result<u64, FrameError>
+fn read_header<I: Input>(alloc: Global, input: &mut I) -> Result<u64, FrameError>
     ensures read { IfOk result (λ len. (header : List ℕ) × IsHeader header len
-        × Gives (observation R.remaining reader.old) (observation R.remaining reader.new) header) }
-    ensures stops { IfErr result (ReadingStops (observation R.remaining reader.old) (observation R.remaining reader.new)) }
+        × Gives (I.seen input.old) (I.seen input.new) header) }
+    ensures stops { IfErr result (ReadingStops (I.seen input.old) (I.seen input.new)) }
 {
     let mut room = HEADER_BYTES_MAX;
     let mut value = None;
     while room > 0 {
-        let line = read_line(alloc, reader, room)?;
+        let line = read_line(alloc, input, room)?;
         if line.is_empty() {
             return announced(value);
         }
@@ -235,51 +218,47 @@ fn read_header<R: Read>(alloc: Global, reader: &mut Counted<R>) -> Result<u64, F
 
 // Reads some bytes of a body, at most as many as a piece has room for, and puts them at the end of
 // what came before.
-fn read_piece<R: Read>(
-    reader: &mut Counted<R>,
+fn read_piece<I: Input>(
+    input: &mut I,
     piece: &mut [u8],
     body: &mut Vec<u8>,
 ) -> Result<(), FrameError>
     requires { 0 < length piece.old }
-    ensures read { OnOk result ((came : List ℕ) × Gives (observation R.remaining reader.old) (observation R.remaining reader.new) came
+    ensures read { OnOk result ((came : List ℕ) × Gives (I.seen input.old) (I.seen input.new) came
         × (body.new.items ≡ body.old.items ++ came) × (0 < length came) × (length came ≤ length piece.old)) }
-    ensures stops { IfErr result (BodyStops (length piece.old) (observation R.remaining reader.old) (observation R.remaining reader.new)) }
+    ensures stops { IfErr result (BodyStops (length piece.old) (I.seen input.old) (I.seen input.new)) }
 {
-    let count = read_some(reader, piece)?;
+    let count = input.read_some(piece)?;
     body.extend_from_slice(&piece[..count])?;
     Ok(())
 }
 
 // Reads a body of this length. Memory grows with what comes.
-fn read_body<R: Read>(
-    alloc: Global,
-    reader: &mut Counted<R>,
-    len: usize,
-) -> Result<Vec<u8>, FrameError>
-    ensures read { IfOk result (λ body. Gives (observation R.remaining reader.old) (observation R.remaining reader.new) body.items) }
+fn read_body<I: Input>(alloc: Global, input: &mut I, len: usize) -> Result<Vec<u8>, FrameError>
+    ensures read { IfOk result (λ body. Gives (I.seen input.old) (I.seen input.new) body.items) }
     ensures len { IfOk result (λ body. length body.items ≡ len) }
-    ensures stops { IfErr result (BodyStops len (observation R.remaining reader.old) (observation R.remaining reader.new)) }
+    ensures stops { IfErr result (BodyStops len (I.seen input.old) (I.seen input.new)) }
 {
     let mut body = Vec::new(alloc);
     let mut piece = [0_u8; PIECE_BYTES];
     while body.len() < len {
         let room = PIECE_BYTES.min(len - body.len());
-        read_piece(reader, &mut piece[..room], &mut body)?;
+        read_piece(input, &mut piece[..room], &mut body)?;
     }
     Ok(body)
 }
 
 // Reads this number of bytes, and drops them.
-fn skip_body<R: Read>(reader: &mut Counted<R>, len: u64) -> Result<(), FrameError>
+fn skip_body<I: Input>(input: &mut I, len: u64) -> Result<(), FrameError>
     ensures read { OnOk result ((bytes : List ℕ) × (length bytes ≡ len)
-        × Gives (observation R.remaining reader.old) (observation R.remaining reader.new) bytes) }
-    ensures stops { IfErr result (BodyStops len (observation R.remaining reader.old) (observation R.remaining reader.new)) }
+        × Gives (I.seen input.old) (I.seen input.new) bytes) }
+    ensures stops { IfErr result (BodyStops len (I.seen input.old) (I.seen input.new)) }
 {
     let mut left = len;
     let mut piece = [0_u8; PIECE_BYTES];
     while left > 0 {
         let room = left.min(PIECE_BYTES as u64);
-        let count = read_some(reader, &mut piece[..room as usize])?;
+        let count = input.read_some(&mut piece[..room as usize])?;
         left -= count as u64;
     }
     Ok(())
@@ -292,16 +271,31 @@ fn skip_body<R: Read>(reader: &mut Counted<R>, len: u64) -> Result<(), FrameErro
 /// # Errors
 /// `Broken` if the reader fails or ends, if a line does not end with CR LF, and if the header is
 /// longer or gives no length; then what was read has no frame. `Memory`, after at most a frame.
-pub fn read_frame<R: Read>(alloc: Global, reader: &mut Counted<R>) -> Result<Frame, FrameError>
-    ensures read { IfOk result (GivesFrame (observation R.remaining reader.old) (observation R.remaining reader.new)) }
-    ensures stops { IfErr result (ReadingStops (observation R.remaining reader.old) (observation R.remaining reader.new)) }
+pub fn read_frame<I: Input>(alloc: Global, input: &mut I) -> Result<Frame, FrameError>
+    ensures read { IfOk result (GivesFrame (I.seen input.old) (I.seen input.new)) }
+    ensures stops { IfErr result (ReadingStops (I.seen input.old) (I.seen input.new)) }
 {
-    let len = read_header(alloc, reader)?;
+    let len = read_header(alloc, input)?;
     if len > BODY_BYTES_MAX {
-        skip_body(reader, len)?;
+        skip_body(input, len)?;
         return Ok(Frame::TooLong);
     }
-    Ok(Frame::Body(read_body(alloc, reader, len as usize)?))
+    Ok(Frame::Body(read_body(alloc, input, len as usize)?))
+}
+
+/// Whether a whole frame is at the front of some bytes.
+///
+/// # Errors
+/// Out of memory.
+pub fn holds_frame(alloc: Global, bytes: &[u8]) -> Result<bool, AllocError>
+    ensures { IfOk result (Waits bytes.now) }
+{
+    let mut input = Held::new(bytes);
+    match read_header(alloc, &mut input) {
+        Ok(len) => Ok(len <= input.ahead().len() as u64),
+        Err(FrameError::Broken) => Ok(false),
+        Err(FrameError::Memory) => Err(AllocError),
+    }
 }
 
 /// The frame of a body.
@@ -317,8 +311,11 @@ pub fn make_frame(alloc: Global, body: &[u8]) -> Result<Vec<u8>, AllocError>
     Ok(bytes)
 }
 
-// Writes bytes to the end, and flushes.
-fn write_flushed<W: Write>(writer: &mut Counted<W>, bytes: &[u8]) -> Result<(), FrameError>
+/// Writes bytes to the end, and flushes.
+///
+/// # Errors
+/// `Broken` if the writer fails; it then took the bytes up to some byte.
+pub fn write_flushed<W: Write>(writer: &mut Counted<W>, bytes: &[u8]) -> Result<(), FrameError>
     ensures written { OnOk result (TakesAll (observation W.contents writer.old) (observation W.contents writer.new) bytes.now) }
     ensures cut { IfErr result (λ fault. (fault ≡ Broken)
         × TakesFront (observation W.contents writer.old) (observation W.contents writer.new) bytes.now) }

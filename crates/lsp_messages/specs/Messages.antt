@@ -262,6 +262,10 @@ settings_in options = unwrap_or (get (codes "ti") options) options
 abbrev pub user_defined_in : Data → Bool
 user_defined_in options = unwrap_or (option_and_then as_bool (get (codes "userDefined") (settings_in options))) true
 
+-- whether hints are wanted: unless `hints` is `false`
+abbrev pub hints_in : Data → Bool
+hints_in options = unwrap_or (option_and_then as_bool (get (codes "hints") (settings_in options))) true
+
 -- its options, if it has any
 abbrev pub options_of : Data → Option Data
 options_of d = do
@@ -272,21 +276,31 @@ options_of d = do
 abbrev pub wants_user_defined : Data → Bool
 wants_user_defined d = option_map_or user_defined_in (options_of d) true
 
+abbrev pub wants_hints : Data → Bool
+wants_hints d = option_map_or hints_in (options_of d) true
+
 -- ---- both
 
 -- a client that reports nothing can do none of it
-abbrev pub client_with : Bool → Option Data → Client
-client_with user_defined None = record { prepares_renames = false; takes_actions = false; nests_symbols = false; user_defined = user_defined }
-client_with user_defined (Some abilities) = record {
+abbrev pub client_with : Bool → Bool → Option Data → Client
+client_with user_defined hints None = record {
+  prepares_renames = false;
+  takes_actions = false;
+  nests_symbols = false;
+  user_defined = user_defined;
+  hints = hints;
+}
+client_with user_defined hints (Some abilities) = record {
   prepares_renames = prepares_renames abilities;
   takes_actions = takes_actions abilities;
   nests_symbols = nests_symbols abilities;
   user_defined = user_defined;
+  hints = hints;
 }
 
 -- "InitializeParams": what the client can do, and what it wants
 abbrev pub client_of : Data → Client
-client_of d = client_with (wants_user_defined d) (abilities_of d)
+client_of d = client_with (wants_user_defined d) (wants_hints d) (abilities_of d)
 
 -- ---- methods
 

@@ -2,7 +2,7 @@
 ghost use Rattle.std.specs.Prelude.{◌≡◌, false, is_some, option_map, true, unwrap_or};
 ghost use Rattle.serde_json.specs.View.{view};
 ghost use Rattle.lsp_messages.specs.Messages.{abilities_of, client_of, nests_symbols, options_of, prepares_renames, settings_in, takes_actions};
-ghost use Rattle.lsp_messages.specs.Messages.{user_defined_in, wants_user_defined};
+ghost use Rattle.lsp_messages.specs.Messages.{hints_in, user_defined_in, wants_hints, wants_user_defined};
 
 use serde_json::Value;
 
@@ -18,6 +18,9 @@ pub struct Client {
     /// Whether user-defined capabilities are no unknown ones: unless the client says
     /// `{"ti": {"userDefined": false}}`, or the inner object alone.
     pub user_defined: bool,
+    /// Whether hints are wanted beside the faults: unless the client says
+    /// `{"ti": {"hints": false}}`, or the inner object alone.
+    pub hints: bool,
 }
 
 // Whether a client that can do this with texts asks which name a rename is of before it renames.
@@ -71,6 +74,13 @@ fn user_defined_in(options: &Value) -> Option<bool>
     settings_in(options).get("userDefined")?.as_bool()
 }
 
+// Whether options say that hints are wanted, if they say it.
+fn hints_in(options: &Value) -> Option<bool>
+    ensures { unwrap_or result true ≡ hints_in (view options.now) }
+{
+    settings_in(options).get("hints")?.as_bool()
+}
+
 // The options of a client.
 fn options_of(value: &Value) -> Option<&Value>
     ensures { option_map (λ d. view d.now) result ≡ options_of (view value.now) }
@@ -88,23 +98,36 @@ fn wants_user_defined(value: &Value) -> bool
     }
 }
 
+// Whether a client wants hints.
+fn wants_hints(value: &Value) -> bool
+    ensures { result ≡ wants_hints (view value.now) }
+{
+    match options_of(value) {
+        None => true,
+        Some(options) => hints_in(options).unwrap_or(true),
+    }
+}
+
 /// What the client can do and wants that asks for the server.
 pub(crate) fn read_client(value: &Value) -> Client
     ensures { result ≡ client_of (view value.now) }
 {
     let user_defined = wants_user_defined(value);
+    let hints = wants_hints(value);
     match abilities_of(value) {
         None => Client {
             prepares_renames: false,
             takes_actions: false,
             nests_symbols: false,
             user_defined,
+            hints,
         },
         Some(abilities) => Client {
             prepares_renames: prepares_renames(abilities).unwrap_or(false),
             takes_actions: action_support(abilities).is_some(),
             nests_symbols: nests_symbols(abilities).unwrap_or(false),
             user_defined,
+            hints,
         },
     }
 }

@@ -115,6 +115,11 @@ fn step_over(text: &[u8], at: usize, place: Position) -> Position
     ensures column { result.column ≤ 2 * at + 2 }
 {
     match text {
+        // Nearly every byte. It ends no line, and needs no further test.
+        [b' '..=b'~', ..] => Position {
+            line: place.line,
+            column: place.column + 1,
+        },
         [b'\n', ..] => Position {
             line: place.line + 1,
             column: 0,

@@ -1,11 +1,12 @@
 -- No answer of the server has a float, so its text is known.
-use Rattle.std.proofs.Common.{ℕ, ◌≡◌, List, [], ◌∷◌, ◌++◌, Bool, true, false, cond, Option, None, Some, option_map, is_some, ◌||◌, refl}
+use Rattle.std.proofs.Common.{ℕ, ◌≡◌, List, [], ◌∷◌, ◌++◌, Bool, true, false, cond, not, Option, None, Some, option_map, is_some, map, ◌||◌, refl}
 use Rattle.serde_json.specs.Data.{Num, unsigned, negative, float, Data, null, boolean, number, string, array, object, Items}
 use Rattle.serde_json.specs.Find.{as_str, get}
 use Rattle.serde_json.specs.View.{items_of}
 use Rattle.serde_json.specs.Written.{has_float, items_have_float}
+use Rattle.std.specs.Option.{option_to_list}
 use Rattle.std.specs.Prelude.{codes, option_and_then}
-use Rattle.lsp_messages.specs.Messages.{Asked, initialize, shutdown, about, search, unreadable, unknown, Edit, Meaning, Query, request, notification, response, faulty}
+use Rattle.lsp_messages.specs.Messages.{Asked, initialize, shutdown, about, search, unreadable, unknown, Meaning, Query, request, notification, response, faulty}
 use Rattle.lsp_messages.specs.Messages.{Told, exited, opened, changed, closed, unreadable, nothing, id_in, id_of, message_of, meaning_by, method_meaning, request_of}
 use Rattle.lsp_messages.specs.Messages.{told_of}
 use Rattle.lsp_values.specs.Shapes.{Said, said_answer, said_refusal, action_options_data, publish_data, refusal_data, rename_options_data, reply_data}
@@ -13,12 +14,18 @@ use Rattle.lsp_types.specs.declared.failures.Failure.{Failure}
 use Rattle.lsp_types.specs.declared.failures.Failure.TheVariants.{BadParameters, NoJson, NoMethod, NoRequest, NotInitialized}
 use Rattle.lsp_server.specs.Answers.{answer_data, found_among, found_in}
 use Rattle.lsp_server.specs.Sayings.{HasNoFloats, SaidHasNoFloat, Sayings}
-use Rattle.lsp_server.specs.Steps.{Answer, ready, done, refused, answered, searched, shown, cleared, warned, Open, Places, State, answered_of, current_of, open_at, opened_for}
+use Rattle.lsp_server.specs.Steps.{Answer, ready, done, refused, answered, searched, shown, cleared, warned, Open, Places, State, answered_of, current_of, open_at}
 use Rattle.lsp_messages.specs.declared.clients.Client.{Client}
-use Rattle.lsp_server.specs.Steps.{replied, requested, requested_fresh, requested_running, shown_by_change, step, can_apply, told, told_in, with_edits}
+use Rattle.lsp_server.specs.Steps.{due_if, published, published_if, publishes_first, replied, requested, requested_fresh, requested_running, shown_due, shown_if_due}
+use Rattle.lsp_server.specs.Steps.{step, taken_value, told, told_in}
 use Rattle.lsp_server.specs.declared.phase.Phase.{Phase}
 use Rattle.lsp_server.specs.declared.phase.Phase.TheVariants.{Fresh, Running, Finished, Ended}
-use Rattle.lsp_server.specs.inside.Turns.{HasNoFloat}
+use Rattle.lsp_server.specs.inside.Turns.{HaveNoFloats}
+
+-- the value has no float
+abbrev HasNoFloat : Option Data → Type 0
+HasNoFloat None = Unit {0}
+HasNoFloat (Some value) = has_float value ≡ false
 
 -- ---- ids
 
@@ -182,16 +189,6 @@ plain_requested says documents (Running client) id asked plain h = plain_running
 plain_requested says documents Finished id asked plain h = plain_answer says (refused (Some id) NoRequest) plain h
 plain_requested says documents (Ended status) id asked plain h = plain_answer says (refused (Some id) NoRequest) plain h
 
-plain_if : (says : Sayings) (takes : Bool) (document : Open) → HasNoFloats says → IsPlain says (cond takes (Some (shown document)) None)
-plain_if says false document plain = tt
-plain_if says true document plain = plain_answer says (shown document) plain tt
-
-plain_changed : (says : Sayings) (places : Places) (version : Option ℕ) (edits : List Edit) (found : Option Open) → HasNoFloats says
-    → IsPlain says (option_and_then (shown_by_change places version edits) found)
-plain_changed says places version edits None plain = tt
-plain_changed says places version edits (Some document) plain =
-    plain_if says (can_apply edits document) (with_edits places version edits document) plain
-
 plain_closed : (says : Sayings) (uri : List ℕ) (found : Option Open) → IsPlain says (option_map (λ document. cleared uri) found)
 plain_closed says uri None = tt
 plain_closed says uri (Some document) = refl
@@ -199,8 +196,8 @@ plain_closed says uri (Some document) = refl
 plain_told : (says : Sayings) (places : Places) (client : Client) (notice : Told) (documents : List Open) → HasNoFloats says
     → IsPlain says (told places client notice documents).1
 plain_told says places client exited documents plain = tt
-plain_told says places client (opened uri version text) documents plain = plain_answer says (shown (opened_for client uri version text)) plain tt
-plain_told says places client (changed uri version edits) documents plain = plain_changed says places version edits (open_at uri documents) plain
+plain_told says places client (opened uri version text) documents plain = tt
+plain_told says places client (changed uri version edits) documents plain = tt
 plain_told says places client (closed uri) documents plain = plain_closed says uri (open_at uri documents)
 plain_told says places client (unreadable uri) documents plain = plain_answer says (warned uri) plain tt
 plain_told says places client nothing documents plain = tt
@@ -219,7 +216,44 @@ plain_step says places state (notification notice) plain h = plain_told_in says 
 plain_step says places state response plain h = tt
 plain_step says places state (faulty id) plain h = plain_answer says (refused id NoRequest) plain h
 
+-- ---- turns
+
+abbrev ArePlain : Sayings → List Answer → Type 0
+ArePlain says answers = HaveNoFloats (map (answer_data says) answers)
+
+plain_and : (says : Sayings) (one other : List Answer) → ArePlain says one → ArePlain says other → ArePlain says (one ++ other)
+plain_and says [] other first second = second
+plain_and says (answer ∷ one) other first second = (first.0, plain_and says one other first.1 second)
+
+plain_list : (says : Sayings) (answer : Option Answer) → IsPlain says answer → ArePlain says (option_to_list answer)
+plain_list says None h = tt
+plain_list says (Some answer) h = (h, tt)
+
+plain_if_due : (says : Sayings) (document : Open) (due : Bool) → HasNoFloats says → ArePlain says (cond due (shown (published document) ∷ []) [])
+plain_if_due says document false plain = tt
+plain_if_due says document true plain = (plain_answer says (shown (published document)) plain tt, tt)
+
+plain_due : (says : Sayings) (documents : List Open) → HasNoFloats says → ArePlain says (shown_due documents)
+plain_due says [] plain = tt
+plain_due says (document ∷ documents) plain =
+    plain_and says (shown_if_due document) (shown_due documents) (plain_if_due says document document.due plain) (plain_due says documents plain)
+
+plain_due_if : (says : Sayings) (state : State) (wanted : Bool) → HasNoFloats says → ArePlain says (due_if wanted state)
+plain_due_if says state true plain = plain_due says state.documents plain
+plain_due_if says state false plain = tt
+
+plain_taken : (says : Sayings) (places : Places) (state : State) (value : Option Data) → HasNoFloats says → ArePlain says (taken_value places state value).1
+plain_taken says places state None plain = (plain_answer says (refused None NoJson) plain tt, tt)
+plain_taken says places state (Some value) plain =
+    let message = message_of value in
+    let first = publishes_first message in
+    let after = step places (published_if first state) message in
+    plain_and says (due_if first state) (option_to_list after.1) (plain_due_if says state first plain)
+    (plain_list says after.1 (plain_step says places (published_if first state) message plain (plain_message value)))
+
 -- what is sent in reply to a value has no float
-pub plain_replied : (says : Sayings) (places : Places) (state : State) (value : Option Data) → HasNoFloats says → IsPlain says (replied places state value).1
-plain_replied says places state None plain = plain_answer says (refused None NoJson) plain tt
-plain_replied says places state (Some value) plain = plain_step says places state (message_of value) plain (plain_message value)
+pub plain_replied : (says : Sayings) (places : Places) (state : State) (value : Option Data) (waits : Bool) → HasNoFloats says
+    → ArePlain says (replied places state value waits).1
+plain_replied says places state value waits plain =
+    let after = taken_value places state value in
+    plain_and says after.1 (due_if (not waits) after.0) (plain_taken says places state value plain) (plain_due_if says after.0 (not waits) plain)

@@ -1,24 +1,23 @@
 -- Whole runs of messages: what is shown of each document at their end.
-use Rattle.std.specs.Prelude.{ℕ, ◌≡◌, List, [], ◌∷◌, ◌++◌, Option, None, Some, option_map, if◌then◌else◌}
-use Rattle.std.specs.Option.{option_to_list}
+use Rattle.std.specs.Prelude.{ℕ, ◌≡◌, Bool, false, List, [], ◌∷◌, ◌++◌, Option, None, Some, option_map, if◌then◌else◌}
 use Rattle.std.specs.Str.{bytes_eq}
 use Rattle.serde_json.specs.Data.{Data}
 use Rattle.lsp_messages.specs.Messages.{Meaning, Query, about, request}
 use Rattle.lsp_messages.specs.declared.clients.Client.{Client}
 use Rattle.lsp_server.specs.Steps.{Answer, ready, done, refused, answered, searched, shown, cleared, warned, Open, Places, State, answered_of, at_start, current_of}
-use Rattle.lsp_server.specs.Steps.{open_at, outdated, step}
+use Rattle.lsp_server.specs.Steps.{open_at, outdated, shown_due, taken, turned}
 use Rattle.lsp_server.specs.declared.phase.Phase.TheVariants.{Running}
 
--- the state after these messages
-abbrev pub state_after : Places → State → List Meaning → State
+-- the state after these messages, each with whether a whole frame waits after it
+abbrev pub state_after : Places → State → List (Meaning × Bool) → State
 state_after places state [] = state
-state_after places state (message ∷ messages) = state_after places ((step places state message).0) messages
+state_after places state (turn ∷ turns) = state_after places ((turned places state turn.0 turn.1).0) turns
 
 -- what is sent in reply to them
-abbrev pub answers_to : Places → State → List Meaning → List Answer
+abbrev pub answers_to : Places → State → List (Meaning × Bool) → List Answer
 answers_to places state [] = []
-answers_to places state (message ∷ messages) =
-    option_to_list ((step places state message).1) ++ answers_to places ((step places state message).0) messages
+answers_to places state (turn ∷ turns) =
+    (turned places state turn.0 turn.1).1 ++ answers_to places ((turned places state turn.0 turn.1).0) turns
 
 -- what is shown of a document after an answer, where `before` was; an error has it out of date
 abbrev pub shown_by : List ℕ → Option Open → Answer → Option Open
@@ -38,18 +37,33 @@ abbrev pub last_shown : List ℕ → Option Open → List Answer → Option Open
 last_shown uri before [] = before
 last_shown uri before (answer ∷ answers) = last_shown uri (shown_by uri before answer) answers
 
+-- what is shown for a URI is the document that is open under it, unless its faults are due
+abbrev pub IsShown : Option Open → Option Open → Type 0
+IsShown seen None = seen ≡ None
+IsShown seen (Some document) = document.due ≡ false → seen ≡ Some document
+
 -- after any messages, what is shown for a URI is the text and version of the document that is open
--- under it, and an error was shown since exactly if it is out of date
+-- under it, unless its faults are due; and an error was shown since exactly if it is out of date
 abbrev pub OpenDocumentsAreShown : Type 0
 OpenDocumentsAreShown =
-    (places : Places) (messages : List Meaning) (uri : List ℕ)
-    → last_shown uri None (answers_to places at_start messages) ≡ open_at uri (state_after places at_start messages).documents
+    (places : Places) (turns : List (Meaning × Bool)) (uri : List ℕ)
+    → IsShown (last_shown uri None (answers_to places at_start turns)) (open_at uri (state_after places at_start turns).documents)
 
--- after any messages, a question to the server that runs is answered for the text whose diagnostics
--- were published last, or refused if none are shown or it is out of date
+-- after any messages, and one after which no whole frame waits, no faults are due: what is shown for
+-- a URI is the document that is open under it
+abbrev pub AllIsShownAtLast : Type 0
+AllIsShownAtLast =
+    (places : Places) (turns : List (Meaning × Bool)) (message : Meaning) (uri : List ℕ)
+    → last_shown uri None (answers_to places at_start (turns ++ (message, false) ∷ []))
+    ≡ open_at uri (state_after places at_start (turns ++ (message, false) ∷ [])).documents
+
+-- after any messages, before a question is answered by the server that runs, what is due is
+-- published; the answer is for the text whose diagnostics were published last, or the question is
+-- refused if none are shown or it is out of date
 abbrev pub AnswersAreOfShownTexts : Type 0
 AnswersAreOfShownTexts =
-    (places : Places) (messages : List Meaning) (client : Client) (id : Data) (uri : List ℕ) (query : Query)
-    → (state_after places at_start messages).phase ≡ Running client
-    → (step places (state_after places at_start messages) (request id (about uri query))).1
-    ≡ Some (answered_of id client query (current_of (last_shown uri None (answers_to places at_start messages))))
+    (places : Places) (turns : List (Meaning × Bool)) (client : Client) (id : Data) (uri : List ℕ) (query : Query)
+    → (state_after places at_start turns).phase ≡ Running client
+    → (published_first : List Answer) × (published_first ≡ shown_due (state_after places at_start turns).documents)
+    × ((taken places (state_after places at_start turns) (request id (about uri query))).1
+    ≡ published_first ++ answered_of id client query (current_of (last_shown uri None (answers_to places at_start turns ++ published_first))) ∷ [])

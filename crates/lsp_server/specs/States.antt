@@ -1,5 +1,5 @@
 -- The state that a server is in.
-use Rattle.std.specs.Prelude.{ℕ, ◌≡◌, List, Option, None, Some, map, option_map}
+use Rattle.std.specs.Prelude.{ℕ, ◌≡◌, List, Option, None, Some, map}
 use Rattle.std.specs.String.{string_bytes}
 use Rattle.serde_json.specs.View.{view}
 use Rattle.serde_json.specs.declared.value.Value.{Value}
@@ -18,6 +18,7 @@ open_view text_of document = record {
   version = document.version;
   text = text_of document.source;
   current = document.is_current;
+  due = document.is_due;
   client = document.client;
 }
 
@@ -40,7 +41,7 @@ phase_status (Ended status) = Some status
 abbrev pub status_of : State → Option ℕ
 status_of state = phase_status state.phase
 
--- the state and the value are those that were wanted
-abbrev pub Answers : {D : Type 0} → (D → List ℕ) → Sayings → Server D → Option Value → State × Option Answer → Type 0
-Answers text_of says server value wanted =
-    (state_of text_of server ≡ wanted.0) × (option_map view value ≡ option_map (answer_data says) wanted.1)
+-- the state and the values are those that were wanted
+abbrev pub Answers : {D : Type 0} → (D → List ℕ) → Sayings → Server D → List Value → State × List Answer → Type 0
+Answers text_of says server values wanted =
+    (state_of text_of server ≡ wanted.0) × (map view values ≡ map (answer_data says) wanted.1)

@@ -1,8 +1,9 @@
 -- What the server does with a message (LSP 3.17, "Server lifecycle" and "Text Document
 -- Synchronization").
-use Rattle.std.specs.Prelude.{ℕ, ◌++◌, ◌||◌, List, [], ◌∷◌, Bool, false, true, not, Option, None, Some, drop, is_some, max, option_and_then, option_map, take}
+use Rattle.std.specs.Prelude.{ℕ, ◌++◌, ◌||◌, List, [], ◌∷◌, Bool, false, true, not, Option, None, Some, drop, is_some, map, max, option_map, take}
 use Rattle.std.specs.Prelude.{if◌then◌else◌}
-use Rattle.std.specs.List.{filter}
+use Rattle.std.specs.List.{filter, flat_map}
+use Rattle.std.specs.Option.{option_to_list}
 use Rattle.std.specs.Str.{bytes_eq}
 use Rattle.serde_json.specs.Data.{Data}
 use Rattle.lsp_messages.specs.Messages.{Asked, initialize, shutdown, about, search, unreadable, unknown, Edit, Meaning, message_of, Query, request, notification}
@@ -16,12 +17,14 @@ use Rattle.lsp_server.specs.declared.phase.Phase.{Phase}
 use Rattle.lsp_server.specs.declared.phase.Phase.TheVariants.{Fresh, Running, Finished, Ended}
 
 -- an open document; its version may not be known; it is current if its text is that of the client,
--- or out of date since a message about it was not read; its client says what it wants of it
+-- or out of date since a message about it was not read; its faults are due if they were not
+-- published since it was last opened or changed; its client says what it wants of it
 pub record Open : Type 0 where
   pub uri : List ℕ
   pub version : Option ℕ
   pub text : List ℕ
   pub current : Bool
+  pub due : Bool
   pub client : Client
 
 -- where the server is in its life, and the documents that are open
@@ -128,7 +131,7 @@ without uri documents = filter (λ document. not (bytes_eq document.uri uri)) do
 -- a document whose text is edited
 abbrev pub with_edits : Places → Option ℕ → List Edit → Open → Open
 with_edits places version edits document =
-    record { uri = document.uri; version = version; text = edited places document.text edits; current = true; client = document.client }
+    record { uri = document.uri; version = version; text = edited places document.text edits; current = true; due = true; client = document.client }
 
 -- one of the edits sends the whole text
 abbrev pub send_whole : List Edit → Bool
@@ -139,24 +142,13 @@ send_whole (edit ∷ edits) = not (is_some edit.range) || send_whole edits
 abbrev pub can_apply : List Edit → Open → Bool
 can_apply edits document = document.current || send_whole edits
 
--- the document after them, and what is sent of it
+-- the document after them
 abbrev pub changed_by : Places → Option ℕ → List Edit → Open → Open
 changed_by places version edits document = if can_apply edits document then with_edits places version edits document else document
 
-abbrev pub shown_by_change : Places → Option ℕ → List Edit → Open → Option Answer
-shown_by_change places version edits document =
-    if can_apply edits document then Some (shown (with_edits places version edits document)) else None
-
--- what becomes of the documents, and what is sent
-abbrev pub changed_at : Places → List ℕ → Option ℕ → List Edit → List Open → List Open × Option Answer
-changed_at places uri version edits documents = (
-  with_change uri (changed_by places version edits) documents,
-  option_and_then (shown_by_change places version edits) (open_at uri documents),
-)
-
 -- a document that is not current any more
 abbrev pub outdated : Open → Open
-outdated document = record { uri = document.uri; version = document.version; text = document.text; current = false; client = document.client }
+outdated document = record { uri = document.uri; version = document.version; text = document.text; current = false; due = document.due; client = document.client }
 
 abbrev pub outdated_at : Option (List ℕ) → List Open → List Open
 outdated_at None documents = documents
@@ -167,18 +159,50 @@ closed_at uri documents = (without uri documents, option_map (λ document. clear
 
 -- a document that a client opens
 abbrev pub opened_for : Client → List ℕ → Option ℕ → List ℕ → Open
-opened_for client uri version text = record { uri = uri; version = version; text = text; current = true; client = client }
+opened_for client uri version text = record { uri = uri; version = version; text = text; current = true; due = true; client = client }
 
 abbrev pub told : Places → Client → Told → List Open → List Open × Option Answer
 told places client exited documents = (documents, None)
-told places client (opened uri version text) documents = (
-  with_document (opened_for client uri version text) documents,
-  Some (shown (opened_for client uri version text)),
-)
-told places client (changed uri version edits) documents = changed_at places uri version edits documents
+told places client (opened uri version text) documents = (with_document (opened_for client uri version text) documents, None)
+told places client (changed uri version edits) documents = (with_change uri (changed_by places version edits) documents, None)
 told places client (closed uri) documents = closed_at uri documents
 told places client (unreadable uri) documents = (outdated_at uri documents, Some (warned uri))
 told places client nothing documents = (documents, None)
+
+-- ---- faults that are due
+
+-- a document whose faults are published
+abbrev pub published : Open → Open
+published document = record {
+  uri = document.uri;
+  version = document.version;
+  text = document.text;
+  current = document.current;
+  due = false;
+  client = document.client;
+}
+
+-- what is sent of a document whose faults are due
+abbrev pub shown_if_due : Open → List Answer
+shown_if_due document = if document.due then shown (published document) ∷ [] else []
+
+-- what is sent of documents, in their order
+abbrev pub shown_due : List Open → List Answer
+shown_due documents = flat_map shown_if_due documents
+
+-- the state after that
+abbrev pub all_published : State → State
+all_published state = record { phase = state.phase; documents = map published state.documents }
+
+-- the state after that, if it is wanted
+abbrev pub published_if : Bool → State → State
+published_if true state = all_published state
+published_if false state = state
+
+-- what is sent then
+abbrev pub due_if : Bool → State → List Answer
+due_if true state = shown_due state.documents
+due_if false state = []
 
 -- ---- messages
 
@@ -205,7 +229,7 @@ told_in places (Running client) notice documents = told places client notice doc
 told_in places Finished notice documents = (documents, None)
 told_in places (Ended status) notice documents = (documents, None)
 
--- the state after a message, and what is sent
+-- the state after a message, and what is sent, but for faults
 abbrev pub step : Places → State → Meaning → State × Option Answer
 step places state (request id asked) = (
   record { phase = (requested state.documents state.phase id asked).0; documents = state.documents },
@@ -218,7 +242,45 @@ step places state (notification notice) = (
 step places state response = (state, None)
 step places state (faulty id) = (state, Some (refused id NoRequest))
 
+-- whether the faults that are due are published before a notification is taken: a document that is
+-- opened, changed or closed is one of a row of changes that are taken together
+abbrev pub publishes_told : Told → Bool
+publishes_told exited = true
+publishes_told (opened uri version text) = false
+publishes_told (changed uri version edits) = false
+publishes_told (closed uri) = false
+publishes_told (unreadable uri) = true
+publishes_told nothing = false
+
+-- the same of a message: before a request is answered what is due is published
+abbrev pub publishes_first : Meaning → Bool
+publishes_first (request id asked) = true
+publishes_first (notification notice) = publishes_told notice
+publishes_first response = false
+publishes_first (faulty id) = false
+
+-- what is sent before a message, put before what is sent for it
+abbrev pub with_answers : List Answer → State × Option Answer → State × List Answer
+with_answers before after = (after.0, before ++ option_to_list after.1)
+
+-- the state after a message, and what is sent before it and for it
+abbrev pub taken : Places → State → Meaning → State × List Answer
+taken places state message =
+    with_answers (due_if (publishes_first message) state) (step places (published_if (publishes_first message) state) message)
+
 -- the same after a body that is this value, or none: no JSON, or too long
-abbrev pub replied : Places → State → Option Data → State × Option Answer
-replied places state None = (state, Some (refused None NoJson))
-replied places state (Some value) = step places state (message_of value)
+abbrev pub taken_value : Places → State → Option Data → State × List Answer
+taken_value places state None = (state, refused None NoJson ∷ [])
+taken_value places state (Some value) = taken places state (message_of value)
+
+-- if no whole frame waits, what is due is published after that
+abbrev pub settled : Bool → State × List Answer → State × List Answer
+settled waits after = (published_if (not waits) after.0, after.1 ++ due_if (not waits) after.0)
+
+-- the state after a message, after which a whole frame waits or not, and what is sent
+abbrev pub turned : Places → State → Meaning → Bool → State × List Answer
+turned places state message waits = settled waits (taken places state message)
+
+-- the same after a body
+abbrev pub replied : Places → State → Option Data → Bool → State × List Answer
+replied places state value waits = settled waits (taken_value places state value)

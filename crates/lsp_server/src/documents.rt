@@ -6,7 +6,8 @@ ghost use Rattle.lsp_values.specs.Shapes.{publish_data};
 ghost use Rattle.lsp_values.specs.Views.{reply_view};
 ghost use Rattle.lsp_server.specs.Answers.{answer_data, found_among, found_in};
 ghost use Rattle.lsp_server.specs.States.{documents_view, open_view};
-ghost use Rattle.lsp_server.specs.Steps.{changed_at, changed_by, closed_at, current_of, opened_for, outdated_at, open_at, outdated, shown, shown_by_change, can_apply, warned, with_change, with_document, with_edits, without};
+ghost use Rattle.lsp_server.specs.Steps.{changed_by, closed_at, current_of, opened_for, outdated_at, open_at, outdated, can_apply, warned, with_change, with_document, with_edits, without};
+ghost use Rattle.lsp_server.specs.Steps.{published, shown_due, shown_if_due};
 ghost use Rattle.lsp_server.specs.inside.Views.{Tells, place_of};
 
 use crate::editing::{edited, send_whole};
@@ -28,6 +29,8 @@ pub struct Opened<D> {
     pub source: D,
     /// Whether that is the client's text; it is not once a message about it was not read.
     pub is_current: bool,
+    /// Whether its faults are due: they were not published since it was last opened or changed.
+    pub is_due: bool,
     /// The client that opened it, which says what it wants of it.
     pub client: Client,
 }
@@ -74,7 +77,49 @@ fn show<D: HeldText>(
     publish_value(alloc, uri, version, diagnostics)
 }
 
-/// Opens a document for a client, or opens it anew. The answer is what is published of it.
+// Publishes the faults of a document, if they are due.
+fn publish_one<D: HeldText>(
+    alloc: Global,
+    document: &mut Opened<D>,
+    values: &mut Vec<Value>,
+) -> Result<(), AllocError>
+    ensures document { OnOk result (open_view D.text_of document.new ≡ published (open_view D.text_of document.old)) }
+    ensures values { OnOk result (map view values.new.items
+        ≡ map view values.old.items ++ map (answer_data D.says) (shown_if_due (open_view D.text_of document.old))) }
+{
+    if !document.is_due {
+        return Ok(());
+    }
+    let (client, version) = (document.client, document.version);
+    let uri = document.uri.as_str();
+    let shown = show(alloc, client, uri, version, &mut document.source)?;
+    values.push(shown)?;
+    document.is_due = false;
+    Ok(())
+}
+
+/// Publishes the faults that are due, in the order of the documents.
+///
+/// # Errors
+/// Out of memory.
+pub fn publish<D: HeldText>(
+    alloc: Global,
+    documents: &mut Vec<Opened<D>>,
+    values: &mut Vec<Value>,
+) -> Result<(), AllocError>
+    ensures documents { OnOk result (documents_view D.text_of documents.new.items ≡ map published (documents_view D.text_of documents.old.items)) }
+    ensures values { OnOk result (map view values.new.items
+        ≡ map view values.old.items ++ map (answer_data D.says) (shown_due (documents_view D.text_of documents.old.items))) }
+{
+    let mut at = 0;
+    while at < documents.len() {
+        publish_one(alloc, &mut documents[at], values)?;
+        at += 1;
+    }
+    Ok(())
+}
+
+/// Opens a document for a client, or opens it anew. Its faults are due.
 ///
 /// # Errors
 /// Out of memory.
@@ -85,13 +130,11 @@ pub fn open<D: HeldText + Drop>(
     uri: &str,
     version: Option<u32>,
     text: &str,
-) -> Result<Value, AllocError>
-    ensures documents { OnOk result (documents_view D.text_of documents.new.items
+) -> Result<(), AllocError>
+    ensures { OnOk result (documents_view D.text_of documents.new.items
         ≡ with_document (opened_for client uri.now version text.now) (documents_view D.text_of documents.old.items)) }
-    ensures shown { IfOk result (λ v. view v ≡ answer_data D.says (shown (opened_for client uri.now version text.now))) }
 {
-    let mut source = D::open(alloc, Vec::from_slice(alloc, text.as_bytes())?)?;
-    let shown = show(alloc, client, uri, version, &mut source)?;
+    let source = D::open(alloc, Vec::from_slice(alloc, text.as_bytes())?)?;
     let uri = String::from_str(alloc, uri)?;
     put(
         documents,
@@ -100,31 +143,28 @@ pub fn open<D: HeldText + Drop>(
             version,
             source,
             is_current: true,
+            is_due: true,
             client,
         },
-    )?;
-    Ok(shown)
+    )
 }
 
-// Changes the text of a document. The answer is what is published of it.
+// Changes the text of a document.
 fn change_one<D: HeldText>(
     alloc: Global,
     document: &mut Opened<D>,
     version: Option<u32>,
     changes: &[Change<'_>],
-) -> Result<Value, AllocError>
-    ensures document { OnOk result (open_view D.text_of document.new
+) -> Result<(), AllocError>
+    ensures { OnOk result (open_view D.text_of document.new
         ≡ with_edits D.place_in version (map edit_view changes.now) (open_view D.text_of document.old)) }
-    ensures shown { IfOk result (λ v. view v ≡ answer_data D.says
-        (shown (with_edits D.place_in version (map edit_view changes.now) (open_view D.text_of document.old)))) }
 {
     let text = edited::<D>(alloc, document.source.text(), changes)?;
     document.source.set(text)?;
     document.version = version;
     document.is_current = true;
-    let client = document.client;
-    let uri = document.uri.as_str();
-    show(alloc, client, uri, version, &mut document.source)
+    document.is_due = true;
+    Ok(())
 }
 
 // Whether changes are made in a document: in one that is out of date only if one of them sends the
@@ -135,28 +175,25 @@ fn can_apply<D: HeldText>(document: &Opened<D>, changes: &[Change<'_>]) -> bool
     document.is_current || send_whole(changes)
 }
 
-// Changes the text of a document, unless it is out of date and no change sends the whole text. The
-// answer is what is published of it.
+// Changes the text of a document, unless it is out of date and no change sends the whole text.
 fn change_known<D: HeldText>(
     alloc: Global,
     document: &mut Opened<D>,
     version: Option<u32>,
     changes: &[Change<'_>],
-) -> Result<Option<Value>, AllocError>
-    ensures document { OnOk result (open_view D.text_of document.new
+) -> Result<(), AllocError>
+    ensures { OnOk result (open_view D.text_of document.new
         ≡ changed_by D.place_in version (map edit_view changes.now) (open_view D.text_of document.old)) }
-    ensures shown { IfOk result (λ answer. option_map view answer ≡ option_map (answer_data D.says)
-        (shown_by_change D.place_in version (map edit_view changes.now) (open_view D.text_of document.old))) }
 {
     if can_apply(document, changes) {
-        Ok(Some(change_one(alloc, document, version, changes)?))
+        change_one(alloc, document, version, changes)
     } else {
-        Ok(None)
+        Ok(())
     }
 }
 
-/// Changes the text of a document. The answer is what is published of it, or `None` if it is not
-/// open, or is out of date and no change sends the whole text.
+/// Changes the text of a document, whose faults are due then. Nothing changes if it is not open, or
+/// is out of date and no change sends the whole text.
 ///
 /// # Errors
 /// Out of memory.
@@ -166,15 +203,15 @@ pub fn change<D: HeldText>(
     uri: &str,
     version: Option<u32>,
     changes: &[Change<'_>],
-) -> Result<Option<Value>, AllocError>
-    ensures { IfOk result (λ answer. Tells D.text_of D.says documents.new.items answer
-        (changed_at D.place_in uri.now version (map edit_view changes.now) (documents_view D.text_of documents.old.items))) }
+) -> Result<(), AllocError>
+    ensures { OnOk result (documents_view D.text_of documents.new.items
+        ≡ with_change uri.now (changed_by D.place_in version (map edit_view changes.now)) (documents_view D.text_of documents.old.items)) }
 {
     match find(documents, uri) {
-        None => Ok(None),
+        None => Ok(()),
         Some(at) => {
-            let answer = change_known(alloc, &mut documents[at], version, changes)?;
-            Ok(answer)
+            change_known(alloc, &mut documents[at], version, changes)?;
+            Ok(())
         }
     }
 }

@@ -1,10 +1,11 @@
 //! The state of the server, changed by a message.
-ghost use Rattle.std.specs.Prelude.{◌≡◌, IfOk, option_map};
+ghost use Rattle.std.specs.Prelude.{◌≡◌, ◌++◌, IfOk, OnOk, map, option_map};
 ghost use Rattle.serde_json.specs.View.{view};
 ghost use Rattle.lsp_messages.specs.Views.{message_view, told_view};
+ghost use Rattle.lsp_server.specs.Answers.{answer_data};
 ghost use Rattle.lsp_server.specs.States.{Answers, documents_view, state_of, status_of};
-ghost use Rattle.lsp_server.specs.Steps.{at_start, ended_by, phase_told, replied, step, told, told_in};
-ghost use Rattle.lsp_server.specs.inside.Views.{Tells};
+ghost use Rattle.lsp_server.specs.Steps.{at_start, due_if, ended_by, phase_told, published_if, publishes_first, publishes_told, replied, step, taken, taken_value, told, told_in};
+ghost use Rattle.lsp_server.specs.inside.Views.{Adds, Steps, Tells};
 
 use crate::documents::{self, Opened};
 use crate::phase::Phase;
@@ -57,14 +58,18 @@ fn tell<D: HeldText + Drop>(
         (told D.place_in client (told_view notice.now) (documents_view D.text_of documents.old.items))) }
 {
     match notice {
-        Notice::Opened { uri, version, text } => Ok(Some(documents::open(
-            alloc, client, documents, uri, *version, text,
-        )?)),
+        Notice::Opened { uri, version, text } => {
+            documents::open(alloc, client, documents, uri, *version, text)?;
+            Ok(None)
+        }
         Notice::Changed {
             uri,
             version,
             changes,
-        } => documents::change(alloc, documents, uri, *version, changes),
+        } => {
+            documents::change(alloc, documents, uri, *version, changes)?;
+            Ok(None)
+        }
         Notice::Closed { uri } => documents::close(alloc, documents, uri),
         Notice::Unreadable { uri } => Ok(Some(documents::outdate_unreadable(
             alloc, documents, *uri,
@@ -90,6 +95,28 @@ fn tell_in<D: HeldText + Drop>(
     }
 }
 
+// Whether what is due is published before a notification is taken.
+fn publishes_told(notice: &Notice<'_>) -> bool
+    ensures { result ≡ publishes_told (told_view notice.now) }
+{
+    match notice {
+        Notice::Exited | Notice::Unreadable { .. } => true,
+        Notice::Opened { .. } | Notice::Changed { .. } | Notice::Closed { .. } | Notice::Nothing =>
+            false,
+    }
+}
+
+// Whether what is due is published before a message is taken.
+fn publishes_first(message: &Message<'_>) -> bool
+    ensures { result ≡ publishes_first (message_view message.now) }
+{
+    match message {
+        Message::Request { .. } => true,
+        Message::Notification(notice) => publishes_told(notice),
+        Message::Response | Message::Faulty(_) => false,
+    }
+}
+
 impl<D: HeldText + Drop> Server<D> {
     /// A server to which nothing has come yet. It takes no memory.
     pub fn new(alloc: Global) -> Server<D>
@@ -112,12 +139,9 @@ impl<D: HeldText + Drop> Server<D> {
         }
     }
 
-    /// Takes a message. The answer is what is to be sent, if something is.
-    ///
-    /// # Errors
-    /// Out of memory. Nothing is known of the server after that.
-    pub fn answer(&mut self, message: &Message<'_>) -> Result<Option<Value>, AllocError>
-        ensures { IfOk result (λ answer. Answers D.text_of D.says self.new answer
+    // Takes a message. The answer is what is to be sent, if something is.
+    fn answer(&mut self, message: &Message<'_>) -> Result<Option<Value>, AllocError>
+        ensures { IfOk result (λ answer. Steps D.text_of D.says self.new answer
             (step D.place_in (state_of D.text_of self.old) (message_view message.now))) }
     {
         match message {
@@ -142,21 +166,81 @@ impl<D: HeldText + Drop> Server<D> {
         }
     }
 
-    /// Takes the value of a body, or `None` for a body that is not JSON or too long. The answer is
-    /// what is to be sent, if something is.
+    // Publishes the faults that are due, if that is wanted.
+    fn publish_if(&mut self, wanted: bool, answers: &mut Vec<Value>) -> Result<(), AllocError>
+        ensures state { OnOk result (state_of D.text_of self.new ≡ published_if wanted (state_of D.text_of self.old)) }
+        ensures answers { OnOk result (map view answers.new.items
+            ≡ map view answers.old.items ++ map (answer_data D.says) (due_if wanted (state_of D.text_of self.old))) }
+    {
+        if !wanted {
+            return Ok(());
+        }
+        documents::publish(self.alloc, &mut self.documents, answers)?;
+        Ok(())
+    }
+
+    // Takes a message and adds what is to be sent.
+    fn push_answer(
+        &mut self,
+        message: &Message<'_>,
+        answers: &mut Vec<Value>,
+    ) -> Result<(), AllocError>
+        ensures { OnOk result (Adds D.text_of D.says self.new answers.old.items answers.new.items
+            (step D.place_in (state_of D.text_of self.old) (message_view message.now))) }
+    {
+        match self.answer(message)? {
+            None => Ok(()),
+            Some(answer) => Ok(answers.push(answer)?),
+        }
+    }
+
+    /// Takes a message, after what is due, if the message asks for that. The result is what is to
+    /// be sent, in order. Faults may be due then.
     ///
     /// # Errors
     /// Out of memory. Nothing is known of the server after that.
-    pub fn reply(&mut self, value: Option<&Value>) -> Result<Option<Value>, AllocError>
-        ensures { IfOk result (λ answer. Answers D.text_of D.says self.new answer
-            (replied D.place_in (state_of D.text_of self.old) (option_map (λ d. view d.now) value.entry))) }
+    pub fn take(&mut self, message: &Message<'_>) -> Result<Vec<Value>, AllocError>
+        ensures { IfOk result (λ answers. Answers D.text_of D.says self.new answers.items
+            (taken D.place_in (state_of D.text_of self.old) (message_view message.now))) }
+    {
+        let mut answers = Vec::new(self.alloc);
+        let first = publishes_first(message);
+        self.publish_if(first, &mut answers)?;
+        self.push_answer(message, &mut answers)?;
+        Ok(answers)
+    }
+
+    // Takes the value of a body, or `None` for a body that is not JSON or too long. The result is
+    // what is to be sent.
+    fn take_value(&mut self, value: Option<&Value>) -> Result<Vec<Value>, AllocError>
+        ensures { IfOk result (λ answers. Answers D.text_of D.says self.new answers.items
+            (taken_value D.place_in (state_of D.text_of self.old) (option_map (λ d. view d.now) value.entry))) }
     {
         match value {
-            None => Ok(Some(refusal_value(self.alloc, None, Failure::NoJson)?)),
+            None => {
+                let mut answers = Vec::new(self.alloc);
+                answers.push(refusal_value(self.alloc, None, Failure::NoJson)?)?;
+                Ok(answers)
+            }
             Some(value) => {
                 let message = read_message(self.alloc, value)?;
-                self.answer(&message)
+                self.take(&message)
             }
         }
+    }
+
+    /// Takes the value of a body, or `None` for a body that is not JSON or too long, after which a
+    /// whole frame waits or not: if none does, the faults that are due are published. The result is
+    /// what is to be sent, in order.
+    ///
+    /// # Errors
+    /// Out of memory. Nothing is known of the server after that.
+    pub fn reply(&mut self, value: Option<&Value>, waits: bool) -> Result<Vec<Value>, AllocError>
+        ensures { IfOk result (λ answers. Answers D.text_of D.says self.new answers.items
+            (replied D.place_in (state_of D.text_of self.old) (option_map (λ d. view d.now) value.entry) waits)) }
+    {
+        let mut answers = self.take_value(value)?;
+        self.publish_if(!waits, &mut answers)?;
+        Ok(answers)
     }
 }

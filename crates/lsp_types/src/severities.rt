@@ -9,6 +9,10 @@ pub enum Severity {
     Error,
     /// The entry is compiled.
     Warning,
+    /// Nothing is wrong with the entry, and yet it is most likely not what is meant.
+    Information,
+    /// It could be done better.
+    Hint,
 }
 
 impl Severity {
@@ -19,6 +23,8 @@ impl Severity {
         match self {
             Severity::Error => 1,
             Severity::Warning => 2,
+            Severity::Information => 3,
+            Severity::Hint => 4,
         }
     }
 }

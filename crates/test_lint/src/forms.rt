@@ -53,6 +53,23 @@ const WARNING: Told<'static> = Told {
     message: "50% of \"it\"\n\\",
 };
 
+// A hint on a name.
+const HINT: Told<'static> = Told {
+    file: "m",
+    range: Range {
+        start: Position { line: 1, column: 1 },
+        end: Position { line: 1, column: 3 },
+    },
+    line: b"\tab,",
+    offset: 1,
+    size: 2,
+    severity: Severity::Information,
+    code: "N3",
+    title: "N3 SaidTwice",
+    sentence: b"ab: Said.",
+    message: "SaidTwice ab: Said.",
+};
+
 // What is told in a form.
 fn told(alloc: Global, form: Form, told: &Told<'_>) -> Result<Vec<u8>, AllocError> {
     let mut out = Vec::new(alloc);
@@ -70,6 +87,20 @@ fn lines_of_compilers(rt: HostRuntime) -> Result<(), AllocError> {
     let said =
         b"\x1b[1ma,b:c%.ti:1:1:\x1b[m \x1b[1;35mwarning:\x1b[m 50% of \"it\"\n [W4: Duplicate, Name]\nxy|z,\n\x1b[1;32m^~\x1b[m\n";
     let text = told(rt.alloc(), COLORED, &WARNING)?;
+    assert!(&rt; text.as_slice() == said.as_slice());
+    Ok(())
+}
+
+#[test]
+fn notes_and_notices(rt: HostRuntime) -> Result<(), AllocError> {
+    let said = b"m:2:2: note: ab: Said. [N3 SaidTwice]\n\tab,\n\t^~\n";
+    let text = told(rt.alloc(), PLAIN, &HINT)?;
+    assert!(&rt; text.as_slice() == said.as_slice());
+    let said = b"m:2:2: note: ab: Said. [N3 SaidTwice]\n";
+    let text = told(rt.alloc(), Form::Lines, &HINT)?;
+    assert!(&rt; text.as_slice() == said.as_slice());
+    let said = b"::notice file=m,line=2,col=2,title=N3 SaidTwice::ab: Said.\n";
+    let text = told(rt.alloc(), Form::Github, &HINT)?;
     assert!(&rt; text.as_slice() == said.as_slice());
     Ok(())
 }
@@ -134,7 +165,7 @@ fn arrays_of_diagnostics(rt: HostRuntime) -> Result<(), AllocError> {
 }
 
 // How bad some things are, in how many files, and how that is said.
-const COUNTS: [(&[Severity], usize, &[u8]); 4] = [
+const COUNTS: [(&[Severity], usize, &[u8]); 6] = [
     (&[], 1, b"0 errors, 0 warnings in 1 file\n"),
     (
         &[Severity::Error, Severity::Warning, Severity::Error],
@@ -146,6 +177,16 @@ const COUNTS: [(&[Severity], usize, &[u8]); 4] = [
         &[Severity::Warning, Severity::Warning],
         3,
         b"0 errors, 2 warnings in 3 files\n",
+    ),
+    (
+        &[Severity::Hint, Severity::Error],
+        1,
+        b"1 error, 0 warnings, 1 hint in 1 file\n",
+    ),
+    (
+        &[Severity::Hint, Severity::Information],
+        2,
+        b"0 errors, 0 warnings, 2 hints in 2 files\n",
     ),
 ];
 
@@ -163,6 +204,8 @@ fn counts_of_things(rt: HostRuntime) -> Result<(), AllocError> {
 fn bad_things(rt: HostRuntime) {
     let warning = [Severity::Warning];
     let both = [Severity::Warning, Severity::Error];
+    let hints = [Severity::Information, Severity::Hint];
     assert!(&rt; has_bad(false, &both) && has_bad(true, &warning));
     assert!(&rt; !has_bad(false, &warning) && !has_bad(true, &[]));
+    assert!(&rt; !has_bad(true, &hints));
 }

@@ -1,5 +1,8 @@
 //! Frames: headers in any form that is allowed, and those that are none.
-use lsp_frames::{Frame, FrameError, make_frame, read_frame, write_frame};
+use lsp_frames::{
+    Buffered, Frame, FrameError, Held, Input, holds_frame, make_frame, read_frame, write_flushed,
+    write_frame,
+};
 use std::alloc::Global;
 use std::io::{self, Read};
 use std::process::Abort;
@@ -16,8 +19,8 @@ fn seen(frame: &Frame) -> &[u8] {
 
 // The frame that begins the bytes has this body.
 fn expect_body(rt: &impl Abort, alloc: Global, bytes: &[u8], want: &[u8]) {
-    let mut reader = Counted::new(bytes);
-    match read_frame(alloc, &mut reader) {
+    let mut input = Held::new(bytes);
+    match read_frame(alloc, &mut input) {
         Ok(frame) => assert!(rt; seen(&frame) == want, "{bytes:?}"),
         Err(_) => assert!(rt; false, "{bytes:?}"),
     }
@@ -25,8 +28,8 @@ fn expect_body(rt: &impl Abort, alloc: Global, bytes: &[u8], want: &[u8]) {
 
 // No frame begins the bytes.
 fn expect_broken(rt: &impl Abort, alloc: Global, bytes: &[u8]) {
-    let mut reader = Counted::new(bytes);
-    match read_frame(alloc, &mut reader) {
+    let mut input = Held::new(bytes);
+    match read_frame(alloc, &mut input) {
         Ok(_) => assert!(rt; false, "{bytes:?}"),
         Err(fault) => assert!(rt; fault == FrameError::Broken, "{bytes:?}"),
     }
@@ -107,10 +110,10 @@ fn a_body_that_is_too_long_is_passed_over(rt: HostRuntime) -> Result<(), Fail> {
     let header = b"Content-Length: 67108865\r\n\r\n".as_slice();
     let next = b"Content-Length: 2\r\n\r\n{}".as_slice();
     let body = io::repeat(b' ').take(67_108_865);
-    let mut reader = Counted::new(header.chain(body).chain(next));
-    let first = read_frame(rt.alloc(), &mut reader);
+    let mut input = Buffered::new(rt.alloc(), header.chain(body).chain(next))?;
+    let first = read_frame(rt.alloc(), &mut input);
     assert!(rt; matches!(first, Ok(Frame::TooLong)));
-    match read_frame(rt.alloc(), &mut reader) {
+    match read_frame(rt.alloc(), &mut input) {
         Ok(Frame::Body(body)) => assert!(rt; body.as_slice() == b"{}".as_slice()),
         _ => assert!(rt; false),
     }
@@ -135,4 +138,52 @@ fn a_closed_output_is_broken(rt: HostRuntime) {
     let mut writer = Counted::new(room.as_mut_slice());
     let written = write_frame(rt.alloc(), &mut writer, b"{}");
     assert!(rt; written == Err(FrameError::Broken));
+}
+
+// Whether a whole frame waits at the front of bytes.
+const WAITING: [(&[u8], bool); 9] = [
+    (b"", false),
+    (b"Content-Length: 2\r\n\r\n{}", true),
+    (b"Content-Length: 2\r\n\r\n{}Content-Len", true),
+    (b"Content-Length: 2\r\n\r\n{", false),
+    (b"Content-Length: 2\r\n\r\n", false),
+    (b"Content-Length: 2\r\n\r", false),
+    (b"Content-Length: 0\r\n\r\n", true),
+    (b"Content-Length: x\r\n\r\n{}", false),
+    (b"\r\nContent-Length: 2\r\n\r\n{}", false),
+];
+
+#[test]
+fn a_whole_frame_waits(rt: HostRuntime) -> Result<(), Fail> {
+    for (bytes, want) in WAITING.iter() {
+        assert!(rt; holds_frame(rt.alloc(), bytes)? == *want, "{bytes:?}");
+    }
+    Ok(())
+}
+
+// What was read and is not used is ahead, and nothing is read as long as something is.
+#[test]
+fn bytes_are_ahead(rt: HostRuntime) -> Result<(), Fail> {
+    let both = b"Content-Length: 1\r\n\r\n1Content-Length: 1\r\n\r\n2".as_slice();
+    let mut input = Buffered::new(rt.alloc(), both.chain(b"later".as_slice()))?;
+    assert!(rt; input.ahead().is_empty());
+    match read_frame(rt.alloc(), &mut input) {
+        Ok(Frame::Body(body)) => assert!(rt; body.as_slice() == b"1".as_slice()),
+        _ => assert!(rt; false),
+    }
+    assert!(rt; input.ahead() == b"Content-Length: 1\r\n\r\n2".as_slice());
+    let mut piece = [0_u8; 100];
+    assert!(rt; input.read_some(&mut piece) == Ok(22));
+    assert!(rt; input.ahead().is_empty());
+    assert!(rt; input.read_some(&mut piece) == Ok(5));
+    assert!(rt; input.read_some(&mut piece) == Err(FrameError::Broken));
+    Ok(())
+}
+
+#[test]
+fn bytes_are_written_at_once(rt: HostRuntime) {
+    let mut writer = Counted::new(Vec::new(rt.alloc()));
+    let written = write_flushed(&mut writer, b"two frames");
+    assert!(rt; written == Ok(()));
+    assert!(rt; writer.into_inner().as_slice() == b"two frames".as_slice());
 }

@@ -3,7 +3,8 @@
 //!
 //! - `frames`: headers and bodies, read and written
 //! - `values`: the values that are sent
-//! - `measured`: a source for tests; `sessions` has runs of frames over it, with what is written
+//! - `measured`: a source for tests; `sessions` has runs of frames over it, with what is written, and
+//!   `waiting` those whose frames come with one read
 #![tactic(auto)]
 
 #[cfg(test)]
@@ -14,3 +15,5 @@ mod measured;
 mod sessions;
 #[cfg(test)]
 mod values;
+#[cfg(test)]
+mod waiting;

@@ -1,6 +1,6 @@
 //! Sessions: the bodies that a client sends, the bodies that are sent back, and the status.
 use crate::measured::Measured;
-use lsp_frames::FrameError;
+use lsp_frames::{Buffered, FrameError};
 use lsp_server::{Server, serve};
 use std::alloc::{AllocError, Global};
 use std::process::Abort;
@@ -10,17 +10,17 @@ use tools_devices::Counted;
 
 // A session: what it shows, the bodies that come, those that are sent back, and how it ends. With
 // no status the input ends before `exit`.
-struct Session {
-    name: &'static str,
-    sent: &'static [&'static str],
-    answers: &'static [&'static str],
-    end: Result<u8, FrameError>,
+pub struct Session {
+    pub name: &'static str,
+    pub sent: &'static [&'static str],
+    pub answers: &'static [&'static str],
+    pub end: Result<u8, FrameError>,
 }
 
-const INITIALIZE: &str =
+pub const INITIALIZE: &str =
     r#"{"jsonrpc":"2.0","id":1,"method":"initialize","params":{"capabilities":{}}}"#;
 
-const READY: &str =
+pub const READY: &str =
     r#"{"id":1,"jsonrpc":"2.0","result":{"capabilities":{"codeActionProvider":false,"completionProvider":{"triggerCharacters":["="]},"definitionProvider":true,"documentFormattingProvider":true,"documentHighlightProvider":true,"documentSymbolProvider":true,"foldingRangeProvider":true,"hoverProvider":true,"positionEncoding":"utf-16","referencesProvider":true,"renameProvider":true,"textDocumentSync":{"change":2,"openClose":true},"workspaceSymbolProvider":true},"serverInfo":{"name":"ti-lsp","version":"1.0.0"}}}"#;
 
 // A client that asks which name a rename is of, and that takes code actions.
@@ -45,21 +45,21 @@ const SHUTDOWN: &str = r#"{"jsonrpc":"2.0","id":2,"method":"shutdown"}"#;
 
 const DONE: &str = r#"{"id":2,"jsonrpc":"2.0","result":null}"#;
 
-const EXIT: &str = r#"{"jsonrpc":"2.0","method":"exit"}"#;
+pub const EXIT: &str = r#"{"jsonrpc":"2.0","method":"exit"}"#;
 
-const OPEN: &str =
+pub const OPEN: &str =
     r#"{"jsonrpc":"2.0","method":"textDocument/didOpen","params":{"textDocument":{"uri":"u","languageId":"terminfo","version":1,"text":"abc"}}}"#;
 
-const OPENED: &str =
+pub const OPENED: &str =
     r#"{"jsonrpc":"2.0","method":"textDocument/publishDiagnostics","params":{"diagnostics":[3],"uri":"u","version":1}}"#;
 
-const CLOSE: &str =
+pub const CLOSE: &str =
     r#"{"jsonrpc":"2.0","method":"textDocument/didClose","params":{"textDocument":{"uri":"u"}}}"#;
 
-const CLOSED: &str =
+pub const CLOSED: &str =
     r#"{"jsonrpc":"2.0","method":"textDocument/publishDiagnostics","params":{"diagnostics":[],"uri":"u"}}"#;
 
-const HOVER: &str =
+pub const HOVER: &str =
     r#"{"jsonrpc":"2.0","id":3,"method":"textDocument/hover","params":{"textDocument":{"uri":"u"},"position":{"line":4,"character":5}}}"#;
 
 const HOVERED: &str = r#"{"id":3,"jsonrpc":"2.0","result":["u",3,"hover",4,5,false]}"#;
@@ -67,7 +67,7 @@ const HOVERED: &str = r#"{"id":3,"jsonrpc":"2.0","result":["u",3,"hover",4,5,fal
 const NOT_ANSWERED: &str =
     r#"{"error":{"code":-32602,"message":"invalid parameters"},"id":3,"jsonrpc":"2.0"}"#;
 
-const UNREADABLE: &str =
+pub const UNREADABLE: &str =
     r#"{"jsonrpc":"2.0","method":"window/showMessage","params":{"message":"A message about u could not be read. Close the document, and open it again.","type":1}}"#;
 
 const UNREADABLE_UNKNOWN: &str =
@@ -89,7 +89,7 @@ fn push_frame(frames: &mut Vec<u8>, alloc: Global, body: &str) -> Result<(), All
 }
 
 // The frames of bodies.
-fn frames_of(alloc: Global, bodies: &[&str]) -> Result<Vec<u8>, AllocError> {
+pub fn frames_of(alloc: Global, bodies: &[&str]) -> Result<Vec<u8>, AllocError> {
     let mut frames = Vec::new(alloc);
     for body in bodies {
         push_frame(&mut frames, alloc, body)?;
@@ -97,14 +97,21 @@ fn frames_of(alloc: Global, bodies: &[&str]) -> Result<Vec<u8>, AllocError> {
     Ok(frames)
 }
 
-// A session goes as its row says.
+// A session goes as its row says. A read brings one byte, so no frame waits after another.
 fn expect_session(rt: &impl Abort, alloc: Global, session: &Session) -> Result<(), AllocError> {
     let input = frames_of(alloc, session.sent)?;
     let want = frames_of(alloc, session.answers)?;
-    let mut reader = Counted::new(input.as_slice());
+    let mut input = Buffered::new(
+        alloc,
+        Drip {
+            rest: input.as_slice(),
+            reads_left: usize::MAX,
+            end: End::MovesNothing,
+        },
+    )?;
     let mut writer = Counted::new(Vec::new(alloc));
     let mut server: Server<Measured> = Server::new(alloc);
-    let end = serve(alloc, &mut server, &mut reader, &mut writer);
+    let end = serve(alloc, &mut server, &mut input, &mut writer);
     let writer = writer.into_inner();
     let name = session.name;
     assert!(rt; end == session.end, "{name}");
@@ -669,10 +676,10 @@ fn nesting_of_127_is_json(rt: HostRuntime) -> Result<(), Fail> {
             "]".repeat(alloc, depth)?
         )?;
         let input = frames_of(alloc, &[body.as_str()])?;
-        let mut reader = Counted::new(input.as_slice());
+        let mut input = Buffered::new(alloc, input.as_slice())?;
         let mut writer = Counted::new(Vec::new(alloc));
         let mut server: Server<Measured> = Server::new(alloc);
-        let end = serve(alloc, &mut server, &mut reader, &mut writer);
+        let end = serve(alloc, &mut server, &mut input, &mut writer);
         assert!(rt; end == Err(FrameError::Broken), "{depth}");
         assert!(rt;
             writer.into_inner().as_slice() == frames_of(alloc, &[want])?.as_slice(),
@@ -692,14 +699,17 @@ fn expect_input_stops(
 ) -> Result<(), AllocError> {
     let input = frames_of(alloc, &[INITIALIZE, OPEN, EXIT])?;
     let want = frames_of(alloc, answers)?;
-    let mut reader = Counted::new(Drip {
-        rest: input.as_slice(),
-        reads_left,
-        end,
-    });
+    let mut input = Buffered::new(
+        alloc,
+        Drip {
+            rest: input.as_slice(),
+            reads_left,
+            end,
+        },
+    )?;
     let mut writer = Counted::new(Vec::new(alloc));
     let mut server: Server<Measured> = Server::new(alloc);
-    let stop = serve(alloc, &mut server, &mut reader, &mut writer);
+    let stop = serve(alloc, &mut server, &mut input, &mut writer);
     let written = writer.into_inner();
     assert!(rt; stop == Err(FrameError::Broken), "at {reads_left}: {end:?}");
     assert!(rt;
@@ -741,11 +751,11 @@ fn expect_output_stops(
 ) -> Result<(), AllocError> {
     let input = frames_of(alloc, &[INITIALIZE, SHUTDOWN, EXIT])?;
     let want = frames_of(alloc, &[READY, DONE])?;
-    let mut reader = Counted::new(input.as_slice());
+    let mut input = Buffered::new(alloc, input.as_slice())?;
     let taken = Vec::new(alloc);
     let mut writer = Counted::new(Narrow { taken, room, end });
     let mut server: Server<Measured> = Server::new(alloc);
-    let stop = serve(alloc, &mut server, &mut reader, &mut writer);
+    let stop = serve(alloc, &mut server, &mut input, &mut writer);
     let taken = writer.into_inner().taken;
     assert!(rt; stop == Err(FrameError::Broken), "at {room}: {end:?}");
     assert!(rt;

@@ -171,6 +171,7 @@ const ABLE: Client = Client {
     takes_actions: true,
     nests_symbols: true,
     user_defined: true,
+    hints: true,
 };
 
 // A client that does neither.
@@ -179,6 +180,7 @@ const LESS: Client = Client {
     takes_actions: false,
     nests_symbols: false,
     user_defined: false,
+    hints: false,
 };
 
 #[test]

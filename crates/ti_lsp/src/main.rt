@@ -20,7 +20,7 @@ mod terminfo;
 
 use crate::command::{Task, asked};
 use crate::terminfo::Terminfo;
-use lsp_frames::FrameError;
+use lsp_frames::{Buffered, FrameError};
 use lsp_server::{Server, serve};
 use std::process::ExitCode;
 use std::rt::Env;
@@ -63,13 +63,10 @@ fn serve_input<R: Input + Print + AllocGlobal>(rt: &R) -> u8 {
     }
 }
 
-// Replies to what comes on standard input, read with a buffer.
+// Replies to what comes on standard input, read in pieces.
 fn serve_buffered<R: Input + Print + AllocGlobal>(rt: &R) -> Result<u8, FrameError> {
     let mut server: Server<Terminfo> = Server::new(rt.alloc());
-    let Ok(reader) = io::BufReader::new(rt.alloc(), rt.reader()) else {
-        return Err(FrameError::Memory);
-    };
-    let mut reader = Counted::new(reader);
+    let mut input = Buffered::new(rt.alloc(), rt.reader())?;
     let mut writer = Counted::new(io::writer(rt));
-    serve(rt.alloc(), &mut server, &mut reader, &mut writer)
+    serve(rt.alloc(), &mut server, &mut input, &mut writer)
 }

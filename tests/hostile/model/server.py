@@ -250,9 +250,23 @@ class Server:
         self.phase, self.texts, self.status = "fresh", {}, None
         # whether the client takes a hierarchy, and which documents are out of date
         self.nests, self.outdated = False, set()
+        # the versions of the documents whose faults are due
+        self.due = {}
 
-    def answer(self, body):
-        """What is sent back for a body, as a list that is empty or has one answer."""
+    def answer(self, body, waits):
+        """What is sent back for a body, after which a whole frame waits or not."""
+        answers = self.answers(body)
+        return answers if waits else answers + self.published()
+
+    def published(self):
+        """What is sent of the documents whose faults are due."""
+        due, self.due = self.due, {}
+        return [
+            {"uri": uri, "version": due[uri], "shown": diagnostics_of(text)} for uri, text in self.texts.items() if uri in due
+        ]
+
+    def answers(self, body):
+        """What is sent back for a body before it is looked whether a frame waits."""
         try:
             message = value_of(body)
         except NoJson:
@@ -267,7 +281,7 @@ class Server:
             return self.tell(method, message.get("params"))
         if id_of(message) is None:
             return [refusal(None, NO_REQUEST)]
-        return [self.ask(id_of(message), method, message.get("params"))]
+        return self.published() + [self.ask(id_of(message), method, message.get("params"))]
 
     def ask(self, number, method, params):
         """The answer to a request."""
@@ -310,37 +324,43 @@ class Server:
         return {"id": number, "result": result}
 
     def tell(self, method, params):
-        """What is published by a notification."""
+        """What is sent at a notification."""
         if method == "exit":
             self.status = 0 if self.phase == "finished" else 1
-            return []
+            return self.published()
         if self.phase != "running" or method not in TELLING:
             return []
         document = member(params, "textDocument")
         uri = member(document, "uri")
         if not isinstance(uri, str):
-            return [unreadable(None)]
+            return self.published() + [unreadable(None)]
         if method == "textDocument/didClose":
             self.outdated.discard(uri)
+            self.due.pop(uri, None)
             return [] if self.texts.pop(uri, None) is None else [{"uri": uri, "version": None, "shown": []}]
         if method == "textDocument/didOpen":
             return self.take(uri, document, document.get("text"))
         return self.change(uri, document, params.get("contentChanges"))
 
     def take(self, uri, document, text):
-        """What is published of a document that has this text now."""
+        """What is sent of a document that has this text now: its faults are due."""
         if not isinstance(text, str):
-            self.outdated.add(uri)
-            return [unreadable(uri)]
+            return self.unreadable(uri)
         self.texts[uri], version = text, document.get("version")
         self.outdated.discard(uri)
-        return [{"uri": uri, "version": version if is_small(version) else None, "shown": diagnostics_of(text)}]
+        self.due[uri] = version if is_small(version) else None
+        return []
+
+    def unreadable(self, uri):
+        """What is sent about a document of which a message cannot be read."""
+        published = self.published()
+        self.outdated.add(uri)
+        return published + [unreadable(uri)]
 
     def change(self, uri, document, changes):
-        """What is published of a document that is changed, if it is open."""
+        """What is sent of a document that is changed, if it is open."""
         if not isinstance(changes, list) or not all(map(is_change, changes)):
-            self.outdated.add(uri)
-            return [unreadable(uri)]
+            return self.unreadable(uri)
         is_whole = any(change.get("range") is None for change in changes)
         if uri not in self.texts or (uri in self.outdated and not is_whole):
             return []

@@ -1,8 +1,7 @@
 -- A header whose empty line has not come yet.
 use Rattle.std.specs.Prelude.{ℕ, ◌≡◌, ◌+◌, List, All, Option, MatchOption, None, length}
-use Rattle.tools_devices.specs.Counted.{Observed}
-use Rattle.tools_devices.specs.Reading.{Gives}
 use Rattle.lsp_frames.specs.Frames.{GivesLength, IsHeaderLine, IsLengthLine, header_bytes_max, lines_text, number_of}
+use Rattle.lsp_frames.specs.Inputs.{Gives, InputSeen}
 
 -- the value of the first line that gives a length, if there is one
 abbrev pub FirstLength : List (List ℕ) → Option (List ℕ) → Type 0
@@ -13,7 +12,7 @@ abbrev pub IsNoNumber : Option (List ℕ) → Type 0
 IsNoNumber value = MatchOption value (Unit {0}) (λ bytes. number_of bytes ≡ None)
 
 -- these lines were read, and there is room for this number of bytes more
-pub record HeaderSoFar (given left : Observed) (value : Option (List ℕ)) (room : ℕ) : Type 0 where
+pub record HeaderSoFar (given left : InputSeen) (value : Option (List ℕ)) (room : ℕ) : Type 0 where
   pub lines : List (List ℕ)
   pub read : Gives given left (lines_text lines)
   pub each : All IsHeaderLine lines

@@ -1,8 +1,8 @@
 use Rattle.std.proofs.Common.{◌≡◌, map, take}
-use Rattle.lsp_document.specs.Diagnostics.{diagnostic_seen}
+use Rattle.lsp_remarks.specs.Remarks.{remark_seen}
 use Rattle.everyday_lint.specs.Telling as spec
 use Rattle.everyday_lint.proofs.telling.severities_of.Given as goal
 
 -- those so far
-abbrev pub invariant-loop-diagnostic : goal.invariant-loop-diagnostic
-invariant-loop-diagnostic l = l.severities.items ≡ spec.severities_of (map diagnostic_seen (take l.diagnostic-index l.diagnostics))
+abbrev pub invariant-loop-remark : goal.invariant-loop-remark
+invariant-loop-remark l = l.severities.items ≡ spec.severities_of (map remark_seen (take l.remark-index l.remarks))

@@ -1,13 +1,12 @@
 use Rattle.std.proofs.Common.{ap, arith, length, length-append}
 use Rattle.std.proofs.lemmas.Grind.{common_steps}
 use Rattle.std.proofs.lemmas.Result.{err_from_is_err_and}
-use Rattle.tools_devices.specs.Counted.{observation}
 use Rattle.lsp_frames.proofs.ReadParts.{body_none, body_stops}
 use Rattle.lsp_frames.proofs.Transferred.{Gives-onto}
 use Rattle.lsp_frames.proofs.frames.read_body.Goals as goal
 
 pub loop-piece-init : goal.loop-piece-init
-loop-piece-init g c = body_none (observation g.R.Read.remaining c.args.reader.now) c.new-body.result.items c.args.len c.new-body.ensures.items
+loop-piece-init g c = body_none (g.I.Input.seen c.args.input.now) c.new-body.result.items c.args.len c.new-body.ensures.items
 
 pub loop-piece-preserved : goal.loop-piece-preserved
 loop-piece-preserved g c =

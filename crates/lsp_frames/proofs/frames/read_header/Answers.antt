@@ -1,14 +1,13 @@
 use Rattle.std.proofs.Common.{◌≡◌, ◌≢◌, length, option_map, refl, arith}
 use Rattle.std.proofs.lemmas.Grind.{common_steps}
 use Rattle.std.proofs.lemmas.Result.{IfErr-weaker, IfOk-weaker, err_from_is_err_and}
-use Rattle.tools_devices.specs.Counted.{observation}
 use Rattle.lsp_frames.proofs.HeaderLines.{HeaderSoFar-more, HeaderSoFar-none, IsHeader-ended, ReadingStops-ended, ReadingStops-full, ReadingStops-in_line}
 use Rattle.lsp_frames.proofs.HeaderLines.{ReadingStops-line}
 use Rattle.lsp_frames.specs.declared.frames.FrameError.TheVariants.{Memory}
 use Rattle.lsp_frames.proofs.frames.read_header.Goals as goal
 
 pub loop-room-init : goal.loop-room-init
-loop-room-init g c = HeaderSoFar-none (observation g.R.Read.remaining c.args.reader.now)
+loop-room-init g c = HeaderSoFar-none (g.I.Input.seen c.args.input.now)
 
 pub returns-in_err-line-clause-stops : goal.returns-in_err-line-clause-stops
 returns-in_err-line-clause-stops g c =

@@ -1,13 +1,12 @@
 use Rattle.std.proofs.Common.{◌++◌, [], arith, length-append, take}
 use Rattle.std.proofs.lemmas.Grind.{common_steps}
 use Rattle.std.proofs.lemmas.Result.{err_from_is_err_and}
-use Rattle.tools_devices.proofs.Written.{Gives-none, Gives-then}
-use Rattle.tools_devices.specs.Counted.{observation}
+use Rattle.lsp_frames.proofs.Used.{Gives-none, Gives-then}
 use Rattle.lsp_frames.proofs.ReadParts.{body_dry}
 use Rattle.lsp_frames.proofs.frames.skip_body.Goals as goal
 
 pub loop-left-init : goal.loop-left-init
-loop-left-init g c = ([], Gives-none (observation g.R.Read.remaining c.args.reader.now), omega arith)
+loop-left-init g c = ([], Gives-none (g.I.Input.seen c.args.input.now), omega arith)
 
 pub loop-left-preserved : goal.loop-left-preserved
 loop-left-preserved g c =

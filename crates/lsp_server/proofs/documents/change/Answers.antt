@@ -1,4 +1,4 @@
-use Rattle.std.proofs.Common.{◌≡◌, get_or, map, refl, sym, ap, ◌∙◌}
+use Rattle.std.proofs.Common.{◌≡◌, get_or, map, sym, ap, ◌∙◌}
 use Rattle.std.proofs.Math.ListN.{get_or-map, set}
 use Rattle.std.proofs.lemmas.List.{map-set}
 use Rattle.lsp_messages.specs.Views.{edit_view}
@@ -10,12 +10,11 @@ use Rattle.lsp_server.proofs.documents.change.Goals as goal
 pub returns-in-None : goal.returns-in-None
 returns-in-None g c =
     let place = rw c.deref.ensures.value at c.in-None.ensures.place in
-    let h = change_none (changed_by g.D.HeldText.place_in c.args.version (map edit_view c.args.changes.now))
-    (documents_view g.D.HeldText.text_of c.args.documents.now.items) c.args.uri.now place in
-    (sym h.0, rw h.1 refl)
+    sym (change_none (changed_by g.D.HeldText.place_in c.args.version (map edit_view c.args.changes.now))
+    (documents_view g.D.HeldText.text_of c.args.documents.now.items) c.args.uri.now place).0
 
-pub returns-in_ok-answer-in-Some : goal.returns-in_ok-answer-in-Some
-returns-in_ok-answer-in-Some g c =
+pub returns-in_ok-change_known-in-Some : goal.returns-in_ok-change_known-in-Some
+returns-in_ok-change_known-in-Some g c =
     let place = rw c.deref.ensures.value at c.in-Some.ensures.place in
     let f = open_view g.D.HeldText.text_of in
     let at = c.in-Some.at in
@@ -24,5 +23,5 @@ returns-in_ok-answer-in-Some g c =
     let old = f c.index_mut.result.now in
     let is : old ≡ get_or seen at old = ap f c.index_mut.ensures.value ∙ sym (get_or-map f documents at c.index_mut.result.now) in
     let h = change_found (changed_by g.D.HeldText.place_in c.args.version (map edit_view c.args.changes.now)) seen c.args.uri.now at place old is in
-    let changed = ap (λ (d : Open). set seen at d) c.in_ok-answer-in-Some.ensures.document in
-    (map-set f documents at c.change_known.new.document ∙ (changed ∙ sym h.0), rw h.1 c.in_ok-answer-in-Some.ensures.shown)
+    let changed = ap (λ (d : Open). set seen at d) c.in_ok-change_known-in-Some.ensures in
+    map-set f documents at c.change_known.new.document ∙ (changed ∙ sym h.0)

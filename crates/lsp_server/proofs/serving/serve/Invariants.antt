@@ -7,7 +7,7 @@ use Rattle.lsp_server.proofs.serving.serve.Given as goal
 abbrev pub invariant-loop-frames_left : goal.invariant-loop-frames_left
 invariant-loop-frames_left g l =
     Progress g.D.HeldText.place_in g.D.HeldText.says (state_of g.D.HeldText.text_of l.fn.server) (state_of g.D.HeldText.text_of l.server)
-    (observation g.R.Read.remaining l.fn.reader) (observation g.R.Read.remaining l.reader)
+    (g.I.Input.seen l.fn.input) (g.I.Input.seen l.input)
     (observation g.W.Write.contents l.fn.writer) (observation g.W.Write.contents l.writer) l.frames_left
 
 abbrev pub decreases-loop-frames_left : goal.decreases-loop-frames_left

@@ -1,4 +1,4 @@
-use Rattle.std.proofs.Common.{◌≡◌, Bor, None, Option, Some, ap, option_map, refl, ◌∙◌}
+use Rattle.std.proofs.Common.{◌≡◌, Bor, None, Option, Some, ap, map, option_map, refl, ◌∙◌}
 use Rattle.std.proofs.lemmas.Result.{err_from_is_err_and}
 use Rattle.serde_json.specs.View.{view}
 use Rattle.serde_json.specs.declared.value.Value.{Value}
@@ -6,6 +6,7 @@ use Rattle.std.specs.Option.{option_copied}
 use Rattle.lsp_server.proofs.Floats.{plain_replied}
 use Rattle.lsp_server.proofs.Serves.{memory_after, turn_answered, turn_cut, turn_unread}
 use Rattle.lsp_server.specs.Answers.{answer_data}
+use Rattle.lsp_server.specs.Serving.{Turn}
 use Rattle.lsp_server.specs.States.{state_of}
 use Rattle.lsp_server.specs.Steps.{replied}
 use Rattle.lsp_server.proofs.serving.serve_frame.Goals as goal
@@ -25,9 +26,14 @@ returns-in_err-value-clause-stops g c =
     let e = err_from_is_err_and c.from_residual-in_err-value.result c.from_residual-in_err-value.ensures.1 in
     rw (e.1, e.2) (memory_after _ _ c.in_ok-frame.frame c.in_ok-frame.ensures.read, refl)
 
-pub returns-in_err-answer-clause-stops : goal.returns-in_err-answer-clause-stops
-returns-in_err-answer-clause-stops g c =
-    let e = err_from_is_err_and c.from_residual-in_err-answer.result c.from_residual-in_err-answer.ensures.1 in
+pub returns-in_err-answers-clause-stops : goal.returns-in_err-answers-clause-stops
+returns-in_err-answers-clause-stops g c =
+    let e = err_from_is_err_and c.from_residual-in_err-answers.result c.from_residual-in_err-answers.ensures.1 in
+    rw (e.1, e.2) (memory_after _ _ c.in_ok-frame.frame c.in_ok-frame.ensures.read, refl)
+
+pub returns-in_err-waits-clause-stops : goal.returns-in_err-waits-clause-stops
+returns-in_err-waits-clause-stops g c =
+    let e = err_from_is_err_and c.from_residual-in_err-waits.result c.from_residual-in_err-waits.ensures.1 in
     rw (e.1, e.2) (memory_after _ _ c.in_ok-frame.frame c.in_ok-frame.ensures.read, refl)
 
 pub returns : goal.returns
@@ -35,16 +41,19 @@ returns g c =
     let places = g.D.HeldText.place_in in
     let says = g.D.HeldText.says in
     let start = state_of g.D.HeldText.text_of c.args.server.now in
+    let value = option_map view c.in_ok-value.value in
     let came : option_map (λ d. view d.now) c.as_ref.result ≡ option_map view c.in_ok-value.value =
     seen c.as_ref.result ∙ ap (option_map view) c.as_ref.ensures.value in
-    let answered = rw came at c.in_ok-answer.ensures in
-    let sent : option_map (λ d. view d.now) c.as_ref-2.result ≡ option_map (answer_data says) (replied places start (option_map view c.in_ok-value.value)).1 =
-    seen c.as_ref-2.result ∙ (ap (option_map view) c.as_ref-2.ensures.value ∙ answered.1) in
-    let ends = rw sent at c.write_answer.ensures in
-    let written = ends (plain_replied says places start (option_map view c.in_ok-value.value) g.met.D.HeldText.no_floats) in
+    let answered = rw came at c.in_ok-answers.ensures in
+    let waits = rw c.ahead.ensures at c.in_ok-waits.ensures in
+    let turn : Turn = record { value = value; waits = c.in_ok-waits.waits } in
+    let sent : map view c.deref.result.now ≡ map (answer_data says) (replied places start value c.in_ok-waits.waits).1 =
+    ap (map view) c.deref.ensures.value ∙ answered.1 in
+    let ends = rw sent at c.write_answers.ensures in
+    let written = ends (plain_replied says places start value c.in_ok-waits.waits g.met.D.HeldText.no_floats) in
     record {
-      turn = turn_answered places says _ _ _ start _ _ c.in_ok-frame.frame (option_map view c.in_ok-value.value)
-          c.in_ok-frame.ensures.read c.in_ok-value.ensures answered.0 c.write_answer.result written;
-      stops = turn_cut places says _ _ _ start _ (state_of g.D.HeldText.text_of c.reply.new.self) c.in_ok-frame.frame (option_map view c.in_ok-value.value)
-          c.in_ok-frame.ensures.read c.in_ok-value.ensures answered.0 c.write_answer.result written;
+      turn = turn_answered places says _ _ _ start _ _ c.in_ok-frame.frame turn
+          c.in_ok-frame.ensures.read c.in_ok-value.ensures waits answered.0 c.write_answers.result written;
+      stops = turn_cut places says _ _ _ start _ (state_of g.D.HeldText.text_of c.reply.new.self) c.in_ok-frame.frame turn
+          c.in_ok-frame.ensures.read c.in_ok-value.ensures waits answered.0 c.write_answers.result written;
     }

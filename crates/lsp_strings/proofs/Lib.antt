@@ -1,0 +1,5 @@
+pub mod Appends
+pub mod Expanded
+pub mod Printing
+pub mod Reading
+pub mod Whole
