@@ -53,8 +53,8 @@ fn push_range(
     Ok(())
 }
 
-// Appends what is read of a line, which is after a break if `joining` says so: nothing of a comment.
-// Returns whether the next line is after a break.
+// Appends what is read of a line, which is after a break if `joining` says so: nothing of a
+// comment. Returns whether the next line is after a break.
 fn push_line(
     text: &mut Vec<(u8, usize)>,
     block: &[u8],

@@ -1,10 +1,13 @@
 //! Where the names field of a block is.
-ghost use Rattle.std.specs.Prelude.{◌≡◌, ◌^◌, ◌<◌, All, IfOk};
+ghost use Rattle.std.specs.Prelude.{ℕ, ◌≡◌, ◌^◌, ◌<◌, ◌≤◌, List, ◌∷◌, Some, IfOk, length};
+ghost use Rattle.ti_source.specs.Folding.{PlacedByte};
 ghost use Rattle.lsp_spans.specs.Folding.{folded_of, in_comment};
-ghost use Rattle.lsp_spans.specs.Parts.{field_of};
+ghost use Rattle.lsp_spans.specs.Parts.{field_of, spanned};
 ghost use Rattle.lsp_spans.specs.Subjects.{head_span, head_text, span_or_start};
+ghost use Rattle.lsp_spans.specs.inside.Heads.{spanned_on};
 
-use crate::parts::{Part, push_bytes, span_of};
+use crate::parts::Part;
+use memchr::memchr;
 use std::alloc::{AllocError, Global};
 use ti_text::is_white_space;
 
@@ -28,13 +31,39 @@ fn in_comment(comment: bool, before: u8, byte: u8) -> bool
     }
 }
 
-// The names field of a block, each byte with its offset. The block is folded up to its first comma
-// alone.
-fn field(alloc: Global, block: &[u8]) -> Result<Vec<(u8, usize)>, AllocError>
-    ensures field { IfOk result (λ text. text.items ≡ field_of (folded_of block.now)) }
-    ensures offsets { IfOk result (λ text. All (λ x. x.1 < 2 ^ 63) text.items) }
+// For how many bytes of a names field room is made at once: as many as there are before the first
+// comma, which ends it unless it is in a comment.
+fn room_of(block: &[u8]) -> usize
+    ensures { result ≤ length block.now }
 {
-    let mut text = Vec::new(alloc);
+    match memchr(b',', block) {
+        Some(at) => at,
+        None => block.len(),
+    }
+}
+
+// Where bytes are that go on with the one at an offset, from where those before it are.
+fn with_next(span: Option<Part>, at: usize) -> Part
+    requires { at < 2 ^ 63 }
+    ensures { (byte : ℕ) (rest : List PlacedByte) → spanned_on span ((byte, at) ∷ rest) ≡ spanned_on (Some result) rest }
+{
+    Part {
+        start: match span {
+            Some(before) => before.start,
+            None => at,
+        },
+        end: at + 1,
+    }
+}
+
+// The bytes of the names field of a block, and where they are, if there are any. The block is
+// folded up to its first comma alone.
+fn field(alloc: Global, block: &[u8]) -> Result<(Vec<u8>, Option<Part>), AllocError>
+    ensures text { IfOk result (λ found. found.0.items ≡ head_text block.now) }
+    ensures span { IfOk result (λ found. found.1 ≡ spanned (field_of (folded_of block.now))) }
+{
+    let mut text = Vec::with_capacity(alloc, room_of(block))?;
+    let mut span = None;
     let mut comment = false;
     let mut joining = false;
     let mut before = b'\n';
@@ -50,11 +79,12 @@ fn field(alloc: Global, block: &[u8]) -> Result<Vec<(u8, usize)>, AllocError>
             continue;
         }
         if byte == b',' {
-            return Ok(text);
+            return Ok((text, span));
         }
-        text.push((byte, at))?;
+        span = Some(with_next(span, at));
+        text.push(byte)?;
     }
-    Ok(text)
+    Ok((text, span))
 }
 
 /// The names field of a block.
@@ -65,15 +95,9 @@ pub fn head_of(alloc: Global, block: &[u8]) -> Result<Head, AllocError>
     ensures span { IfOk result (λ head. head.span ≡ head_span block.now) }
     ensures text { IfOk result (λ head. head.text.items ≡ head_text block.now) }
 {
-    let field = field(alloc, block)?;
-    let whole = Part {
-        start: 0,
-        end: field.len(),
-    };
-    let mut text = Vec::new(alloc);
-    push_bytes(&mut text, &field, whole)?;
+    let (text, span) = field(alloc, block)?;
     Ok(Head {
-        span: span_or_start(span_of(&field, whole)),
+        span: span_or_start(span),
         text,
     })
 }

@@ -12,8 +12,8 @@ range_at block start end = bytes_at start (take (end - start) (drop start block)
 abbrev pub left_at : List ℕ → Bool → ℕ → List PlacedByte
 left_at block joining start = without_breaks joining (without_comments false ascii.newline (bytes_at start (drop start block)))
 
--- the line that begins at `start` ends at `end`, where there is its newline or nothing: of a comment
--- nothing is read, and what is after another line is after a break
+-- the line that begins at `start` ends at `end`, where there is its newline or nothing: of a
+-- comment nothing is read, and what is after another line is after a break
 pub record IsLineAt (block : List ℕ) (start end : ℕ) : Type 0 where
   pub later : start ≤ end
   pub within : end ≤ length block
