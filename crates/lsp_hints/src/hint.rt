@@ -21,7 +21,7 @@ pub enum HintKind {
     SaidAfterUse,
     /// N4: a string that holds an item.
     MissingComma,
-    /// N5: a head whose last field looks like items.
+    /// N5: a head that seems to hold an item.
     ItemsInHead,
     /// N6: a comment sign after white space.
     IndentedComment,
@@ -31,7 +31,7 @@ pub enum HintKind {
     ByteOrderMark,
     /// N7: padding that is none.
     WrongPadding,
-    /// N7: a delay that is too long.
+    /// N7: a delay of too many digits.
     LongDelay,
     /// N8: a user-defined name that is not a known one.
     UnknownName,
@@ -115,7 +115,7 @@ impl HintKind {
                 "The string seems to hold another item. Insert a comma before it."
             }
             HintKind::ItemsInHead => {
-                "The last field of the head looks like items, but is read as the description. Put a comma in place of the last bar."
+                "The head seems to hold an item. If a bar is right before it, put a comma in its place, else one before the line break."
             }
             HintKind::IndentedComment => {
                 "A comment begins with # as the first byte of a line, so this line is read as items. Remove the white space before the #."
@@ -130,7 +130,7 @@ impl HintKind {
                 "This looks like padding and is none, so it is sent as it is. Write the delay in milliseconds, such as $<5>."
             }
             HintKind::LongDelay => {
-                "The delay is longer than any that is sent. Write a shorter one."
+                "This delay has more than five digits of milliseconds, so it is sent as it is. Write a shorter one."
             }
             HintKind::UnknownName => {
                 "No user-defined capability of this name is known. Check the spelling."
