@@ -45,7 +45,7 @@ fn symbol_values(
 ) -> Result<Vec<Value>, AllocError>
     ensures { IfOk result (λ values. map view values.items ≡ map (λ s. symbol_shown nests_symbols uri.now (symbol_seen s)) all.now) }
 {
-    let mut values = Vec::new(alloc);
+    let mut values = Vec::with_capacity(alloc, all.len())?;
     for symbol in all {
         values.push(symbol_of(alloc, nests_symbols, uri, symbol)?)?;
     }
