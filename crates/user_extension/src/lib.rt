@@ -14,7 +14,8 @@
 //!   `fault`: why bytes are none (`ExtensionError`)
 //! - `view`: what an extension shows (`Extension`): its rows, and the value of a name;
 //!   `extension_parts`: its sections, for who holds them in another struct (`ExtensionParts`)
-//! - `checks`: its sections, cut by its header and looked through; `texts`: texts ended by a NUL
+//! - `checks`: its sections, cut by its header and looked through; `keys`: names as numbers;
+//!   `texts`: texts ended by a NUL
 //! - `laws`: what is written is read again
 //!
 //! Nothing here takes memory but `write`.
@@ -23,6 +24,7 @@
 mod checks;
 mod extension_parts;
 mod fault;
+mod keys;
 pub mod laws;
 mod reading;
 mod texts;

@@ -12,7 +12,7 @@ use crate::checks::{NEGATIVE_WORD, are_names, cut, values_size};
 use crate::extension_parts::ExtensionParts;
 use crate::texts::text;
 use std::cmp::Ordering;
-use ti_layout::{Content, Format, are_flags, are_numbers, are_offsets, number, word};
+use ti_layout::{Content, Format, are_flags, are_numbers, number, word};
 
 /// The user-defined capabilities of an entry, read where they are. It holds slices of the bytes
 /// that it was read from, so it takes no memory.
@@ -66,10 +66,7 @@ impl<'a> Extension<'a> {
         if !are_numbers(sections.numbers, format) {
             return None;
         }
-        if !are_offsets(sections.values, sections.table) {
-            return None;
-        }
-        let size = values_size(sections.values, sections.table);
+        let size = values_size(sections.values, sections.table)?;
         let tail = &sections.table[size.min(sections.table.len())..];
         let second = sections.flags.len();
         let third = second + sections.numbers.len() / format.width();

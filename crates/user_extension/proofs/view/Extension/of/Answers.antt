@@ -13,7 +13,7 @@ returns-then-not-are_flags-clause-none c = λ e. bad_flag c.args.format _ _ c.in
 pub returns-then-not-are_names-clause-none : goal.returns-then-not-are_names-clause-none
 returns-then-not-are_names-clause-none c =
     let s = c.in_ok-sections.sections in
-    let tail = tail_is s.table.now c.values_size-size.result c.min.result c.min.ensures ∙ ap (λ (n : ℕ). drop n s.table.now) c.values_size-size.ensures in
+    let tail = tail_is s.table.now c.in_ok-size.size c.min.result c.min.ensures ∙ ap (λ (n : ℕ). drop n s.table.now) c.in_ok-size.ensures.size in
     λ e.
     let names = names_of c.args.format _ s c.in_ok-sections.ensures.found _ _ refl
     (ap (λ (n : ℕ). length s.flags.now + length s.numbers.now / n) c.width.ensures.value) e in
@@ -24,14 +24,14 @@ returns-then-not-are_names-clause-none c =
 pub invariant_of-result : goal.invariant_of-result
 invariant_of-result c =
     let s = c.in_ok-sections.sections in
-    let tail = tail_is s.table.now c.values_size-size.result c.min.result c.min.ensures ∙ ap (λ (n : ℕ). drop n s.table.now) c.values_size-size.ensures in
+    let tail = tail_is s.table.now c.in_ok-size.size c.min.result c.min.ensures ∙ ap (λ (n : ℕ). drop n s.table.now) c.in_ok-size.ensures.size in
     let names = c.if-not-are_names.ensures.0 refl in
     let cut = c.in_ok-sections.ensures.found in
     let n = counts c.args.format _ (parts_cut s) (lengths_cut c.args.format _ s cut) in
     let third : length s.flags.now + length s.numbers.now / c.width.result ≡ length s.flags.now + count_in c.args.format s.numbers.now =
     ap (λ (n : ℕ). length s.flags.now + length s.numbers.now / n) c.width.ensures.value in
     record {
-      ends = offsets_end _ _ c.if-not-are_offsets.ensures;
+      ends = offsets_end _ _ c.in_ok-size.ensures.sound;
       rest = tail;
       lead = λ k lt. leads _ _ (names.ended k lt);
       user_defined = names.user_defined;
@@ -44,8 +44,8 @@ invariant_of-result c =
 pub returns-clause-found : goal.returns-clause-found
 returns-clause-found c =
     let s = c.in_ok-sections.sections in
-    let tail = tail_is s.table.now c.values_size-size.result c.min.result c.min.ensures ∙ ap (λ (n : ℕ). drop n s.table.now) c.values_size-size.ensures in
+    let tail = tail_is s.table.now c.in_ok-size.size c.min.result c.min.ensures ∙ ap (λ (n : ℕ). drop n s.table.now) c.in_ok-size.ensures.size in
     is_extension c.args.format _ s c.in_ok-sections.ensures.found _ _ refl (ap (λ (n : ℕ). length s.flags.now + length s.numbers.now / n) c.width.ensures.value)
-    c.if-not-are_flags.ensures c.if-not-are_numbers.ensures c.if-not-are_offsets.ensures
+    c.if-not-are_flags.ensures c.if-not-are_numbers.ensures c.in_ok-size.ensures.sound
     (subst (λ t. AreNames (length s.flags.now) (length s.flags.now + length s.numbers.now / c.width.result) s.names.now t) tail
     (c.if-not-are_names.ensures.0 refl))

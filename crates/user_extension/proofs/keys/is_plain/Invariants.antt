@@ -1,0 +1,7 @@
+use Rattle.std.proofs.Common.{◌≡◌, take}
+use Rattle.std.specs.List.{list_all}
+use Rattle.user_extension.specs.inside.Keys.{is_plain_byte}
+use Rattle.user_extension.proofs.keys.is_plain.Given as goal
+
+abbrev pub invariant-loop-byte : goal.invariant-loop-byte
+invariant-loop-byte l = l.plain ≡ list_all is_plain_byte (take l.byte-index l.table)
