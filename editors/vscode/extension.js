@@ -50,12 +50,13 @@ class Client {
     }
 
     async start() {
+        const { userDefined, hints } = vscode.workspace.getConfiguration("ti");
         const asked = {
             processId: process.pid,
             clientInfo: { name: "Visual Studio Code", version: vscode.version },
             rootUri: null,
             capabilities: CAPABILITIES,
-            initializationOptions: { ti: { userDefined: vscode.workspace.getConfiguration("ti").userDefined } },
+            initializationOptions: { ti: { userDefined, hints } },
         };
         const { capabilities } = await this.connection.request("initialize", asked);
         this.connection.notify("initialized", {});

@@ -59,8 +59,8 @@ def notification(method, params):
     return {"jsonrpc": "2.0", "method": method, "params": params}
 
 
-# the model is of the profile
-PROFILE = {"ti": {"userDefined": False}}
+# the model is of the profile, and of errors and warnings alone
+PROFILE = {"ti": {"userDefined": False, "hints": False}}
 INITIALIZE = {"jsonrpc": "2.0", "id": 0, "method": "initialize", "params": {"capabilities": {}, "initializationOptions": PROFILE}}
 # of a client that takes symbols as a hierarchy
 NESTED = {"documentSymbol": {"hierarchicalDocumentSymbolSupport": True}}

@@ -158,13 +158,13 @@ def neovim_files(room):
 
 def try_neovim(room):
     """
-    Opens README's first source in Neovim, which has to show the errors and warnings that README shows, but that of a
-    user-defined name (W1), which the server accepts.
+    Opens README's first source in Neovim, which has to show the errors and warnings that README shows, but for a
+    user-defined name, which is not unknown to the server (W1): it shows a hint (N8).
     """
     command, shown = next(pair for pair in transcript.commands(os.path.join(TOP, "README.md")) if "tic -c" in pair[0])
     room.user_does(command.replace("| ti tic -c", ">source.ti"))
     lines = [re.sub(r"^(\d+): (\w+) .*", r"\1 \2", line) for line in shown.split("\n") if line]
-    wanted = "".join(f"{line}\n" for line in lines if not line.endswith(" W1"))
+    wanted = "".join(f"{re.sub(' W1$', ' N8', line)}\n" for line in lines)
     room.write("show.lua", SHOW.replace("COUNT", str(wanted.count("\n"))))
     for at, (page, place, text) in enumerate(neovim_files(room)):
         room.write(f"home{at}/{place}", text)

@@ -29,14 +29,23 @@ use Rattle.ti_lsp.specs.Hovers.{hover_shown}
 use Rattle.ti_lsp.specs.Laying.{fold_data, layout_data}
 use Rattle.ti_lsp.specs.Offers.{all_capabilities, capability_item, described_item, is_obsolete, user_item, user_items}
 use Rattle.ti_lsp.specs.Searching.{holds, symbols_found}
-use Rattle.ti_lsp.specs.Shown.{capabilities_of, shown_data, shown_of}
+use Rattle.ti_lsp.specs.Shown.{capabilities_of, remark_data, shown_by, shown_data, shown_of}
+use Rattle.lsp_remarks.specs.Remarks.{SeenRemark, remarks_of}
 
 none_in : (all : List Shown) → items_have_float (items_of (map shown_data all)) ≡ false
 none_in [] = refl
 none_in (shown ∷ all) = none_in all
 
+none_in_remarks : (all : List SeenRemark) → items_have_float (items_of (map remark_data all)) ≡ false
+none_in_remarks [] = refl
+none_in_remarks (remark ∷ all) = none_in_remarks all
+
+none_in_shown : (hints : Bool) (capabilities : Capabilities) (text : List ℕ) → items_have_float (shown_by hints capabilities text) ≡ false
+none_in_shown true capabilities text = none_in_remarks (remarks_of capabilities text)
+none_in_shown false capabilities text = none_in (diagnostics_by capabilities text)
+
 shown_have_no_floats : (client : Client) (text : List ℕ) → items_have_float (shown_of client text) ≡ false
-shown_have_no_floats client text = none_in (diagnostics_by (capabilities_of client) text)
+shown_have_no_floats client text = none_in_shown client.hints (capabilities_of client) text
 
 none_in_outline : (nests : Bool) (uri : List ℕ) (all : List SymbolSeen) → items_have_float (items_of (map (symbol_shown nests uri) all)) ≡ false
 none_in_outline nests uri [] = refl

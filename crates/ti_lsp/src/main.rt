@@ -4,7 +4,8 @@
 //! - `terminfo`: a source as the server holds and shows it; `answering` answers questions about it,
 //!   `offers` has the capabilities as a completion offers them, `hovering` says what a place is on,
 //!   `laying` lays out and folds, `renaming` renames, `searching` finds entries by parts of their
-//!   names, `fixing` says what is offered against faults, and `showing` writes diagnostics
+//!   names, `fixing` says what is offered against faults, and `showing` writes diagnostics and
+//!   hints
 #![tactic(auto)]
 
 mod answering;

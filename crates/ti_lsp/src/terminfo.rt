@@ -1,6 +1,7 @@
 //! A terminfo source as the server holds and shows it.
-ghost use Rattle.std.specs.Prelude.{◌≡◌};
-ghost use Rattle.ti_lsp.specs.Shown.{capabilities_of};
+ghost use Rattle.std.specs.Prelude.{◌≡◌, IfOk, false, true};
+ghost use Rattle.serde_json.specs.View.{items_view};
+ghost use Rattle.ti_lsp.specs.Shown.{capabilities_of, shown_by};
 
 use crate::answering::{completion, definition, highlights, outline, references};
 use crate::fixing::fixes;
@@ -8,10 +9,11 @@ use crate::hovering::hover;
 use crate::laying::{folds, layout};
 use crate::renaming::{renamable, renamed};
 use crate::searching::search;
-use crate::showing::values_of;
+use crate::showing::{hinted_values_of, values_of};
 use lsp_document::{Capabilities, Document};
 use lsp_messages::{Client, Question};
 use lsp_places::offset_of;
+use lsp_remarks::{KeptHints, hints_in};
 use lsp_server::HeldText;
 use lsp_types::Position;
 use lsp_values::Reply;
@@ -22,6 +24,8 @@ use std::alloc::{AllocError, Global};
 #[derive(Drop)]
 pub struct Terminfo {
     document: Document,
+    // The hints on its blocks.
+    kept: Vec<KeptHints>,
 }
 
 // Which capabilities a source of a client may have.
@@ -33,6 +37,34 @@ fn capabilities_of(client: Client) -> Capabilities
     } else {
         Capabilities::Profile
     }
+}
+
+// The faults of a document as values of the protocol.
+fn fault_values(
+    alloc: Global,
+    capabilities: Capabilities,
+    document: &mut Document,
+) -> Result<Vec<Value>, AllocError>
+    ensures values { IfOk result (λ values. items_view values.items ≡ shown_by false capabilities document.old) }
+    ensures text { document.new ≡ document.old }
+{
+    let faults = document.diagnostics_by(alloc, capabilities)?;
+    values_of(alloc, faults.as_slice())
+}
+
+// The same with the hints among them, which are kept.
+fn hinted_values(
+    alloc: Global,
+    capabilities: Capabilities,
+    document: &mut Document,
+    kept: &mut Vec<KeptHints>,
+) -> Result<Vec<Value>, AllocError>
+    ensures values { IfOk result (λ values. items_view values.items ≡ shown_by true capabilities document.old) }
+    ensures text { document.new ≡ document.old }
+{
+    let faults = document.diagnostics_by(alloc, capabilities)?;
+    let hints = hints_in(alloc, capabilities, document, kept)?;
+    hinted_values_of(alloc, faults.as_slice(), &hints)
 }
 
 impl HeldText for Terminfo {
@@ -50,7 +82,10 @@ impl HeldText for Terminfo {
 
     fn open(alloc: Global, text: Vec<u8>) -> Result<Terminfo, AllocError> {
         let document = Document::open(alloc, text)?;
-        Ok(Terminfo { document })
+        Ok(Terminfo {
+            document,
+            kept: Vec::new(alloc),
+        })
     }
 
     fn set(&mut self, text: Vec<u8>) -> Result<(), AllocError> {
@@ -67,10 +102,12 @@ impl HeldText for Terminfo {
     }
 
     fn diagnostics(&mut self, alloc: Global, client: Client) -> Result<Vec<Value>, AllocError> {
-        let all = self
-            .document
-            .diagnostics_by(alloc, capabilities_of(client))?;
-        values_of(alloc, all.as_slice())
+        let capabilities = capabilities_of(client);
+        if client.hints {
+            hinted_values(alloc, capabilities, &mut self.document, &mut self.kept)
+        } else {
+            fault_values(alloc, capabilities, &mut self.document)
+        }
     }
 
     fn answer(

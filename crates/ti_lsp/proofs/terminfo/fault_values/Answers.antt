@@ -2,16 +2,13 @@ use Rattle.std.proofs.Common.{List, ap, map, sym, ◌∙◌}
 use Rattle.std.proofs.lemmas.Result.{IfOk-weaker}
 use Rattle.std.proofs.lemmas.Simd.{map-map}
 use Rattle.serde_json.specs.View.{items_of}
-use Rattle.lsp_document.specs.Diagnostics.{diagnostic_seen, diagnostics_by}
-use Rattle.lsp_diagnostics.specs.declared.capabilities.Capabilities.{Capabilities}
+use Rattle.lsp_document.specs.Diagnostics.{diagnostic_seen}
 use Rattle.lsp_diagnostics.specs.declared.diagnostics.Diagnostic.{Diagnostic}
 use Rattle.ti_lsp.specs.Shown.{shown_data}
-use Rattle.ti_lsp.proofs.terminfo.TerminfoHeldText.diagnostics.Goals as goal
+use Rattle.ti_lsp.proofs.terminfo.fault_values.Goals as goal
 
 pub returns-clause-values : goal.returns-clause-values
 returns-clause-values c =
-    let text = c.args.self.now.document in
-    let found = c.in_ok-all.ensures.diagnostics ∙ ap (λ (capabilities : Capabilities). diagnostics_by capabilities text) c.capabilities_of.ensures in
     let same = sym (map-map shown_data diagnostic_seen c.as_slice.result.now)
-    ∙ (ap (λ (all : List Diagnostic). map shown_data (map diagnostic_seen all)) c.as_slice.ensures.value ∙ ap (map shown_data) found) in
+    ∙ (ap (λ (all : List Diagnostic). map shown_data (map diagnostic_seen all)) c.as_slice.ensures.value ∙ ap (map shown_data) c.in_ok-faults.ensures.diagnostics) in
     IfOk-weaker c.values_of.result _ _ (λ values h. ap items_of (h ∙ same)) c.values_of.ensures
