@@ -4,8 +4,8 @@
 //! - `block`: the hints on a block, by its text alone
 //! - `found`: what is found in a part of a block; `mentions`: which capability an item says;
 //!   `formats`: what is wrong with the format of a string, by `counts`, how many parameters each
-//!   takes; `commas`: a comma that is missing; `delays`: padding that is none; `heads`: a head that
-//!   holds an item
+//!   takes, and `stacks`, where the stack is full; `commas`: a comma that is missing; `delays`:
+//!   padding that is none; `heads`: a head that holds an item
 //! - `unknown`: the hints on user-defined names that are not known
 //! - `file_form`: the hints on the form of a whole file
 //! - `merging`: hints in the order in which they begin; `hints`: all of those on a block
@@ -23,6 +23,7 @@ pub mod hint;
 mod hints;
 mod mentions;
 mod merging;
+mod stacks;
 mod unknown;
 
 pub use block::hints_of_block;
