@@ -3,3 +3,4 @@ pub mod Filling
 pub mod Reading
 pub mod Saying
 pub mod Shapes
+pub mod Using

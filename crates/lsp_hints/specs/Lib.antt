@@ -12,4 +12,5 @@ pub mod Merging
 pub mod Stacks
 pub mod Strings
 pub mod Unknown
+pub mod Uses
 pub mod Words

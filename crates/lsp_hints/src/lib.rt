@@ -1,7 +1,7 @@
 //! Hints: what no fault of the report says and yet is a mistake.
 //!
 //! - `hint`: what a hint says, and where
-//! - `block`: the hints on a block, by its text alone
+//! - `block`: the hints on a block, by its text alone; `uses`: those on items after a `use=`
 //! - `found`: what is found in a part of a block; `mentions`: which capability an item says;
 //!   `formats`: what is wrong with the format of a string, by `counts`, how many parameters each
 //!   takes, and `stacks`, where the stack is full; `commas`: a comma that is missing; `delays`:
@@ -25,6 +25,7 @@ mod mentions;
 mod merging;
 mod stacks;
 mod unknown;
+mod uses;
 
 pub use block::hints_of_block;
 pub use file_form::file_hints;
@@ -32,3 +33,4 @@ pub use hint::{Hint, HintKind};
 pub use hints::hints_of;
 pub use merging::merged;
 pub use unknown::unknown_names;
+pub use uses::hints_after_uses;
