@@ -16,10 +16,10 @@ has_append : (n : ℕ) (xs ys : List ℕ) → has n (xs ++ ys) ≡ (has n xs || 
 has_append n xs ys = list_any-append (λ other. other == n) xs ys
 
 -- the same numbers with more after them
-more_same : (xs ys more : List ℕ) → ((n : ℕ) → has n xs ≡ has n ys) → (n : ℕ) → has n (xs ++ more) ≡ has n (ys ++ more)
+pub more_same : (xs ys more : List ℕ) → ((n : ℕ) → has n xs ≡ has n ys) → (n : ℕ) → has n (xs ++ more) ≡ has n (ys ++ more)
 more_same xs ys more same n = has_append n xs more ∙ ap (λ b. b || has n more) (same n) ∙ sym (has_append n ys more)
 
-among_same : (xs ys : List ℕ) (number : Option ℕ) → ((n : ℕ) → has n xs ≡ has n ys) → is_among xs number ≡ is_among ys number
+pub among_same : (xs ys : List ℕ) (number : Option ℕ) → ((n : ℕ) → has n xs ≡ has n ys) → is_among xs number ≡ is_among ys number
 among_same xs ys None same = refl
 among_same xs ys (Some number) same = same number
 

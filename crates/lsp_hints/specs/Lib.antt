@@ -9,6 +9,8 @@ pub mod Heads
 pub mod Hints
 pub mod Mentions
 pub mod Merging
+pub mod Stacks
 pub mod Strings
 pub mod Unknown
+pub mod Uses
 pub mod Words

@@ -17,8 +17,8 @@ use lsp_spans::{Part, field_len, folded, visible_items};
 use std::alloc::{AllocError, Global};
 use ti_source::{Claim, Statement, statement_of};
 
-// The bytes of a part of a folded text.
-fn text_of(alloc: Global, item: &[(u8, usize)]) -> Result<Vec<u8>, AllocError>
+/// The bytes of a part of a folded text.
+pub(crate) fn text_of(alloc: Global, item: &[(u8, usize)]) -> Result<Vec<u8>, AllocError>
     ensures { IfOk result (λ text. text.items ≡ bytes item.now) }
 {
     let mut text = Vec::with_capacity(alloc, item.len())?;

@@ -8,6 +8,7 @@ ghost use Rattle.lsp_hints.specs.Strings as strings;
 use crate::counts::parameter_count;
 use crate::found::{Found, front_of, push_found};
 use crate::hint::HintKind;
+use crate::stacks::full_in;
 use lsp_spans::Part;
 use std::alloc::{AllocError, Global};
 use ti_formats::{Code, Lexer, Placed, Token};
@@ -183,6 +184,26 @@ fn unused_found(index: usize, value: &[u8]) -> Option<Found>
     }
 }
 
+// A push on a full stack.
+fn full_found(
+    alloc: Global,
+    index: usize,
+    from: usize,
+    raw: &[u8],
+    value: &[u8],
+) -> Result<Option<Found>, AllocError>
+    requires { from + length raw.now ≤ 2 ^ 63 + 1 }
+    ensures { IfOk result (λ found. found ≡ strings.full_found index from raw.now value.now) }
+{
+    if !is_format(index) {
+        return Ok(None);
+    }
+    match full_in(alloc, value)? {
+        Some(place) => Ok(Some(found_at(HintKind::FullStack, 2, from, raw, value, place))),
+        None => Ok(None),
+    }
+}
+
 /// Appends what is wrong with the format that a text spells, which begins at this offset of its
 /// item, of the string of that index.
 pub(crate) fn push_format(
@@ -197,6 +218,7 @@ pub(crate) fn push_format(
 {
     let value = value_of(alloc, raw)?;
     push_found(found, wrong_found(index, from, raw, &value))?;
+    push_found(found, full_found(alloc, index, from, raw, &value)?)?;
     push_found(found, foreign_found(index, from, raw, &value))?;
     push_found(found, unused_found(index, &value))
 }

@@ -6,7 +6,7 @@ use std::test::Fail;
 type Row = (HintKind, usize, &'static [u8], &'static [u8]);
 
 #[rattlefmt::skip]
-static BLOCKS: [(&'static [u8], &'static [Row]); 30] = [
+static BLOCKS: [(&'static [u8], &'static [Row]); 32] = [
     // Nothing is wrong.
     (b"a|b,am,cols#80,cup=\\E[%i%p1%d;%p2%dH,bold=\\E[1m$<2.5*/>,use=c,\n", &[]),
     (b"", &[]),
@@ -17,6 +17,9 @@ static BLOCKS: [(&'static [u8], &'static [Row]); 30] = [
     // A space in a character constant may be spelled; a string without parameters is no format, nor
     // is a user string.
     (b"a,ech=%p1%'\\s'%+%c,bel=%z,u6=\\E[%i%d;%dR,u8=\\E[?%[;0123456789]c,\n", &[]),
+    // A push on a full stack: the one after twenty, if it is run.
+    (b"a,ech=%p1%p1%p1%p1%p1%p1%p1%p1%p1%p1%p1%p1%p1%p1%p1%p1%p1%p1%p1%p1%p1%d,\n", &[(HintKind::FullStack, 2, b"ech=%p1%p1%p1%p1%p1%p1%p1%p1%p1%p1%p1%p1%p1%p1%p1%p1%p1%p1%p1%p1%p1%d", b"%p")]),
+    (b"a,ech=%p1%p1%p1%p1%p1%p1%p1%p1%p1%p1%p1%p1%p1%p1%p1%p1%p1%p1%p1%p1%d,hpa=%?%p1%t%p1%p1%p1%p1%p1%p1%p1%p1%p1%p1%p1%p1%p1%p1%p1%p1%p1%p1%p1%p1%p1%;,\n", &[]),
     // A parameter that the string does not have.
     (b"a,ech=%p1%d%p2%d,\n", &[(HintKind::ForeignParameter, 2, b"ech=%p1%d%p2%d", b"%p2")]),
     (b"a,clear=%p1%d,\n", &[(HintKind::ForeignParameter, 2, b"clear=%p1%d", b"%p1")]),

@@ -4,6 +4,7 @@
 //! - `blocks`: the hints on a block, and on the form of a file
 //! - `remarks`: what is remarked on a document, and in which order
 //! - `lines`: the lines of hints for `ti-tic -c`
+//! - `uses`: the hints on items after a use
 #![tactic(auto)]
 
 #[cfg(test)]
@@ -14,3 +15,5 @@ mod blocks;
 mod lines;
 #[cfg(test)]
 mod remarks;
+#[cfg(test)]
+mod uses;
