@@ -89,7 +89,7 @@ pub struct Diagnostic {
 pub fn shown_detail(alloc: Global, detail: &[u8]) -> Result<String, AllocError>
     ensures { IfOk result (λ shown. string_bytes shown ≡ report.shown_detail detail.now) }
 {
-    let mut shown = Vec::with_capacity(alloc, detail.len())?;
+    let mut shown = Vec::new(alloc);
     write_detail(&mut shown, detail)?;
     match String::from_utf8(shown) {
         Ok(shown) => Ok(shown),

@@ -274,8 +274,13 @@ fn say(said: &mut String, extension: &Extension<'_>, name: &[u8]) -> Result<(), 
     }
 }
 
+// An extension of two strings.
+const LONG: &'static [u8] =
+    b"\0\0\0\0\x02\0\x04\0\x2f\0\0\0\x10\0\0\0\x0b\0abcdefghijklmno\0abcdefghijklmnop\0\
+    Longername\0Xm\0";
+
 // What follows an entry, a name, and what is shown of it.
-static READ: [(&'static [u8], &'static [u8], &'static str); 10] = [
+static READ: [(&'static [u8], &'static [u8], &'static str); 15] = [
     // nothing, and fewer bytes than a header
     (b"", b"Tc", "-"),
     (b"\x01\0\0\0\0\0\x01\0\x03", b"Tc", "-"),
@@ -307,6 +312,22 @@ static READ: [(&'static [u8], &'static [u8], &'static str); 10] = [
         b"Tc",
         "5",
     ),
+    // but a name has one row of a kind, and none is of the tables
+    (
+        b"\x03\0\0\0\0\0\x03\0\x0c\0\x01\x01\x01\0\0\0\x03\0\x06\0Tc\0Tc\0Xyzwv\0",
+        b"Tc",
+        "!",
+    ),
+    (
+        b"\x02\0\0\0\0\0\x02\0\x09\0\x01\x01\0\0\x03\0am\0other\0",
+        b"other",
+        "!",
+    ),
+    // strings of 15 and 16 bytes
+    (LONG, b"Longername", "abcdefghijklmno"),
+    (LONG, b"Xm", "abcdefghijklmnop"),
+    // an offset after the table does not mean that the string is absent
+    (b"\0\0\0\0\x01\0\x02\0\x02\0\x12\0\0\0q\0", b"q", "!"),
 ];
 
 #[test]
