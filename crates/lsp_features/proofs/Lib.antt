@@ -4,7 +4,6 @@ pub mod Following
 pub mod LaidOut
 pub mod Naming
 pub mod OnceNamed
-pub mod Printing
 pub mod Renamed
 pub mod Seeking
 pub mod UsesRead

@@ -1,6 +1,7 @@
 -- The definitions that the contracts of this crate cite.
 pub mod Completions
 pub mod Edited
+pub mod Explaining
 pub mod Formatting
 pub mod Hovers
 pub mod Meanings

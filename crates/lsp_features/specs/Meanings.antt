@@ -1,12 +1,11 @@
 -- What an item says, as it is read (own): terminfo(5); X/Open Curses Issue 7, "Terminfo Source
 -- Format".
-use Rattle.std.specs.Prelude.{ℕ, ◌==◌, ◌&&◌, nat_le, List, [], ◌∷◌, map, Option, None, Some, if◌then◌else◌, option_and_then}
+use Rattle.std.specs.Prelude.{ℕ, ◌==◌, List, [], ◌∷◌, Option, None, Some, if◌then◌else◌, option_and_then}
 use Rattle.std.specs.String.{string_bytes}
-use Rattle.ti_text.specs.Ascii as ascii
-use Rattle.ti_spelling.specs.Spelling.{spelling_of}
 use Rattle.ti_source.specs.Parsing.{reading_of_text}
 use Rattle.ti_source.specs.Reading.{ReadItem, Said, said_flag, said_number, said_text, said_cancel, said_import}
 use Rattle.lsp_spans.specs.Touching.{ordinal_at}
+use Rattle.lsp_strings.specs.Spelled.{spelled}
 use Rattle.lsp_features.specs.declared.meanings.Meaning.{Meaning}
 use Rattle.lsp_features.specs.declared.meanings.Meaning.TheVariants as meaning
 
@@ -26,14 +25,6 @@ meaning_seen meaning.Set = means_set
 meaning_seen (meaning.Number number) = means_number number
 meaning_seen (meaning.Text text) = means_text (string_bytes text)
 meaning_seen meaning.Cancelled = means_cancelled
-
--- a byte as it is shown: `?` for one that does not print
-abbrev pub printed : ℕ → ℕ
-printed byte = if nat_le ascii.space byte && nat_le byte ascii.tilde then byte else ascii.question_mark
-
--- the bytes of a string as the source spells them
-abbrev pub spelled : List ℕ → List ℕ
-spelled value = map printed (spelling_of value)
 
 -- what the accepted item of that place among the items says, if it is accepted
 abbrev pub said_at : ℕ → List ReadItem → Option Said

@@ -5,7 +5,8 @@ use Rattle.user_items.specs.Parsing.{user_reading_of_text}
 use Rattle.user_items.specs.Reading.{ReadUserItem}
 use Rattle.user_items.specs.Verdicts.{UserSaid, imports, says}
 use Rattle.lsp_spans.specs.Touching.{ordinal_at}
-use Rattle.lsp_features.specs.Meanings.{MeaningSeen, means_cancelled, means_nothing, means_number, means_set, means_text, spelled}
+use Rattle.lsp_features.specs.Meanings.{MeaningSeen, means_cancelled, means_nothing, means_number, means_set, means_text}
+use Rattle.lsp_strings.specs.Spelled.{spelled}
 
 -- what the accepted item of that place among the items says, if it is accepted
 abbrev pub user_said_at : ℕ → List ReadUserItem → Option UserSaid

@@ -4,13 +4,14 @@
 //! - `names`: where the names of a document lead
 //! - `meanings`: what an item says, as it is read; `user_meanings`: what one says of a user-defined
 //!   name
-//! - `hovers`: what an editor shows about a position
+//! - `hovers`: what an editor shows about a position; `explaining`: what it says of a string there
 //! - `renaming`: what an editor renames
 //! - `completions`: what an editor offers to complete a word with
 //! - `formatting`: the edit that lays out a document
 #![tactic(auto)]
 
 mod completions;
+mod explaining;
 mod formatting;
 mod hovers;
 pub mod laws;
@@ -20,6 +21,7 @@ mod renaming;
 mod user_meanings;
 
 pub use completions::{Completion, Offers, completion_of};
+pub use explaining::explanation_of;
 pub use formatting::{LayoutEdit, layout_of};
 pub use hovers::{About, Hover, hover_of};
 pub use meanings::Meaning;

@@ -1,6 +1,5 @@
 //! What an item says, as it is read.
 ghost use Rattle.std.specs.Prelude.{◌≡◌, ◌<◌, ◌^◌, All, IfOk, Some, map, option_map};
-ghost use Rattle.std.specs.String.{string_bytes};
 ghost use Rattle.ti_source.specs.Cutting.{OneBlock};
 ghost use Rattle.ti_source.specs.Reading.{item_of, said_of};
 ghost use Rattle.lsp_spans.specs.Folding.{folded_of};
@@ -8,8 +7,9 @@ ghost use Rattle.lsp_features.specs.Meanings as spec;
 ghost use Rattle.lsp_features.specs.Meanings.{meaning_seen, said_at};
 
 use lsp_spans::ordinal_in;
+use lsp_strings::spelled;
 use std::alloc::{AllocError, Global};
-use ti_source::{Item, What, escape, parse};
+use ti_source::{Item, What, parse};
 
 /// What an item says of its capability.
 #[derive(Debug, Drop)]
@@ -26,41 +26,8 @@ pub enum Meaning {
     Cancelled,
 }
 
-// A byte as it is shown.
-fn printed(byte: u8) -> u8
-    ensures { result ≡ spec.printed byte }
-{
-    match byte {
-        b' '..=b'~' => byte,
-        _ => b'?',
-    }
-}
-
-// Bytes as they are shown.
-fn all_printed(alloc: Global, bytes: &[u8]) -> Result<Vec<u8>, AllocError>
-    ensures { IfOk result (λ shown. shown.items ≡ map spec.printed bytes.now) }
-{
-    let mut shown = Vec::with_capacity(alloc, bytes.len())?;
-    for byte in bytes {
-        shown.push(printed(*byte))?;
-    }
-    Ok(shown)
-}
-
-/// The bytes of a string as the source spells them.
-pub(crate) fn spelled(alloc: Global, value: &[u8]) -> Result<String, AllocError>
-    ensures { IfOk result (λ text. string_bytes text ≡ spec.spelled value.now) }
-{
-    let spelling = escape(alloc, value)?;
-    let shown = all_printed(alloc, &spelling)?;
-    match String::from_utf8(shown) {
-        Ok(shown) => Ok(shown),
-        Err(_) => unreachable!(),
-    }
-}
-
-// What the accepted item of that place among the items says.
-fn said_at(items: &[Item], ordinal: usize) -> Option<&What>
+/// What the accepted item of that place among the items says.
+pub(crate) fn said_at(items: &[Item], ordinal: usize) -> Option<&What>
     ensures { option_map (λ what. said_of what.now) result ≡ said_at ordinal (map item_of items.now) }
 {
     for item in items {

@@ -7,8 +7,9 @@ ghost use Rattle.lsp_features.specs.Meanings.{meaning_seen};
 ghost use Rattle.lsp_features.specs.UserMeanings as spec;
 ghost use Rattle.lsp_features.specs.UserMeanings.{content_meaning, user_said_at};
 
-use crate::meanings::{Meaning, spelled};
+use crate::meanings::Meaning;
 use lsp_spans::ordinal_in;
+use lsp_strings::spelled;
 use std::alloc::{AllocError, Global};
 use ti_layout::Value;
 use user_items::{UserItem, UserWhat, user_items};

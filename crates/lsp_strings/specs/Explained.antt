@@ -53,7 +53,7 @@ here_line format pieces (Some place) = here_or format (find (holds place) pieces
 
 -- a line with what is left of a string that is no format
 abbrev pub unread_line : List ℕ → List ℕ
-unread_line rest = codes "\n  " ++ (spelled rest ++ codes ": no code may stand here")
+unread_line rest = codes "\n  " ++ (spelled rest ++ codes ": invalid from here on")
 
 -- such a line, if the string stops at a place
 abbrev pub stop_line : List ℕ → Option ℕ → List ℕ

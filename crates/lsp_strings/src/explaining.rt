@@ -158,7 +158,7 @@ fn unread_line(alloc: Global, rest: &[u8]) -> Result<String, AllocError>
     ensures { IfOk result (λ line. string_bytes line ≡ unread_line rest.now) }
 {
     let written = spelled(alloc, rest)?;
-    format!(in alloc; "\n  {written}: no code may stand here")
+    format!(in alloc; "\n  {written}: invalid from here on")
 }
 
 // Adds such a line.
