@@ -14,10 +14,11 @@ use Rattle.lsp_strings.specs.Spelled.{spelled}
 abbrev pub two : FormatArgument → FormatArgument → List FormatArgument
 two first second = first ∷ second ∷ replicate 7 (number (pos 0))
 
--- a number, and a string
+-- a parameter that is a number
 abbrev pub numeral : ℕ → FormatArgument
 numeral n = number (pos n)
 
+-- a parameter that is a string
 abbrev pub word : FormatArgument
 word = text (codes "abc")
 
