@@ -12,6 +12,7 @@ use Rattle.lsp_diagnostics.specs.declared.capabilities.Capabilities.{Capabilitie
 use Rattle.lsp_blocks.specs.Symbols.{SymbolSeen, symbols_of}
 use Rattle.lsp_features.specs.Completions.{CompletionSeen, OffersSeen, completion_of, offers_capabilities, offers_names}
 use Rattle.lsp_features.specs.Formatting.{layout_of}
+use Rattle.lsp_features.specs.Explaining.{explanation_of}
 use Rattle.lsp_features.specs.Hovers.{hover_of}
 use Rattle.lsp_format.specs.Folds.{folds_of}
 use Rattle.ti_lsp.specs.Fixes.{fixes_data}
@@ -80,7 +81,7 @@ renamable_data (Some range) = range_data range
 -- what comes of a question of a client about a text, under the URI of its document
 abbrev pub answer_of : Client → List ℕ → List ℕ → Query → Said
 answer_of client text uri (completion place) = said_answer (completion_data (capabilities_of client) (completion_of text place))
-answer_of client text uri (hover place) = said_answer (hover_shown (hover_of (capabilities_of client) text place))
+answer_of client text uri (hover place) = said_answer (hover_shown (hover_of (capabilities_of client) text place) (explanation_of text place))
 answer_of client text uri (definition place) = said_answer (definition_data uri (definition_of text place))
 answer_of client text uri (references place with_declaration) = said_answer (references_data uri (references_of text place with_declaration))
 answer_of client text uri symbols = said_answer (outline_data client.nests_symbols uri (symbols_of text))

@@ -11,6 +11,7 @@ use Rattle.lsp_descriptions.specs.UserDescriptions.{UserDescribed, user_descript
 use Rattle.lsp_blocks.specs.Symbols.{SymbolSeen, symbols_of}
 use Rattle.lsp_features.specs.Completions.{CompletionSeen, OffersSeen, completion_of, offers_capabilities, offers_names}
 use Rattle.lsp_features.specs.Formatting.{LayoutSeen, layout_of}
+use Rattle.lsp_features.specs.Explaining.{explanation_of}
 use Rattle.lsp_features.specs.Hovers.{HoverSeen, hover_of}
 use Rattle.lsp_features.specs.Names.{definition_of, references_of}
 use Rattle.lsp_features.specs.Renaming.{RenamingSeen, refuses, renamable_at, renames, renames_nothing, renaming_of}
@@ -108,9 +109,9 @@ none_in_completion : (capabilities : Capabilities) (found : Option CompletionSee
 none_in_completion capabilities None = refl
 none_in_completion capabilities (Some found) = rw (none_in_offers capabilities found.range found.offers) refl
 
-none_in_hover : (shown : Option HoverSeen) → has_float (hover_shown shown) ≡ false
-none_in_hover None = refl
-none_in_hover (Some shown) = refl
+none_in_hover : (shown : Option HoverSeen) (said : List ℕ) → has_float (hover_shown shown said) ≡ false
+none_in_hover None said = refl
+none_in_hover (Some shown) said = refl
 
 none_in_edits : (name : List ℕ) (parts : List Range) → items_have_float (items_of (map (text_edit_data name) parts)) ≡ false
 none_in_edits name [] = refl
@@ -143,7 +144,7 @@ none_in_wanted capabilities text uri range false = refl
 
 answers_have_no_floats : (client : Client) (text uri : List ℕ) (query : Query) → SaidHasNoFloat (answer_of client text uri query)
 answers_have_no_floats client text uri (completion place) = none_in_completion (capabilities_of client) (completion_of text place)
-answers_have_no_floats client text uri (hover place) = none_in_hover (hover_of (capabilities_of client) text place)
+answers_have_no_floats client text uri (hover place) = none_in_hover (hover_of (capabilities_of client) text place) (explanation_of text place)
 answers_have_no_floats client text uri (definition place) = none_in_definition uri (definition_of text place)
 answers_have_no_floats client text uri (references place with_declaration) = none_in_references uri (references_of text place with_declaration)
 answers_have_no_floats client text uri symbols = none_in_outline client.nests_symbols uri (symbols_of text)

@@ -107,7 +107,7 @@ about_text (about_item c text meaning) = capability_sentence c text meaning
 about_text (about_user name text meaning) = user_sentence name text meaning
 about_text (about_name name entry sources) = name_sentence name entry sources
 
--- what is shown ("Hover"), or null
-abbrev pub hover_shown : Option HoverSeen → Data
-hover_shown None = null
-hover_shown (Some hover) = hover_data (about_text hover.about) hover.range
+-- what is shown ("Hover"), with what is said of a string there, or null
+abbrev pub hover_shown : Option HoverSeen → List ℕ → Data
+hover_shown None said = null
+hover_shown (Some hover) said = hover_data (about_text hover.about ++ said) hover.range

@@ -5,6 +5,7 @@ ghost use Rattle.std.specs.String.{string_bytes};
 ghost use Rattle.serde_json.specs.View.{view};
 ghost use Rattle.lsp_blocks.specs.Deciding.{source_seen};
 ghost use Rattle.lsp_blocks.specs.Holdings.{entry_faulty, entry_held, entry_seen};
+ghost use Rattle.lsp_features.specs.Explaining.{explanation_of};
 ghost use Rattle.lsp_features.specs.Hovers.{about_seen, hover_of};
 ghost use Rattle.lsp_features.specs.Meanings.{meaning_seen};
 ghost use Rattle.lsp_descriptions.specs.UserDescriptions.{user_described};
@@ -15,7 +16,7 @@ ghost use Rattle.ti_lsp.specs.Hovers.{about_text, capabilities_line, capability_
 use lsp_blocks::{DecidingBlock, Entry, Holding};
 use lsp_descriptions::{detail_of, documentation_of, user_description};
 use lsp_document::{Capabilities, Diagnostic, Document};
-use lsp_features::{About, Meaning, hover_of};
+use lsp_features::{About, Meaning, explanation_of, hover_of};
 use lsp_types::Position;
 use lsp_values::answers::hover_value;
 use serde_json::Value;
@@ -229,6 +230,21 @@ fn about_text(alloc: Global, about: &About) -> Result<String, AllocError>
     }
 }
 
+// What a position is on, and what is said of a string there.
+fn full_text(
+    alloc: Global,
+    document: &Document,
+    place: Position,
+    about: &About,
+) -> Result<String, AllocError>
+    ensures { IfOk result (λ text. string_bytes text ≡ about_text (about_seen about.now) ++ explanation_of document.now place) }
+{
+    let mut text = about_text(alloc, about)?;
+    let said = explanation_of(alloc, document, place)?;
+    text.push_str(said.as_str())?;
+    Ok(text)
+}
+
 /// What is shown about a position in a source that may have these capabilities.
 ///
 /// # Errors
@@ -239,12 +255,12 @@ pub fn hover(
     document: &Document,
     place: Position,
 ) -> Result<Value, AllocError>
-    ensures { IfOk result (λ v. view v ≡ hover_shown (hover_of capabilities document.now place)) }
+    ensures { IfOk result (λ v. view v ≡ hover_shown (hover_of capabilities document.now place) (explanation_of document.now place)) }
 {
     match hover_of(alloc, capabilities, document, place)? {
         None => Ok(Value::Null),
         Some(shown) => {
-            let text = about_text(alloc, &shown.about)?;
+            let text = full_text(alloc, document, place, &shown.about)?;
             hover_value(alloc, text.as_str(), shown.range)
         }
     }

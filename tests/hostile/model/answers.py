@@ -6,7 +6,8 @@ from functools import lru_cache
 from .base import Meaning
 from .caps import FIND, FLAG, KINDS, NAMES_OF, NUMBER, TEXT, described
 from .listing import written
-from .source import ADVICE, CANCEL, FAULTS, WHITE, ends_of_items, read
+from .source import ADVICE, CANCEL, FAULTS, WHITE, ends_of_items, read, unescape
+from .strings import explained
 from .texts import blocks_of, offset_of, refused_line, width
 
 STRUCT = 23  # of "SymbolKind"
@@ -381,6 +382,28 @@ def item_told(text, meaning):
     return f"{name.decode()}: {WORDS[cap[0]]}, {variable}\n{documented(cap[0], name)}\nWritten: {shown(text)}\nRead: {meaning}"
 
 
+def place_in_value(raw, offset):
+    """Which byte of a string the byte at an offset of its text is of, or None."""
+    if offset >= len(raw):
+        return None
+    through, before = unescape(raw[: offset + 1]), unescape(raw[:offset])
+    if through[2] is None:
+        return max(len(through[0]) - 1, 0)
+    return len(before[0]) if before[2] is None else None
+
+
+def string_told(block, ordinal, text, within):
+    """What is said of the string of an item, which has this text and the offset is so far in it."""
+    text = text.rstrip(WHITE)
+    name, _, raw = text.partition(b"=")
+    for _, _, cap, value in (item for item in read(block).items if item.ordinal == ordinal):
+        if cap is not None and cap[0] == TEXT and value is not CANCEL:
+            parameters = described(TEXT, name)[2]
+            place = place_in_value(raw, within - len(name) - 1) if within > len(name) else None
+            return explained(name.decode(), parameters, value, place) if parameters else ""
+    return ""
+
+
 def told_at(meaning, block, offset):
     """What is told at an offset of a block, and where that is; or None."""
     folded, where = fold_at(block)
@@ -392,8 +415,11 @@ def told_at(meaning, block, offset):
         span, name = span_of(where, *part), use_in(folded, *part)
         if is_on(offset, span):
             told = folded[slice(*part if name is None else name)]
-            words = item_told(told, meaning_told(block, ordinal)) if name is None else name_told(meaning, told)
-            return None if words is None else (words, span)
+            if name is not None:
+                return name_told(meaning, told), span
+            words = item_told(told, meaning_told(block, ordinal))
+            within = sum(span[0] <= at < offset for at in where)
+            return None if words is None else (words + string_told(block, ordinal, told, within), span)
     return None
 
 
