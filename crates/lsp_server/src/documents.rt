@@ -5,6 +5,7 @@ ghost use Rattle.lsp_messages.specs.Views.{edit_view, question_view};
 ghost use Rattle.lsp_values.specs.Shapes.{publish_data};
 ghost use Rattle.lsp_values.specs.Views.{reply_view};
 ghost use Rattle.lsp_server.specs.Answers.{answer_data, found_among, found_in};
+ghost use Rattle.lsp_server.specs.Sayings.{Sayings};
 ghost use Rattle.lsp_server.specs.States.{documents_view, open_view};
 ghost use Rattle.lsp_server.specs.Steps.{changed_by, closed_at, current_of, opened_for, outdated_at, open_at, outdated, can_apply, warned, with_change, with_document, with_edits, without};
 ghost use Rattle.lsp_server.specs.Steps.{published, shown_due, shown_if_due};
@@ -65,34 +66,43 @@ fn put<D: HeldText + Drop>(documents: &mut Vec<Opened<D>>, new: Opened<D>) -> Re
 // What is published of a text for a client.
 fn show<D: HeldText>(
     alloc: Global,
+    surroundings: &D::Surroundings,
     client: Client,
     uri: &str,
     version: Option<u32>,
     source: &mut D,
 ) -> Result<Value, AllocError>
-    ensures shown { IfOk result (λ v. view v ≡ publish_data uri.now version (D.says.diagnostics client (D.text_of source.old))) }
+    ensures shown { IfOk result (λ v. view v ≡ publish_data uri.now version ((D.says surroundings.now).diagnostics client (D.text_of source.old))) }
     ensures text { OnOk result (D.text_of source.new ≡ D.text_of source.old) }
 {
-    let diagnostics = source.diagnostics(alloc, client)?;
+    let diagnostics = source.diagnostics(alloc, surroundings, client)?;
     publish_value(alloc, uri, version, diagnostics)
 }
 
 // Publishes the faults of a document, if they are due.
 fn publish_one<D: HeldText>(
     alloc: Global,
+    surroundings: &D::Surroundings,
     document: &mut Opened<D>,
     values: &mut Vec<Value>,
 ) -> Result<(), AllocError>
     ensures document { OnOk result (open_view D.text_of document.new ≡ published (open_view D.text_of document.old)) }
     ensures values { OnOk result (map view values.new.items
-        ≡ map view values.old.items ++ map (answer_data D.says) (shown_if_due (open_view D.text_of document.old))) }
+        ≡ map view values.old.items ++ map (answer_data (D.says surroundings.now)) (shown_if_due (open_view D.text_of document.old))) }
 {
     if !document.is_due {
         return Ok(());
     }
     let (client, version) = (document.client, document.version);
     let uri = document.uri.as_str();
-    let shown = show(alloc, client, uri, version, &mut document.source)?;
+    let shown = show(
+        alloc,
+        surroundings,
+        client,
+        uri,
+        version,
+        &mut document.source,
+    )?;
     values.push(shown)?;
     document.is_due = false;
     Ok(())
@@ -104,16 +114,17 @@ fn publish_one<D: HeldText>(
 /// Out of memory.
 pub fn publish<D: HeldText>(
     alloc: Global,
+    surroundings: &D::Surroundings,
     documents: &mut Vec<Opened<D>>,
     values: &mut Vec<Value>,
 ) -> Result<(), AllocError>
     ensures documents { OnOk result (documents_view D.text_of documents.new.items ≡ map published (documents_view D.text_of documents.old.items)) }
     ensures values { OnOk result (map view values.new.items
-        ≡ map view values.old.items ++ map (answer_data D.says) (shown_due (documents_view D.text_of documents.old.items))) }
+        ≡ map view values.old.items ++ map (answer_data (D.says surroundings.now)) (shown_due (documents_view D.text_of documents.old.items))) }
 {
     let mut at = 0;
     while at < documents.len() {
-        publish_one(alloc, &mut documents[at], values)?;
+        publish_one(alloc, surroundings, &mut documents[at], values)?;
         at += 1;
     }
     Ok(())
@@ -256,7 +267,7 @@ pub fn outdate_unreadable<D: HeldText>(
 ) -> Result<Value, AllocError>
     ensures documents { OnOk result (documents_view D.text_of documents.new.items
         ≡ outdated_at (option_map (λ uri. uri.now) uri.entry) (documents_view D.text_of documents.old.items)) }
-    ensures warned { IfOk result (λ v. view v ≡ answer_data D.says (warned (option_map (λ uri. uri.now) uri.entry))) }
+    ensures warned { IfOk result (λ v. (says : Sayings) → view v ≡ answer_data says (warned (option_map (λ uri. uri.now) uri.entry))) }
 {
     outdate_known(documents, uri);
     unreadable_value(alloc, uri)
@@ -279,7 +290,7 @@ pub fn close<D: HeldText + Drop>(
     documents: &mut Vec<Opened<D>>,
     uri: &str,
 ) -> Result<Option<Value>, AllocError>
-    ensures { IfOk result (λ answer. Tells D.text_of D.says documents.new.items answer
+    ensures { IfOk result (λ answer. (says : Sayings) → Tells D.text_of says documents.new.items answer
         (closed_at uri.now (documents_view D.text_of documents.old.items))) }
 {
     match find(documents, uri) {
@@ -294,15 +305,19 @@ pub fn close<D: HeldText + Drop>(
 // Adds the symbols of a document whose names hold a text; none if it is out of date.
 fn push_found<D: HeldText>(
     alloc: Global,
+    surroundings: &D::Surroundings,
     values: &mut Vec<Value>,
     document: &Opened<D>,
     held: &str,
 ) -> Result<(), AllocError>
-    ensures { OnOk result (map view values.new.items ≡ map view values.old.items ++ found_in D.says held.now (open_view D.text_of document.now)) }
+    ensures { OnOk result (map view values.new.items
+        ≡ map view values.old.items ++ found_in (D.says surroundings.now) held.now (open_view D.text_of document.now)) }
 {
     if document.is_current {
         let uri = document.uri.as_str();
-        document.source.push_symbols(alloc, values, uri, held)?;
+        document
+            .source
+            .push_symbols(alloc, surroundings, values, uri, held)?;
     }
     Ok(())
 }
@@ -314,14 +329,15 @@ fn push_found<D: HeldText>(
 /// Out of memory.
 pub fn search<D: HeldText>(
     alloc: Global,
+    surroundings: &D::Surroundings,
     documents: &[Opened<D>],
     held: &str,
 ) -> Result<Vec<Value>, AllocError>
-    ensures { IfOk result (λ values. map view values.items ≡ found_among D.says held.now (documents_view D.text_of documents.now)) }
+    ensures { IfOk result (λ values. map view values.items ≡ found_among (D.says surroundings.now) held.now (documents_view D.text_of documents.now)) }
 {
     let mut values = Vec::new(alloc);
     for document in documents {
-        push_found(alloc, &mut values, document, held)?;
+        push_found(alloc, surroundings, &mut values, document, held)?;
     }
     Ok(values)
 }
@@ -329,20 +345,23 @@ pub fn search<D: HeldText>(
 // What comes of a question of a client about a document, or `None` if it is out of date.
 fn ask_current<D: HeldText>(
     alloc: Global,
+    surroundings: &D::Surroundings,
     client: Client,
     document: &mut Opened<D>,
     question: Question<'_>,
 ) -> Result<Option<Reply>, AllocError>
     ensures document { OnOk result (open_view D.text_of document.new ≡ open_view D.text_of document.old) }
     ensures reply { IfOk result (λ reply. option_map reply_view reply ≡ option_map
-        (λ document. D.says.answers client document.text document.uri (question_view question.entry))
+        (λ document. (D.says surroundings.now).answers client document.text document.uri (question_view question.entry))
         (current_of (Some (open_view D.text_of document.old)))) }
 {
     if !document.is_current {
         return Ok(None);
     }
     let uri = document.uri.as_str();
-    let reply = document.source.answer(alloc, client, uri, question)?;
+    let reply = document
+        .source
+        .answer(alloc, surroundings, client, uri, question)?;
     Ok(Some(reply))
 }
 
@@ -353,6 +372,7 @@ fn ask_current<D: HeldText>(
 /// Out of memory.
 pub fn ask<D: HeldText>(
     alloc: Global,
+    surroundings: &D::Surroundings,
     client: Client,
     documents: &mut Vec<Opened<D>>,
     uri: &str,
@@ -360,13 +380,13 @@ pub fn ask<D: HeldText>(
 ) -> Result<Option<Reply>, AllocError>
     ensures documents { OnOk result (documents_view D.text_of documents.new.items ≡ documents_view D.text_of documents.old.items) }
     ensures reply { IfOk result (λ reply. option_map reply_view reply ≡ option_map
-        (λ document. D.says.answers client document.text document.uri (question_view question.entry))
+        (λ document. (D.says surroundings.now).answers client document.text document.uri (question_view question.entry))
         (current_of (open_at uri.now (documents_view D.text_of documents.old.items)))) }
 {
     match find(documents, uri) {
         None => Ok(None),
         Some(at) => {
-            let reply = ask_current(alloc, client, &mut documents[at], question)?;
+            let reply = ask_current(alloc, surroundings, client, &mut documents[at], question)?;
             Ok(reply)
         }
     }

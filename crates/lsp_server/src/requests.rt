@@ -44,6 +44,7 @@ fn answer_fresh(alloc: Global, id: &Value, call: &Call<'_>) -> Result<(Phase, Va
 // The answer to a question of a client about a document.
 fn answer_about<D: HeldText>(
     alloc: Global,
+    surroundings: &D::Surroundings,
     client: Client,
     documents: &mut Vec<Opened<D>>,
     id: &Value,
@@ -51,10 +52,10 @@ fn answer_about<D: HeldText>(
     question: Question<'_>,
 ) -> Result<Value, AllocError>
     ensures documents { OnOk result (documents_view D.text_of documents.new.items ≡ documents_view D.text_of documents.old.items) }
-    ensures answer { IfOk result (λ v. view v ≡ answer_data D.says
+    ensures answer { IfOk result (λ v. view v ≡ answer_data (D.says surroundings.now)
         (answered_of (view id.now) client (question_view question.entry) (current_of (open_at uri.now (documents_view D.text_of documents.old.items))))) }
 {
-    match documents::ask(alloc, client, documents, uri, question)? {
+    match documents::ask(alloc, surroundings, client, documents, uri, question)? {
         None => refusal_value(alloc, Some(id), Failure::BadParameters),
         Some(reply) => reply_value(alloc, id, reply),
     }
@@ -63,26 +64,28 @@ fn answer_about<D: HeldText>(
 // The symbols of all documents whose names hold a text.
 fn found_value<D: HeldText>(
     alloc: Global,
+    surroundings: &D::Surroundings,
     documents: &[Opened<D>],
     id: &Value,
     held: &str,
 ) -> Result<Value, AllocError>
-    ensures { IfOk result (λ v. view v ≡ answer_data D.says (searched (view id.now) (documents_view D.text_of documents.now) held.now)) }
+    ensures { IfOk result (λ v. view v ≡ answer_data (D.says surroundings.now) (searched (view id.now) (documents_view D.text_of documents.now) held.now)) }
 {
-    let values = documents::search(alloc, documents, held)?;
+    let values = documents::search(alloc, surroundings, documents, held)?;
     response_value(alloc, id, Value::Array(values))
 }
 
 // What becomes of the phase, and the answer, between `initialize` of a client and `shutdown`.
 fn answer_running<D: HeldText>(
     alloc: Global,
+    surroundings: &D::Surroundings,
     client: Client,
     documents: &mut Vec<Opened<D>>,
     id: &Value,
     call: &Call<'_>,
 ) -> Result<(Phase, Value), AllocError>
     ensures documents { OnOk result (documents_view D.text_of documents.new.items ≡ documents_view D.text_of documents.old.items) }
-    ensures answer { IfOk result (λ r. IsAnswer D.says r
+    ensures answer { IfOk result (λ r. IsAnswer (D.says surroundings.now) r
         (requested_running client (documents_view D.text_of documents.old.items) (view id.now) (asked_view call.now))) }
 {
     match call {
@@ -93,11 +96,11 @@ fn answer_running<D: HeldText>(
         Call::Shutdown => Ok((Phase::Finished, response_value(alloc, id, Value::Null)?)),
         Call::Asked { uri, question } => Ok((
             Phase::Running(client),
-            answer_about(alloc, client, documents, id, uri, *question)?,
+            answer_about(alloc, surroundings, client, documents, id, uri, *question)?,
         )),
         Call::Search { query } => Ok((
             Phase::Running(client),
-            found_value(alloc, documents, id, query)?,
+            found_value(alloc, surroundings, documents, id, query)?,
         )),
         Call::Faulty => Ok((
             Phase::Running(client),
@@ -117,18 +120,21 @@ fn answer_running<D: HeldText>(
 /// Out of memory.
 pub fn answer<D: HeldText>(
     alloc: Global,
+    surroundings: &D::Surroundings,
     documents: &mut Vec<Opened<D>>,
     phase: Phase,
     id: &Value,
     call: &Call<'_>,
 ) -> Result<(Phase, Value), AllocError>
     ensures documents { OnOk result (documents_view D.text_of documents.new.items ≡ documents_view D.text_of documents.old.items) }
-    ensures answer { IfOk result (λ r. IsAnswer D.says r
+    ensures answer { IfOk result (λ r. IsAnswer (D.says surroundings.now) r
         (requested (documents_view D.text_of documents.old.items) phase (view id.now) (asked_view call.now))) }
 {
     match phase {
         Phase::Fresh => answer_fresh(alloc, id, call),
-        Phase::Running(client) => answer_running(alloc, client, documents, id, call),
+        Phase::Running(client) => {
+            answer_running(alloc, surroundings, client, documents, id, call)
+        }
         Phase::Finished | Phase::Ended(_) => {
             Ok((phase, refusal_value(alloc, Some(id), Failure::NoRequest)?))
         }

@@ -3,6 +3,7 @@ ghost use Rattle.std.specs.Prelude.{◌≡◌, ◌++◌, IfOk, OnOk, map, option
 ghost use Rattle.serde_json.specs.View.{view};
 ghost use Rattle.lsp_messages.specs.Views.{message_view, told_view};
 ghost use Rattle.lsp_server.specs.Answers.{answer_data};
+ghost use Rattle.lsp_server.specs.Sayings.{Sayings};
 ghost use Rattle.lsp_server.specs.States.{Answers, documents_view, state_of, status_of};
 ghost use Rattle.lsp_server.specs.Steps.{at_start, due_if, ended_by, phase_told, published_if, publishes_first, publishes_told, replied, step, taken, taken_value, told, told_in};
 ghost use Rattle.lsp_server.specs.inside.Views.{Adds, Steps, Tells};
@@ -54,7 +55,7 @@ fn tell<D: HeldText + Drop>(
     documents: &mut Vec<Opened<D>>,
     notice: &Notice<'_>,
 ) -> Result<Option<Value>, AllocError>
-    ensures { IfOk result (λ answer. Tells D.text_of D.says documents.new.items answer
+    ensures { IfOk result (λ answer. (says : Sayings) → Tells D.text_of says documents.new.items answer
         (told D.place_in client (told_view notice.now) (documents_view D.text_of documents.old.items))) }
 {
     match notice {
@@ -86,7 +87,7 @@ fn tell_in<D: HeldText + Drop>(
     documents: &mut Vec<Opened<D>>,
     notice: &Notice<'_>,
 ) -> Result<Option<Value>, AllocError>
-    ensures { IfOk result (λ answer. Tells D.text_of D.says documents.new.items answer
+    ensures { IfOk result (λ answer. (says : Sayings) → Tells D.text_of says documents.new.items answer
         (told_in D.place_in phase (told_view notice.now) (documents_view D.text_of documents.old.items))) }
 {
     match phase {
@@ -140,14 +141,19 @@ impl<D: HeldText + Drop> Server<D> {
     }
 
     // Takes a message. The answer is what is to be sent, if something is.
-    fn answer(&mut self, message: &Message<'_>) -> Result<Option<Value>, AllocError>
-        ensures { IfOk result (λ answer. Steps D.text_of D.says self.new answer
+    fn answer(
+        &mut self,
+        surroundings: &D::Surroundings,
+        message: &Message<'_>,
+    ) -> Result<Option<Value>, AllocError>
+        ensures { IfOk result (λ answer. Steps D.text_of (D.says surroundings.now) self.new answer
             (step D.place_in (state_of D.text_of self.old) (message_view message.now))) }
     {
         match message {
             Message::Request { id, call } => {
                 let (phase, answer) = requests::answer(
                     self.alloc,
+                    surroundings,
                     &mut self.documents,
                     self.phase,
                     id,
@@ -167,28 +173,34 @@ impl<D: HeldText + Drop> Server<D> {
     }
 
     // Publishes the faults that are due, if that is wanted.
-    fn publish_if(&mut self, wanted: bool, answers: &mut Vec<Value>) -> Result<(), AllocError>
+    fn publish_if(
+        &mut self,
+        surroundings: &D::Surroundings,
+        wanted: bool,
+        answers: &mut Vec<Value>,
+    ) -> Result<(), AllocError>
         ensures state { OnOk result (state_of D.text_of self.new ≡ published_if wanted (state_of D.text_of self.old)) }
         ensures answers { OnOk result (map view answers.new.items
-            ≡ map view answers.old.items ++ map (answer_data D.says) (due_if wanted (state_of D.text_of self.old))) }
+            ≡ map view answers.old.items ++ map (answer_data (D.says surroundings.now)) (due_if wanted (state_of D.text_of self.old))) }
     {
         if !wanted {
             return Ok(());
         }
-        documents::publish(self.alloc, &mut self.documents, answers)?;
+        documents::publish(self.alloc, surroundings, &mut self.documents, answers)?;
         Ok(())
     }
 
     // Takes a message and adds what is to be sent.
     fn push_answer(
         &mut self,
+        surroundings: &D::Surroundings,
         message: &Message<'_>,
         answers: &mut Vec<Value>,
     ) -> Result<(), AllocError>
-        ensures { OnOk result (Adds D.text_of D.says self.new answers.old.items answers.new.items
+        ensures { OnOk result (Adds D.text_of (D.says surroundings.now) self.new answers.old.items answers.new.items
             (step D.place_in (state_of D.text_of self.old) (message_view message.now))) }
     {
-        match self.answer(message)? {
+        match self.answer(surroundings, message)? {
             None => Ok(()),
             Some(answer) => Ok(answers.push(answer)?),
         }
@@ -199,21 +211,29 @@ impl<D: HeldText + Drop> Server<D> {
     ///
     /// # Errors
     /// Out of memory. Nothing is known of the server after that.
-    pub fn take(&mut self, message: &Message<'_>) -> Result<Vec<Value>, AllocError>
-        ensures { IfOk result (λ answers. Answers D.text_of D.says self.new answers.items
+    pub fn take(
+        &mut self,
+        surroundings: &D::Surroundings,
+        message: &Message<'_>,
+    ) -> Result<Vec<Value>, AllocError>
+        ensures { IfOk result (λ answers. Answers D.text_of (D.says surroundings.now) self.new answers.items
             (taken D.place_in (state_of D.text_of self.old) (message_view message.now))) }
     {
         let mut answers = Vec::new(self.alloc);
         let first = publishes_first(message);
-        self.publish_if(first, &mut answers)?;
-        self.push_answer(message, &mut answers)?;
+        self.publish_if(surroundings, first, &mut answers)?;
+        self.push_answer(surroundings, message, &mut answers)?;
         Ok(answers)
     }
 
     // Takes the value of a body, or `None` for a body that is not JSON or too long. The result is
     // what is to be sent.
-    fn take_value(&mut self, value: Option<&Value>) -> Result<Vec<Value>, AllocError>
-        ensures { IfOk result (λ answers. Answers D.text_of D.says self.new answers.items
+    fn take_value(
+        &mut self,
+        surroundings: &D::Surroundings,
+        value: Option<&Value>,
+    ) -> Result<Vec<Value>, AllocError>
+        ensures { IfOk result (λ answers. Answers D.text_of (D.says surroundings.now) self.new answers.items
             (taken_value D.place_in (state_of D.text_of self.old) (option_map (λ d. view d.now) value.entry))) }
     {
         match value {
@@ -224,7 +244,7 @@ impl<D: HeldText + Drop> Server<D> {
             }
             Some(value) => {
                 let message = read_message(self.alloc, value)?;
-                self.take(&message)
+                self.take(surroundings, &message)
             }
         }
     }
@@ -235,12 +255,17 @@ impl<D: HeldText + Drop> Server<D> {
     ///
     /// # Errors
     /// Out of memory. Nothing is known of the server after that.
-    pub fn reply(&mut self, value: Option<&Value>, waits: bool) -> Result<Vec<Value>, AllocError>
-        ensures { IfOk result (λ answers. Answers D.text_of D.says self.new answers.items
+    pub fn reply(
+        &mut self,
+        surroundings: &D::Surroundings,
+        value: Option<&Value>,
+        waits: bool,
+    ) -> Result<Vec<Value>, AllocError>
+        ensures { IfOk result (λ answers. Answers D.text_of (D.says surroundings.now) self.new answers.items
             (replied D.place_in (state_of D.text_of self.old) (option_map (λ d. view d.now) value.entry) waits)) }
     {
-        let mut answers = self.take_value(value)?;
-        self.publish_if(!waits, &mut answers)?;
+        let mut answers = self.take_value(surroundings, value)?;
+        self.publish_if(surroundings, !waits, &mut answers)?;
         Ok(answers)
     }
 }

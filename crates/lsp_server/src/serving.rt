@@ -59,37 +59,40 @@ fn write_answers<W: Write>(
 // Reads a frame and writes the answers. Faults stay due as long as a whole frame waits.
 fn serve_frame<D: HeldText + Drop, I: Input, W: Write>(
     alloc: Global,
+    surroundings: &D::Surroundings,
     server: &mut Server<D>,
     input: &mut I,
     writer: &mut Counted<W>,
 ) -> Result<(), FrameError>
-    ensures turn { OnOk result (Answered D.place_in D.says (I.seen input.old) (I.seen input.new)
+    ensures turn { OnOk result (Answered D.place_in (D.says surroundings.now) (I.seen input.old) (I.seen input.new)
         (observation W.contents writer.old) (observation W.contents writer.new)
         (state_of D.text_of server.old) (state_of D.text_of server.new)) }
-    ensures stops { IfErr result (TurnStops D.place_in D.says (I.seen input.old) (I.seen input.new)
+    ensures stops { IfErr result (TurnStops D.place_in (D.says surroundings.now) (I.seen input.old) (I.seen input.new)
         (observation W.contents writer.old) (observation W.contents writer.new) (state_of D.text_of server.old)) }
 {
     let frame = read_frame(alloc, input)?;
     let waits = holds_frame(alloc, input.ahead())?;
     let value = value_of(alloc, &frame)?;
-    let answers = server.reply(value.as_ref(), waits)?;
+    let answers = server.reply(surroundings, value.as_ref(), waits)?;
     write_answers(alloc, writer, &answers)
 }
 
-/// Replies to frames until `exit` comes, each before more is read. Faults of documents that changed
-/// are published once no whole frame waits in what was read, or before a message that asks for that.
-/// The answer is the status of the process: 0 if `shutdown` came before, else 1.
+/// Replies to frames until `exit` comes, each before more is read, by what else is known. Faults of
+/// documents that changed are published once no whole frame waits in what was read, or before a
+/// message that asks for that. The answer is the status of the process: 0 if `shutdown` came before,
+/// else 1.
 ///
 /// # Errors
 /// `Broken` if the input fails or ends, if it has no frame, if the output fails, and after
 /// 18,446,744,073,709,551,615 frames; `Memory`. The answers to the frames before remain written.
 pub fn serve<D: HeldText + Drop, I: Input, W: Write>(
     alloc: Global,
+    surroundings: &D::Surroundings,
     server: &mut Server<D>,
     input: &mut I,
     writer: &mut Counted<W>,
 ) -> Result<u8, FrameError>
-    ensures { ServingEnds D.place_in D.says (I.seen input.old) (I.seen input.new)
+    ensures { ServingEnds D.place_in (D.says surroundings.now) (I.seen input.old) (I.seen input.new)
         (observation W.contents writer.old) (observation W.contents writer.new)
         (state_of D.text_of server.old) (state_of D.text_of server.new) result }
 {
@@ -98,7 +101,7 @@ pub fn serve<D: HeldText + Drop, I: Input, W: Write>(
         if let Some(status) = server.status() {
             return Ok(status);
         }
-        serve_frame(alloc, server, input, writer)?;
+        serve_frame(alloc, surroundings, server, input, writer)?;
         frames_left -= 1;
     }
     Err(FrameError::Broken)

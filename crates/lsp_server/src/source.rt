@@ -20,8 +20,11 @@ pub trait HeldText {
     // Where a place is in a text.
     ghost place_in: { List ℕ → Position → ℕ };
 
-    // What is reported about a text.
-    ghost says: { Sayings };
+    /// What else is known when something is said of a text.
+    type Surroundings;
+
+    // What is reported about a text, by what else is known.
+    ghost says: { Self.Surroundings → Sayings };
 
     /// Holds a text.
     ///
@@ -53,8 +56,13 @@ pub trait HeldText {
     ///
     /// # Errors
     /// Out of memory. It is not used any more after that.
-    fn diagnostics(&mut self, alloc: Global, client: Client) -> Result<Vec<Value>, AllocError>
-        ensures values { IfOk result (λ values. items_view values.items ≡ says.diagnostics client (text_of self.old)) }
+    fn diagnostics(
+        &mut self,
+        alloc: Global,
+        surroundings: &Self::Surroundings,
+        client: Client,
+    ) -> Result<Vec<Value>, AllocError>
+        ensures values { IfOk result (λ values. items_view values.items ≡ (says surroundings.now).diagnostics client (text_of self.old)) }
         ensures text { OnOk result (text_of self.new ≡ text_of self.old) };
 
     /// What comes of a question of a client about it: the answer, which may have its URI in it, as a
@@ -66,11 +74,13 @@ pub trait HeldText {
     fn answer(
         &mut self,
         alloc: Global,
+        surroundings: &Self::Surroundings,
         client: Client,
         uri: &str,
         question: Question<'_>,
     ) -> Result<Reply, AllocError>
-        ensures reply { IfOk result (λ reply. reply_view reply ≡ says.answers client (text_of self.old) uri.now (question_view question.entry)) }
+        ensures reply { IfOk result (λ reply. reply_view reply
+            ≡ (says surroundings.now).answers client (text_of self.old) uri.now (question_view question.entry)) }
         ensures text { OnOk result (text_of self.new ≡ text_of self.old) };
 
     /// Adds the symbols of it whose names hold a text, as values of the protocol with its URI.
@@ -80,12 +90,13 @@ pub trait HeldText {
     fn push_symbols(
         &self,
         alloc: Global,
+        surroundings: &Self::Surroundings,
         values: &mut Vec<Value>,
         uri: &str,
         held: &str,
     ) -> Result<(), AllocError>
-        ensures { OnOk result (map view values.new.items ≡ map view values.old.items ++ says.symbols (text_of self.now) uri.now held.now) };
+        ensures { OnOk result (map view values.new.items ≡ map view values.old.items ++ (says surroundings.now).symbols (text_of self.now) uri.now held.now) };
 
     // A law: nothing that is said has a float, whose text would not be known.
-    ghost no_floats: { HasNoFloats says };
+    ghost no_floats: { (surroundings : Self.Surroundings) → HasNoFloats (says surroundings) };
 }

@@ -1,5 +1,5 @@
 -- What the source for tests says of a text.
-use Rattle.std.specs.Prelude.{ℕ, List, [], ◌∷◌, Bool, codes, false, length, nat_eq, refl, true, if◌then◌else◌}
+use Rattle.std.specs.Prelude.{ℕ, ◌&&◌, List, [], ◌∷◌, Bool, codes, false, length, nat_eq, refl, true, if◌then◌else◌}
 use Rattle.serde_json.specs.Data.{Data, Items, array, boolean, item, no_items, number, string, unsigned}
 use Rattle.lsp_messages.specs.Messages.{Query, completion, hover, definition, references, symbols, highlights, folding, formatting, rename, prepare_rename, fixes}
 use Rattle.lsp_values.specs.Shapes.{Said, said_answer, said_refusal}
@@ -47,12 +47,12 @@ flag_of client (rename place name) = false
 flag_of client (prepare_rename place) = false
 flag_of client (fixes range wanted) = wanted
 
--- how long a text is, for a client that wants user-defined capabilities
-abbrev pub len_for : Client → List ℕ → ℕ
-len_for client text = if client.user_defined then length text else 0
+-- how long a text is, for a client that wants user-defined capabilities, if lengths are known
+abbrev pub len_for : Bool → Client → List ℕ → ℕ
+len_for lengths client text = if lengths && client.user_defined then length text else 0
 
-abbrev pub diagnostics_of : Client → List ℕ → Items
-diagnostics_of client text = item (number (unsigned (len_for client text))) no_items
+abbrev pub diagnostics_of : Bool → Client → List ℕ → Items
+diagnostics_of lengths client text = item (number (unsigned (len_for lengths client text))) no_items
 
 abbrev pub answer_of : Client → List ℕ → List ℕ → Query → Data
 answer_of client text uri query =
@@ -71,16 +71,16 @@ said_of client text uri query =
 abbrev pub symbols_of : List ℕ → List ℕ → List ℕ → List Data
 symbols_of text uri held = array (item (string uri) (item (number (unsigned (length text))) (item (string held) no_items))) ∷ []
 
-abbrev pub sayings : Sayings
-sayings = record { diagnostics = diagnostics_of; answers = said_of; symbols = symbols_of }
+abbrev pub sayings : Bool → Sayings
+sayings lengths = record { diagnostics = diagnostics_of lengths; answers = said_of; symbols = symbols_of }
 
 no_float_if : (refused : Bool) (client : Client) (text uri : List ℕ) (query : Query)
     → SaidHasNoFloat (if refused then said_refusal NoName else said_answer (answer_of client text uri query))
 no_float_if true client text uri query = tt
 no_float_if false client text uri query = refl
 
-pub sayings_have_no_floats : HasNoFloats sayings
-sayings_have_no_floats = record {
+pub sayings_have_no_floats : (lengths : Bool) → HasNoFloats (sayings lengths)
+sayings_have_no_floats lengths = record {
   diagnostics = λ client text. refl;
   answers = λ client text uri query. no_float_if (nat_eq (length (word_of query)) 0) client text uri query;
   symbols = λ text uri held. refl;

@@ -1,5 +1,5 @@
 //! A source for tests: its one diagnostic is the length of its text, or 0 for a client that does not
-//! want user-defined capabilities, and lines do not count. The
+//! want user-defined capabilities or where lengths are not known, and lines do not count. The
 //! answer to a question about it has the URI, the text, and what was asked: of a rename the new
 //! name, of fixes the start of the range and whether they are wanted, of symbols whether the client
 //! takes them as a hierarchy. A rename to an empty name is refused. Its one symbol has the URI, the
@@ -48,16 +48,23 @@ fn parts_of(client: Client, question: Question<'_>) -> (&str, Position, bool)
 }
 
 // What is reported about a text: how long it is, for a client that wants user-defined
-// capabilities, else 0.
-fn len_for(client: Client, text: &[u8]) -> usize
-    ensures { result ≡ spec.len_for client text.now }
+// capabilities, if lengths are known, else 0.
+fn len_for(lengths: bool, client: Client, text: &[u8]) -> usize
+    ensures { result ≡ spec.len_for lengths client text.now }
 {
-    if client.user_defined { text.len() } else { 0 }
+    if lengths && client.user_defined {
+        text.len()
+    } else {
+        0
+    }
 }
 
 impl HeldText for Measured {
     ghost use Rattle.std.specs.Prelude.{ℕ, List, length, min};
     ghost use Rattle.test_server.specs.Measured.{sayings, sayings_have_no_floats};
+
+    /// Whether lengths are known.
+    type Surroundings = bool;
 
     ghost text_of = { λ source. source.text.items };
 
@@ -84,9 +91,14 @@ impl HeldText for Measured {
         place.column.min(text.len())
     }
 
-    fn diagnostics(&mut self, alloc: Global, client: Client) -> Result<Vec<Value>, AllocError> {
+    fn diagnostics(
+        &mut self,
+        alloc: Global,
+        lengths: &bool,
+        client: Client,
+    ) -> Result<Vec<Value>, AllocError> {
         let mut values = Vec::new(alloc);
-        let len = len_for(client, self.text.as_slice());
+        let len = len_for(*lengths, client, self.text.as_slice());
         values.push(json!(in alloc; len)?)?;
         Ok(values)
     }
@@ -94,6 +106,7 @@ impl HeldText for Measured {
     fn answer(
         &mut self,
         alloc: Global,
+        _lengths: &bool,
         client: Client,
         uri: &str,
         question: Question<'_>,
@@ -109,6 +122,7 @@ impl HeldText for Measured {
     fn push_symbols(
         &self,
         alloc: Global,
+        _lengths: &bool,
         values: &mut Vec<Value>,
         uri: &str,
         held: &str,

@@ -111,7 +111,7 @@ fn expect_session(rt: &impl Abort, alloc: Global, session: &Session) -> Result<(
     )?;
     let mut writer = Counted::new(Vec::new(alloc));
     let mut server: Server<Measured> = Server::new(alloc);
-    let end = serve(alloc, &mut server, &mut input, &mut writer);
+    let end = serve(alloc, &true, &mut server, &mut input, &mut writer);
     let writer = writer.into_inner();
     let name = session.name;
     assert!(rt; end == session.end, "{name}");
@@ -679,13 +679,34 @@ fn nesting_of_127_is_json(rt: HostRuntime) -> Result<(), Fail> {
         let mut input = Buffered::new(alloc, input.as_slice())?;
         let mut writer = Counted::new(Vec::new(alloc));
         let mut server: Server<Measured> = Server::new(alloc);
-        let end = serve(alloc, &mut server, &mut input, &mut writer);
+        let end = serve(alloc, &true, &mut server, &mut input, &mut writer);
         assert!(rt; end == Err(FrameError::Broken), "{depth}");
         assert!(rt;
             writer.into_inner().as_slice() == frames_of(alloc, &[want])?.as_slice(),
             "{depth}"
         );
     }
+    Ok(())
+}
+
+#[test]
+fn what_else_is_known_is_handed_on(rt: HostRuntime) -> Result<(), Fail> {
+    let alloc = rt.alloc();
+    let input = frames_of(alloc, &[INITIALIZE, OPEN, SHUTDOWN, EXIT])?;
+    let want = frames_of(
+        alloc,
+        &[
+            READY,
+            r#"{"jsonrpc":"2.0","method":"textDocument/publishDiagnostics","params":{"diagnostics":[0],"uri":"u","version":1}}"#,
+            DONE,
+        ],
+    )?;
+    let mut input = Buffered::new(alloc, input.as_slice())?;
+    let mut writer = Counted::new(Vec::new(alloc));
+    let mut server: Server<Measured> = Server::new(alloc);
+    let end = serve(alloc, &false, &mut server, &mut input, &mut writer);
+    assert!(rt; end == Ok(0));
+    assert!(rt; writer.into_inner().as_slice() == want.as_slice());
     Ok(())
 }
 
@@ -709,7 +730,7 @@ fn expect_input_stops(
     )?;
     let mut writer = Counted::new(Vec::new(alloc));
     let mut server: Server<Measured> = Server::new(alloc);
-    let stop = serve(alloc, &mut server, &mut input, &mut writer);
+    let stop = serve(alloc, &true, &mut server, &mut input, &mut writer);
     let written = writer.into_inner();
     assert!(rt; stop == Err(FrameError::Broken), "at {reads_left}: {end:?}");
     assert!(rt;
@@ -755,7 +776,7 @@ fn expect_output_stops(
     let taken = Vec::new(alloc);
     let mut writer = Counted::new(Narrow { taken, room, end });
     let mut server: Server<Measured> = Server::new(alloc);
-    let stop = serve(alloc, &mut server, &mut input, &mut writer);
+    let stop = serve(alloc, &true, &mut server, &mut input, &mut writer);
     let taken = writer.into_inner().taken;
     assert!(rt; stop == Err(FrameError::Broken), "at {room}: {end:?}");
     assert!(rt;

@@ -120,7 +120,7 @@ fn expect_waiting(rt: &impl Abort, alloc: Global, session: &Session) -> Result<(
     let mut input = Buffered::new(alloc, input.as_slice())?;
     let mut writer = Counted::new(Vec::new(alloc));
     let mut server: Server<Measured> = Server::new(alloc);
-    let end = serve(alloc, &mut server, &mut input, &mut writer);
+    let end = serve(alloc, &true, &mut server, &mut input, &mut writer);
     let writer = writer.into_inner();
     let name = session.name;
     assert!(rt; end == session.end, "{name}");
@@ -141,7 +141,7 @@ fn written(alloc: Global, first: &[u8], second: &[u8]) -> Result<Vec<u8>, AllocE
     let mut input = Buffered::new(alloc, first.chain(second))?;
     let mut writer = Counted::new(Vec::new(alloc));
     let mut server: Server<Measured> = Server::new(alloc);
-    let _end = serve(alloc, &mut server, &mut input, &mut writer);
+    let _end = serve(alloc, &true, &mut server, &mut input, &mut writer);
     Ok(writer.into_inner())
 }
 

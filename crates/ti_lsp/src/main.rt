@@ -69,5 +69,5 @@ fn serve_buffered<R: Input + Print + AllocGlobal>(rt: &R) -> Result<u8, FrameErr
     let mut server: Server<Terminfo> = Server::new(rt.alloc());
     let mut input = Buffered::new(rt.alloc(), rt.reader())?;
     let mut writer = Counted::new(io::writer(rt));
-    serve(rt.alloc(), &mut server, &mut input, &mut writer)
+    serve(rt.alloc(), &(), &mut server, &mut input, &mut writer)
 }

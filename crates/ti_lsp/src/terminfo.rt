@@ -72,13 +72,16 @@ impl HeldText for Terminfo {
     ghost use Rattle.ti_lsp.specs.Answers.{sayings};
     ghost use Rattle.ti_lsp.specs.Floats.{sayings_have_no_floats};
 
+    // Nothing else is known.
+    type Surroundings = ();
+
     ghost text_of = { λ source. source.document };
 
     ghost place_in = { place_of };
 
-    ghost says = { sayings };
+    ghost says = { λ known. sayings };
 
-    ghost no_floats = { sayings_have_no_floats };
+    ghost no_floats = { λ known. sayings_have_no_floats };
 
     fn open(alloc: Global, text: Vec<u8>) -> Result<Terminfo, AllocError> {
         let document = Document::open(alloc, text)?;
@@ -101,7 +104,12 @@ impl HeldText for Terminfo {
         offset_of(text, place)
     }
 
-    fn diagnostics(&mut self, alloc: Global, client: Client) -> Result<Vec<Value>, AllocError> {
+    fn diagnostics(
+        &mut self,
+        alloc: Global,
+        _known: &(),
+        client: Client,
+    ) -> Result<Vec<Value>, AllocError> {
         let capabilities = capabilities_of(client);
         if client.hints {
             hinted_values(alloc, capabilities, &mut self.document, &mut self.kept)
@@ -113,6 +121,7 @@ impl HeldText for Terminfo {
     fn answer(
         &mut self,
         alloc: Global,
+        _known: &(),
         client: Client,
         uri: &str,
         question: Question<'_>,
@@ -152,6 +161,7 @@ impl HeldText for Terminfo {
     fn push_symbols(
         &self,
         alloc: Global,
+        _known: &(),
         values: &mut Vec<Value>,
         uri: &str,
         held: &str,

@@ -9,7 +9,9 @@ use Rattle.lsp_server.specs.Steps.{Open}
 use Rattle.lsp_server.proofs.documents.publish.Goals as goal
 
 pub loop-at-init : goal.loop-at-init
-loop-at-init g c = Published-none g.D.HeldText.says (documents_view g.D.HeldText.text_of c.args.documents.now.items) (map view c.args.values.now.items)
+loop-at-init g c =
+    let says = g.D.HeldText.says c.args.surroundings.now in
+    Published-none says (documents_view g.D.HeldText.text_of c.args.documents.now.items) (map view c.args.values.now.items)
 
 pub loop-at-preserved : goal.loop-at-preserved
 loop-at-preserved g c =
@@ -22,7 +24,7 @@ loop-at-preserved g c =
     let low : at < length documents = grind (arith, common_steps) in
     let within : at < length seen = omega (arith, low, length-map documents f) in
     let changed = ap (λ (d : Open). set seen at d) c.in_ok-publish_one.ensures.document in
-    Published-more g.D.HeldText.says _ seen _ _ _ _ at here c.loop-at.invariant within here found
+    Published-more (g.D.HeldText.says c.args.surroundings.now) _ seen _ _ _ _ at here c.loop-at.invariant within here found
     (map-set f documents at c.publish_one.new.document ∙ changed) c.in_ok-publish_one.ensures.values
 
 pub returns-clause-documents : goal.returns-clause-documents

@@ -8,7 +8,7 @@ use Rattle.lsp_server.proofs.serving.serve.Goals as goal
 
 pub loop-frames_left-init : goal.loop-frames_left-init
 loop-frames_left-init g c =
-    Progress-none g.D.HeldText.place_in g.D.HeldText.says (state_of g.D.HeldText.text_of c.args.server.now)
+    Progress-none g.D.HeldText.place_in (g.D.HeldText.says c.args.surroundings.now) (state_of g.D.HeldText.text_of c.args.server.now)
     (g.I.Input.seen c.args.input.now) (observation g.W.Write.contents c.args.writer.now)
 
 pub returns-in-Some : goal.returns-in-Some

@@ -39,7 +39,7 @@ returns-in_err-waits-clause-stops g c =
 pub returns : goal.returns
 returns g c =
     let places = g.D.HeldText.place_in in
-    let says = g.D.HeldText.says in
+    let says = g.D.HeldText.says c.args.surroundings.now in
     let start = state_of g.D.HeldText.text_of c.args.server.now in
     let value = option_map view c.in_ok-value.value in
     let came : option_map (λ d. view d.now) c.as_ref.result ≡ option_map view c.in_ok-value.value =
@@ -50,7 +50,7 @@ returns g c =
     let sent : map view c.deref.result.now ≡ map (answer_data says) (replied places start value c.in_ok-waits.waits).1 =
     ap (map view) c.deref.ensures.value ∙ answered.1 in
     let ends = rw sent at c.write_answers.ensures in
-    let written = ends (plain_replied says places start value c.in_ok-waits.waits g.met.D.HeldText.no_floats) in
+    let written = ends (plain_replied says places start value c.in_ok-waits.waits (g.met.D.HeldText.no_floats c.args.surroundings.now)) in
     record {
       turn = turn_answered places says _ _ _ start _ _ c.in_ok-frame.frame turn
           c.in_ok-frame.ensures.read c.in_ok-value.ensures waits answered.0 c.write_answers.result written;

@@ -7,7 +7,7 @@ use Rattle.lsp_server.proofs.server.Server.reply.Goals as goal
 
 pub returns : goal.returns
 returns g c =
-    let says = g.D.HeldText.says in
+    let says = g.D.HeldText.says c.args.surroundings.now in
     let after = taken_value g.D.HeldText.place_in (state_of g.D.HeldText.text_of c.args.self.now) (option_map (λ d. view d.now) c.args.value) in
     let made = c.in_ok-answers.ensures in
     let settled = rw made.0 at c.in_ok-publish_if.ensures in

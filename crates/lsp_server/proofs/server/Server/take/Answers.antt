@@ -9,7 +9,7 @@ use Rattle.lsp_server.proofs.server.Server.take.Goals as goal
 
 pub returns : goal.returns
 returns g c =
-    let says = g.D.HeldText.says in
+    let says = g.D.HeldText.says c.args.surroundings.now in
     let start = state_of g.D.HeldText.text_of c.args.self.now in
     let message = message_view c.args.message.now in
     let first = publishes_first message in
