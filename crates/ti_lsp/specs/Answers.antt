@@ -1,5 +1,5 @@
 -- The answers to questions about a terminfo source, as values of the protocol (LSP 3.17).
-use Rattle.std.specs.Prelude.{ℕ, List, [], Bool, false, true, Option, None, Some, codes, map}
+use Rattle.std.specs.Prelude.{ℕ, List, [], ◌++◌, Bool, false, true, Option, None, Some, codes, map}
 use Rattle.serde_json.specs.Data.{Data, array, null}
 use Rattle.serde_json.specs.View.{items_of}
 use Rattle.lsp_messages.specs.Messages.{Query, completion, hover, definition, references, symbols, highlights, folding, formatting, rename, prepare_rename, fixes}
@@ -12,14 +12,13 @@ use Rattle.lsp_diagnostics.specs.declared.capabilities.Capabilities.{Capabilitie
 use Rattle.lsp_blocks.specs.Symbols.{SymbolSeen, symbols_of}
 use Rattle.lsp_features.specs.Completions.{CompletionSeen, OffersSeen, completion_of, offers_capabilities, offers_names}
 use Rattle.lsp_features.specs.Formatting.{layout_of}
-use Rattle.lsp_features.specs.Explaining.{explanation_of}
-use Rattle.lsp_features.specs.Hovers.{hover_of}
 use Rattle.lsp_format.specs.Folds.{folds_of}
 use Rattle.ti_lsp.specs.Fixes.{fixes_data}
 use Rattle.lsp_features.specs.Names.{definition_of, references_of}
 use Rattle.lsp_features.specs.Renaming.{RenamingSeen, refuses, renamable_at, renames, renames_nothing, renaming_of}
 use Rattle.lsp_server.specs.Sayings.{Sayings}
-use Rattle.ti_lsp.specs.Hovers.{hover_shown}
+use Rattle.ti_lsp.specs.Hovers.{hover_at}
+use Rattle.ti_lsp.specs.InstalledOffers.{installed_items}
 use Rattle.ti_lsp.specs.Laying.{folds_data, layout_data}
 use Rattle.ti_lsp.specs.Offers.{capability_items}
 use Rattle.ti_lsp.specs.Searching.{searched}
@@ -52,16 +51,18 @@ highlights_data ranges = array (items_of (map highlight_data ranges))
 abbrev pub entry_item : Range → List ℕ → Data
 entry_item range name = item_data items.Entry name (codes "entry") None range
 
--- the items of what is offered in a source that may have these capabilities, each put in place of a
--- range
-abbrev pub offered_items : Capabilities → Range → OffersSeen → List Data
-offered_items capabilities range offers_capabilities = capability_items capabilities range
-offered_items capabilities range (offers_names names) = map (entry_item range) names
+-- the items of what is offered in a text that may have these capabilities, where these names are
+-- installed, each put in place of a range
+abbrev pub offered_items : Capabilities → List (List ℕ) → List ℕ → Range → OffersSeen → List Data
+offered_items capabilities installed text range offers_capabilities = capability_items capabilities range
+offered_items capabilities installed text range (offers_names names) =
+    map (entry_item range) names ++ installed_items capabilities installed text range
 
 -- what completes a word; no items where no word is completed
-abbrev pub completion_data : Capabilities → Option CompletionSeen → Data
-completion_data capabilities None = list_data (items_of [])
-completion_data capabilities (Some found) = list_data (items_of (offered_items capabilities found.range found.offers))
+abbrev pub completion_data : Capabilities → List (List ℕ) → List ℕ → Option CompletionSeen → Data
+completion_data capabilities installed text None = list_data (items_of [])
+completion_data capabilities installed text (Some found) =
+    list_data (items_of (offered_items capabilities installed text found.range found.offers))
 
 -- edits that put a name in place of parts of a text
 abbrev pub edits_data : List ℕ → List ℕ → List Range → Data
@@ -78,19 +79,21 @@ abbrev pub renamable_data : Option Range → Data
 renamable_data None = null
 renamable_data (Some range) = range_data range
 
--- what comes of a question of a client about a text, under the URI of its document
-abbrev pub answer_of : Client → List ℕ → List ℕ → Query → Said
-answer_of client text uri (completion place) = said_answer (completion_data (capabilities_of client) (completion_of text place))
-answer_of client text uri (hover place) = said_answer (hover_shown (hover_of (capabilities_of client) text place) (explanation_of text place))
-answer_of client text uri (definition place) = said_answer (definition_data uri (definition_of text place))
-answer_of client text uri (references place with_declaration) = said_answer (references_data uri (references_of text place with_declaration))
-answer_of client text uri symbols = said_answer (outline_data client.nests_symbols uri (symbols_of text))
-answer_of client text uri (highlights place) = said_answer (highlights_data (references_of text place true))
-answer_of client text uri folding = said_answer (folds_data (folds_of text))
-answer_of client text uri formatting = said_answer (layout_data (layout_of text))
-answer_of client text uri (rename place name) = renamed_said uri name (renaming_of text place name)
-answer_of client text uri (prepare_rename place) = said_answer (renamable_data (renamable_at text place))
-answer_of client text uri (fixes range wanted) = said_answer (fixes_data (capabilities_of client) text uri range wanted)
+-- what comes of a question of a client about a text, under the URI of its document, where these names
+-- are installed
+abbrev pub answer_of : List (List ℕ) → Client → List ℕ → List ℕ → Query → Said
+answer_of installed client text uri (completion place) = said_answer (completion_data (capabilities_of client) installed text (completion_of text place))
+answer_of installed client text uri (hover place) = said_answer (hover_at (capabilities_of client) installed text place)
+answer_of installed client text uri (definition place) = said_answer (definition_data uri (definition_of text place))
+answer_of installed client text uri (references place with_declaration) = said_answer (references_data uri (references_of text place with_declaration))
+answer_of installed client text uri symbols = said_answer (outline_data client.nests_symbols uri (symbols_of text))
+answer_of installed client text uri (highlights place) = said_answer (highlights_data (references_of text place true))
+answer_of installed client text uri folding = said_answer (folds_data (folds_of text))
+answer_of installed client text uri formatting = said_answer (layout_data (layout_of text))
+answer_of installed client text uri (rename place name) = renamed_said uri name (renaming_of text place name)
+answer_of installed client text uri (prepare_rename place) = said_answer (renamable_data (renamable_at text place))
+answer_of installed client text uri (fixes range wanted) = said_answer (fixes_data (capabilities_of client) installed text uri range wanted)
 
-abbrev pub sayings : Sayings
-sayings = record { diagnostics = shown_of; answers = answer_of; symbols = searched }
+-- what is said where these names are installed
+abbrev pub sayings : List (List ℕ) → Sayings
+sayings installed = record { diagnostics = shown_of installed; answers = answer_of installed; symbols = searched }

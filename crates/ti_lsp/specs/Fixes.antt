@@ -1,5 +1,6 @@
 -- What is offered against a fault, as the server says it (own; LSP 3.17, "Code Action Request").
-use Rattle.std.specs.Prelude.{ℕ, Bool, false, true, List, [], ◌++◌, codes, map, if◌then◌else◌}
+use Rattle.std.specs.Prelude.{ℕ, Bool, false, true, not, List, [], ◌∷◌, ◌++◌, codes, map, if◌then◌else◌}
+use Rattle.std.specs.List.{flat_map}
 use Rattle.serde_json.specs.Data.{Data, Items, array}
 use Rattle.serde_json.specs.View.{items_of}
 use Rattle.ti_caps.specs.declared.capability.Kind.{Kind}
@@ -8,6 +9,8 @@ use Rattle.lsp_values.specs.Shapes.{action_data}
 use Rattle.lsp_fixes.specs.Edits.{AdviceSeen, advises_name, advises_sign, advises_spelling, advises_caret}
 use Rattle.lsp_document.specs.Diagnostics.{Shown, diagnostics_by}
 use Rattle.lsp_diagnostics.specs.declared.capabilities.Capabilities.{Capabilities}
+use Rattle.lsp_diagnostics.specs.declared.capabilities.Capabilities.TheVariants.{UserDefined}
+use Rattle.lsp_installed.specs.Names.{is_among}
 use Rattle.lsp_fixes.specs.Fixes.{FixSeen, fixes_of}
 use Rattle.lsp_fixes.specs.Resolving.{resolved_by}
 use Rattle.lsp_types.specs.declared.places.Range.{Range}
@@ -44,12 +47,24 @@ abbrev pub fix_shown : List ℕ → List ℕ → List Shown → FixSeen → Data
 fix_shown text uri all fix =
     action_data uri (advice_title fix.advice fix.text) fix.range fix.text (is_certain fix.advice) (resolved_shown text all fix)
 
--- some fixes of it
-abbrev pub fixes_shown : List ℕ → List ℕ → List Shown → List FixSeen → List Data
-fixes_shown text uri all fixes = map (fix_shown text uri all) fixes
+-- whether a fix is offered in a source that may have these capabilities, where these names are
+-- installed: not in place of a name that is installed
+abbrev pub is_offered : Capabilities → List (List ℕ) → AdviceSeen → Bool
+is_offered UserDefined installed (advises_name name) = not (is_among installed name)
+is_offered _ installed _ = true
+
+-- a fix of a text, if it is offered there
+abbrev pub if_offered : Capabilities → List (List ℕ) → List ℕ → List ℕ → List Shown → FixSeen → List Data
+if_offered capabilities installed text uri all fix =
+    if is_offered capabilities installed fix.advice then fix_shown text uri all fix ∷ [] else []
+
+-- those of some fixes of it that are offered
+abbrev pub fixes_shown : Capabilities → List (List ℕ) → List ℕ → List ℕ → List Shown → List FixSeen → List Data
+fixes_shown capabilities installed text uri all fixes = flat_map (if_offered capabilities installed text uri all) fixes
 
 -- the fixes for a range of a text that may have these capabilities, which is that of the document of
 -- that URI, if they are asked for
-abbrev pub fixes_data : Capabilities → List ℕ → List ℕ → Range → Bool → Data
-fixes_data capabilities text uri range wanted =
-    array (items_of (if wanted then fixes_shown text uri (diagnostics_by capabilities text) (fixes_of capabilities text range) else []))
+abbrev pub fixes_data : Capabilities → List (List ℕ) → List ℕ → List ℕ → Range → Bool → Data
+fixes_data capabilities installed text uri range wanted =
+    array (items_of (if wanted
+    then fixes_shown capabilities installed text uri (diagnostics_by capabilities text) (fixes_of capabilities text range) else []))

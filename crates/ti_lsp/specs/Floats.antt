@@ -1,4 +1,6 @@
 -- No diagnostic and no answer has a float.
+use Rattle.std.specs.List.{flat_map}
+use Rattle.lsp_document.specs.Documents.{held}
 use Rattle.std.specs.Prelude.{ℕ, ◌≡◌, Bool, cond, List, [], ◌∷◌, ◌++◌, false, true, Option, None, Some, map, refl}
 use Rattle.serde_json.specs.Data.{Data, Items}
 use Rattle.serde_json.specs.View.{items_of}
@@ -19,7 +21,7 @@ use Rattle.lsp_fixes.specs.Fixes.{FixSeen, fixes_of}
 use Rattle.lsp_fixes.specs.Resolving.{resolved_by}
 use Rattle.lsp_format.specs.Folds.{folds_of}
 use Rattle.lsp_format.specs.declared.folding.Fold.{Fold}
-use Rattle.ti_lsp.specs.Fixes.{advice_title, fixes_data, fixes_shown, is_certain, resolved_shown}
+use Rattle.ti_lsp.specs.Fixes.{advice_title, fix_shown, fixes_data, fixes_shown, is_certain, is_offered as is_offered_fix, resolved_shown}
 use Rattle.lsp_messages.specs.Messages.{Query, completion, hover, definition, references, symbols, highlights, folding, formatting, rename, prepare_rename, fixes}
 use Rattle.lsp_values.specs.Shapes.{action_data, folding_data, highlight_data, location_data, symbol_information_data, text_edit_data}
 use Rattle.lsp_messages.specs.declared.clients.Client.{Client}
@@ -27,26 +29,39 @@ use Rattle.lsp_types.specs.declared.places.Range.{Range}
 use Rattle.lsp_server.specs.Sayings.{HasNoFloats, SaidHasNoFloat}
 use Rattle.ti_lsp.specs.Answers.{answer_of, completion_data, definition_data, entry_item, offered_items, renamable_data, renamed_said, sayings, symbol_shown}
 use Rattle.ti_lsp.specs.Hovers.{hover_shown}
+use Rattle.ti_lsp.specs.InstalledOffers.{if_offered, installed_item, installed_items, is_offered, typed_in}
 use Rattle.ti_lsp.specs.Laying.{fold_data, layout_data}
 use Rattle.ti_lsp.specs.Offers.{all_capabilities, capability_item, described_item, is_obsolete, user_item, user_items}
 use Rattle.ti_lsp.specs.Searching.{holds, symbols_found}
-use Rattle.ti_lsp.specs.Shown.{capabilities_of, remark_data, shown_by, shown_data, shown_of}
-use Rattle.lsp_remarks.specs.Remarks.{SeenRemark, remarks_of}
+use Rattle.ti_lsp.specs.Shown.{capabilities_of, found_by, hinted_data, remark_data, shown_by, shown_data, shown_of, use_data}
+use Rattle.lsp_installed.specs.Findings.{Found}
+use Rattle.lsp_remarks.specs.Hints.{SeenHints, text_hints}
+use Rattle.lsp_remarks.specs.Remarks.{SeenRemark, remarks_by}
 
 none_in : (all : List Shown) → items_have_float (items_of (map shown_data all)) ≡ false
 none_in [] = refl
 none_in (shown ∷ all) = none_in all
 
-none_in_remarks : (all : List SeenRemark) → items_have_float (items_of (map remark_data all)) ≡ false
-none_in_remarks [] = refl
-none_in_remarks (remark ∷ all) = none_in_remarks all
+none_in_uses : (uses : List Range) → items_have_float (items_of (map use_data uses)) ≡ false
+none_in_uses [] = refl
+none_in_uses (range ∷ uses) = none_in_uses uses
 
-none_in_shown : (hints : Bool) (capabilities : Capabilities) (text : List ℕ) → items_have_float (shown_by hints capabilities text) ≡ false
-none_in_shown true capabilities text = none_in_remarks (remarks_of capabilities text)
-none_in_shown false capabilities text = none_in (diagnostics_by capabilities text)
+-- nor in faults and hints before others that have none
+none_in_remarks : (all : List SeenRemark) (rest : List Data) → items_have_float (items_of rest) ≡ false
+    → items_have_float (items_of (map remark_data all ++ rest)) ≡ false
+none_in_remarks [] rest none = none
+none_in_remarks (remark ∷ all) rest none = none_in_remarks all rest none
 
-shown_have_no_floats : (client : Client) (text : List ℕ) → items_have_float (shown_of client text) ≡ false
-shown_have_no_floats client text = none_in_shown client.hints (capabilities_of client) text
+none_in_hinted : (found : Found) (hints : SeenHints) → items_have_float (items_of (hinted_data found hints)) ≡ false
+none_in_hinted found hints = none_in_remarks (remarks_by found.faults hints) (map use_data found.uses) (none_in_uses found.uses)
+
+none_in_shown : (hints : Bool) (capabilities : Capabilities) (installed : List (List ℕ)) (text : List ℕ)
+    → items_have_float (shown_by hints capabilities installed text) ≡ false
+none_in_shown true capabilities installed text = none_in_hinted (found_by capabilities installed text) (text_hints capabilities text)
+none_in_shown false capabilities installed text = none_in (found_by capabilities installed text).faults
+
+shown_have_no_floats : (installed : List (List ℕ)) (client : Client) (text : List ℕ) → items_have_float (shown_of installed client text) ≡ false
+shown_have_no_floats installed client text = none_in_shown client.hints (capabilities_of client) installed text
 
 none_in_outline : (nests : Bool) (uri : List ℕ) (all : List SymbolSeen) → items_have_float (items_of (map (symbol_shown nests uri) all)) ≡ false
 none_in_outline nests uri [] = refl
@@ -95,23 +110,43 @@ none_in_capabilities : (range : Range) (caps : List Capability) (rest : List Dat
 none_in_capabilities range [] rest none = none
 none_in_capabilities range (cap ∷ caps) rest none = rw (none_in_described (is_obsolete (name_of cap)) range cap) (none_in_capabilities range caps rest none)
 
-none_in_names : (range : Range) (names : List (List ℕ)) → items_have_float (items_of (map (entry_item range) names)) ≡ false
-none_in_names range [] = refl
-none_in_names range (name ∷ names) = none_in_names range names
+-- nor in the items of names before others that have none
+none_in_names : (range : Range) (names : List (List ℕ)) (rest : List Data) → items_have_float (items_of rest) ≡ false
+    → items_have_float (items_of (map (entry_item range) names ++ rest)) ≡ false
+none_in_names range [] rest none = none
+none_in_names range (name ∷ names) rest none = none_in_names range names rest none
 
-none_in_offers : (capabilities : Capabilities) (range : Range) (offers : OffersSeen)
-    → items_have_float (items_of (offered_items capabilities range offers)) ≡ false
-none_in_offers capabilities range offers_capabilities =
+none_in_installed : (blocks : List (List ℕ)) (typed : List ℕ) (range : Range) (names : List (List ℕ))
+    → items_have_float (items_of (flat_map (if_offered blocks typed range) names)) ≡ false
+none_in_installed blocks typed range [] = refl
+none_in_installed blocks typed range (name ∷ names) =
+    let rest = flat_map (if_offered blocks typed range) names in
+    elim (is_offered blocks typed name) as (λ b. items_have_float (items_of (cond b (installed_item range name ∷ []) [] ++ rest)) ≡ false) [
+      | true ↦ none_in_installed blocks typed range names
+      | false ↦ none_in_installed blocks typed range names
+    ]
+
+none_in_installed_items : (capabilities : Capabilities) (installed : List (List ℕ)) (text : List ℕ) (range : Range)
+    → items_have_float (items_of (installed_items capabilities installed text range)) ≡ false
+none_in_installed_items Profile installed text range = refl
+none_in_installed_items UserDefined installed text range = none_in_installed (held text) (typed_in text range) range installed
+
+none_in_offers : (capabilities : Capabilities) (installed : List (List ℕ)) (text : List ℕ) (range : Range) (offers : OffersSeen)
+    → items_have_float (items_of (offered_items capabilities installed text range offers)) ≡ false
+none_in_offers capabilities installed text range offers_capabilities =
     none_in_capabilities range all_capabilities (user_items capabilities range) (none_in_user_items capabilities range)
-none_in_offers capabilities range (offers_names names) = none_in_names range names
+none_in_offers capabilities installed text range (offers_names names) =
+    none_in_names range names (installed_items capabilities installed text range) (none_in_installed_items capabilities installed text range)
 
-none_in_completion : (capabilities : Capabilities) (found : Option CompletionSeen) → has_float (completion_data capabilities found) ≡ false
-none_in_completion capabilities None = refl
-none_in_completion capabilities (Some found) = rw (none_in_offers capabilities found.range found.offers) refl
+none_in_completion : (capabilities : Capabilities) (installed : List (List ℕ)) (text : List ℕ) (found : Option CompletionSeen)
+    → has_float (completion_data capabilities installed text found) ≡ false
+none_in_completion capabilities installed text None = refl
+none_in_completion capabilities installed text (Some found) = rw (none_in_offers capabilities installed text found.range found.offers) refl
 
-none_in_hover : (shown : Option HoverSeen) (said : List ℕ) → has_float (hover_shown shown said) ≡ false
-none_in_hover None said = refl
-none_in_hover (Some shown) said = refl
+none_in_hover : (capabilities : Capabilities) (installed : List (List ℕ)) (shown : Option HoverSeen) (said : List ℕ)
+    → has_float (hover_shown capabilities installed shown said) ≡ false
+none_in_hover capabilities installed None said = refl
+none_in_hover capabilities installed (Some shown) said = refl
 
 none_in_edits : (name : List ℕ) (parts : List Range) → items_have_float (items_of (map (text_edit_data name) parts)) ≡ false
 none_in_edits name [] = refl
@@ -131,29 +166,38 @@ none_in_action : (uri title : List ℕ) (range : Range) (text : List ℕ) (is_pr
 none_in_action uri title range text true diagnostics none = rw none refl
 none_in_action uri title range text false diagnostics none = rw none refl
 
-none_in_fixes : (text uri : List ℕ) (all : List Shown) (offered : List FixSeen) → items_have_float (items_of (fixes_shown text uri all offered)) ≡ false
-none_in_fixes text uri all [] = refl
-none_in_fixes text uri all (fix ∷ offered) =
-    rw (none_in_action uri (advice_title fix.advice fix.text) fix.range fix.text (is_certain fix.advice) (resolved_shown text all fix)
-    (none_in (resolved_by text fix all))) (none_in_fixes text uri all offered)
+none_in_fixes : (capabilities : Capabilities) (installed : List (List ℕ)) (text uri : List ℕ) (all : List Shown) (some : List FixSeen)
+    → items_have_float (items_of (fixes_shown capabilities installed text uri all some)) ≡ false
+none_in_fixes capabilities installed text uri all [] = refl
+none_in_fixes capabilities installed text uri all (fix ∷ some) =
+    let rest = fixes_shown capabilities installed text uri all some in
+    let shown = fix_shown text uri all fix in
+    elim (is_offered_fix capabilities installed fix.advice) as (λ b. items_have_float (items_of (cond b (shown ∷ []) [] ++ rest)) ≡ false) [
+      | true ↦ rw (none_in_action uri (advice_title fix.advice fix.text) fix.range fix.text (is_certain fix.advice) (resolved_shown text all fix)
+          (none_in (resolved_by text fix all))) (none_in_fixes capabilities installed text uri all some)
+      | false ↦ none_in_fixes capabilities installed text uri all some
+    ]
 
-none_in_wanted : (capabilities : Capabilities) (text uri : List ℕ) (range : Range) (wanted : Bool)
-    → has_float (fixes_data capabilities text uri range wanted) ≡ false
-none_in_wanted capabilities text uri range true = none_in_fixes text uri (diagnostics_by capabilities text) (fixes_of capabilities text range)
-none_in_wanted capabilities text uri range false = refl
+none_in_wanted : (capabilities : Capabilities) (installed : List (List ℕ)) (text uri : List ℕ) (range : Range) (wanted : Bool)
+    → has_float (fixes_data capabilities installed text uri range wanted) ≡ false
+none_in_wanted capabilities installed text uri range true =
+    none_in_fixes capabilities installed text uri (diagnostics_by capabilities text) (fixes_of capabilities text range)
+none_in_wanted capabilities installed text uri range false = refl
 
-answers_have_no_floats : (client : Client) (text uri : List ℕ) (query : Query) → SaidHasNoFloat (answer_of client text uri query)
-answers_have_no_floats client text uri (completion place) = none_in_completion (capabilities_of client) (completion_of text place)
-answers_have_no_floats client text uri (hover place) = none_in_hover (hover_of (capabilities_of client) text place) (explanation_of text place)
-answers_have_no_floats client text uri (definition place) = none_in_definition uri (definition_of text place)
-answers_have_no_floats client text uri (references place with_declaration) = none_in_references uri (references_of text place with_declaration)
-answers_have_no_floats client text uri symbols = none_in_outline client.nests_symbols uri (symbols_of text)
-answers_have_no_floats client text uri (highlights place) = none_in_highlights (references_of text place true)
-answers_have_no_floats client text uri folding = none_in_folds (folds_of text)
-answers_have_no_floats client text uri formatting = none_in_layout (layout_of text)
-answers_have_no_floats client text uri (rename place name) = none_in_renaming uri name (renaming_of text place name)
-answers_have_no_floats client text uri (prepare_rename place) = none_in_renamable (renamable_at text place)
-answers_have_no_floats client text uri (fixes range wanted) = none_in_wanted (capabilities_of client) text uri range wanted
+answers_have_no_floats : (installed : List (List ℕ)) (client : Client) (text uri : List ℕ) (query : Query)
+    → SaidHasNoFloat (answer_of installed client text uri query)
+answers_have_no_floats installed client text uri (completion place) = none_in_completion (capabilities_of client) installed text (completion_of text place)
+answers_have_no_floats installed client text uri (hover place) =
+    none_in_hover (capabilities_of client) installed (hover_of (capabilities_of client) text place) (explanation_of text place)
+answers_have_no_floats installed client text uri (definition place) = none_in_definition uri (definition_of text place)
+answers_have_no_floats installed client text uri (references place with_declaration) = none_in_references uri (references_of text place with_declaration)
+answers_have_no_floats installed client text uri symbols = none_in_outline client.nests_symbols uri (symbols_of text)
+answers_have_no_floats installed client text uri (highlights place) = none_in_highlights (references_of text place true)
+answers_have_no_floats installed client text uri folding = none_in_folds (folds_of text)
+answers_have_no_floats installed client text uri formatting = none_in_layout (layout_of text)
+answers_have_no_floats installed client text uri (rename place name) = none_in_renaming uri name (renaming_of text place name)
+answers_have_no_floats installed client text uri (prepare_rename place) = none_in_renamable (renamable_at text place)
+answers_have_no_floats installed client text uri (fixes range wanted) = none_in_wanted (capabilities_of client) installed text uri range wanted
 
 none_in_found : (uri held : List ℕ) (all : List SymbolSeen) → items_have_float (items_of (symbols_found uri held all)) ≡ false
 none_in_found uri held [] = refl
@@ -163,9 +207,9 @@ none_in_found uri held (symbol ∷ all) =
       | false ↦ none_in_found uri held all
     ]
 
-pub sayings_have_no_floats : HasNoFloats sayings
-sayings_have_no_floats = record {
-  diagnostics = shown_have_no_floats;
-  answers = answers_have_no_floats;
+pub sayings_have_no_floats : (installed : List (List ℕ)) → HasNoFloats (sayings installed)
+sayings_have_no_floats installed = record {
+  diagnostics = shown_have_no_floats installed;
+  answers = answers_have_no_floats installed;
   symbols = λ text uri held. none_in_found uri held (symbols_of text);
 }

@@ -1,6 +1,6 @@
 -- What is shown about a position, as a value of the protocol (LSP 3.17, "Hover"); the sentences
 -- are own.
-use Rattle.std.specs.Prelude.{ℕ, List, [], ◌∷◌, ◌++◌, Option, None, Some, codes}
+use Rattle.std.specs.Prelude.{ℕ, List, [], ◌∷◌, ◌++◌, Option, None, Some, codes, if◌then◌else◌}
 use Rattle.std.specs.Fmt.{decimal}
 use Rattle.serde_json.specs.Data.{Data, null}
 use Rattle.ti_caps.specs.Tables.{Capability, name_of}
@@ -9,9 +9,14 @@ use Rattle.lsp_document.specs.Diagnostics.{Shown, label_of_problem}
 use Rattle.lsp_blocks.specs.Deciding.{SourceSeen}
 use Rattle.lsp_blocks.specs.Holdings.{EntrySeen, entry_missing, entry_faulty, entry_held}
 use Rattle.lsp_blocks.specs.declared.holdings.Holding.{Holding}
-use Rattle.lsp_features.specs.Hovers.{AboutSeen, HoverSeen, about_item, about_name, about_user}
+use Rattle.lsp_types.specs.declared.places.Position.{Position}
+use Rattle.lsp_features.specs.Explaining.{explanation_of}
+use Rattle.lsp_features.specs.Hovers.{AboutSeen, HoverSeen, about_item, about_name, about_user, hover_of}
 use Rattle.lsp_features.specs.Meanings.{MeaningSeen, means_cancelled, means_nothing, means_number, means_set, means_text}
 use Rattle.lsp_descriptions.specs.UserDescriptions.{UserDescribed, user_described}
+use Rattle.lsp_diagnostics.specs.declared.capabilities.Capabilities.{Capabilities}
+use Rattle.lsp_diagnostics.specs.declared.capabilities.Capabilities.TheVariants.{Profile, UserDefined}
+use Rattle.lsp_installed.specs.Names.{is_among}
 use Rattle.lsp_descriptions.specs.Words.{detail_of, documentation_of}
 
 -- what an entry holds: its bytes, and how many values of each kind it has
@@ -107,7 +112,37 @@ about_text (about_item c text meaning) = capability_sentence c text meaning
 about_text (about_user name text meaning) = user_sentence name text meaning
 about_text (about_name name entry sources) = name_sentence name entry sources
 
--- what is shown ("Hover"), with what is said of a string there, or null
-abbrev pub hover_shown : Option HoverSeen → List ℕ → Data
-hover_shown None said = null
-hover_shown (Some hover) said = hover_data (about_text hover.about ++ said) hover.range
+-- what is added about a name that no block has, where these are installed
+abbrev pub line_of_missing : List (List ℕ) → List ℕ → List ℕ
+line_of_missing installed name = if is_among installed name then codes "\nInstalled: `ti-tic` takes the installed entry" else []
+
+-- what is added about a name
+abbrev pub line_of_name : List (List ℕ) → List ℕ → EntrySeen → List ℕ
+line_of_name installed name entry_missing = line_of_missing installed name
+line_of_name installed name (entry_faulty cause) = []
+line_of_name installed name (entry_held holding) = []
+
+-- what is added about what a position is on
+abbrev pub line_about : List (List ℕ) → AboutSeen → List ℕ
+line_about installed (about_item c text meaning) = []
+line_about installed (about_user name text meaning) = []
+line_about installed (about_name name entry sources) = line_of_name installed name entry
+
+-- the same in a source that may have these capabilities: in the profile no use is of an installed
+-- entry
+abbrev pub installed_line : Capabilities → List (List ℕ) → AboutSeen → List ℕ
+installed_line Profile installed about = []
+installed_line UserDefined installed about = line_about installed about
+
+-- what a position is on, with what is said of a string there
+abbrev pub full_text : Capabilities → List (List ℕ) → AboutSeen → List ℕ → List ℕ
+full_text capabilities installed about said = about_text about ++ installed_line capabilities installed about ++ said
+
+-- what is shown ("Hover"), or null
+abbrev pub hover_shown : Capabilities → List (List ℕ) → Option HoverSeen → List ℕ → Data
+hover_shown capabilities installed None said = null
+hover_shown capabilities installed (Some hover) said = hover_data (full_text capabilities installed hover.about said) hover.range
+
+-- what is shown about a position of a text
+abbrev pub hover_at : Capabilities → List (List ℕ) → List ℕ → Position → Data
+hover_at capabilities installed text place = hover_shown capabilities installed (hover_of capabilities text place) (explanation_of text place)

@@ -4,6 +4,7 @@ pub mod Command
 pub mod Fixes
 pub mod Floats
 pub mod Hovers
+pub mod InstalledOffers
 pub mod Laying
 pub mod Offers
 pub mod Searching

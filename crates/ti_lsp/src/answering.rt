@@ -1,5 +1,5 @@
 //! Answers to questions about a terminfo source, as values of the protocol.
-ghost use Rattle.std.specs.Prelude.{◌≡◌, IfOk, map, true};
+ghost use Rattle.std.specs.Prelude.{◌≡◌, ◌++◌, IfOk, OnOk, map, true};
 ghost use Rattle.std.specs.String.{string_bytes};
 ghost use Rattle.serde_json.specs.View.{view};
 ghost use Rattle.lsp_blocks.specs.Symbols.{symbol_seen, symbols_of};
@@ -8,10 +8,12 @@ ghost use Rattle.lsp_features.specs.Names.{definition_of, references_of};
 ghost use Rattle.ti_lsp.specs.Answers.{completion_data, definition_data, entry_item, highlights_data, offered_items, outline_data, references_data, symbol_shown};
 ghost use Rattle.lsp_values.specs.Shapes.{highlight_data, location_data};
 
+use crate::installed_offers::push_installed;
 use crate::offers::capability_items;
 use lsp_blocks::{Symbol, symbols_of};
 use lsp_document::{Capabilities, Document};
 use lsp_features::{Offers, completion_of, definition_of, references_of};
+use lsp_installed::Installed;
 use lsp_types::{ItemKind, Position, Range};
 use lsp_values::answers::{
     highlight_value, item_value, list_value, location_value, symbol_information_value, symbol_value,
@@ -188,39 +190,53 @@ fn name_items(alloc: Global, names: &[String], range: Range) -> Result<Vec<Value
     Ok(items)
 }
 
-// The items of what is offered in a source that may have these capabilities, each put in place of a
-// range.
+// The items of what is offered in a source that may have these capabilities, where these names are
+// installed, each put in place of a range.
 fn offered_items(
     alloc: Global,
     capabilities: Capabilities,
+    installed: &Installed,
+    document: &Document,
     offers: &Offers,
     range: Range,
 ) -> Result<Vec<Value>, AllocError>
-    ensures { IfOk result (λ items. map view items.items ≡ offered_items capabilities range (offers_seen offers.now)) }
+    ensures { IfOk result (λ items. map view items.items ≡ offered_items capabilities installed.now document.now range (offers_seen offers.now)) }
 {
     match offers {
         Offers::Capabilities => capability_items(alloc, capabilities, range),
-        Offers::Names(names) => name_items(alloc, names, range),
+        Offers::Names(names) => {
+            let mut items = name_items(alloc, names, range)?;
+            push_installed(alloc, &mut items, capabilities, installed, document, range)?;
+            Ok(items)
+        }
     }
 }
 
-/// What completes the word before a place of a source that may have these capabilities: nothing if
-/// no word is completed.
+/// What completes the word before a place of a source that may have these capabilities, where these
+/// names are installed: nothing if no word is completed.
 ///
 /// # Errors
 /// Out of memory.
 pub fn completion(
     alloc: Global,
     capabilities: Capabilities,
+    installed: &Installed,
     document: &Document,
     place: Position,
 ) -> Result<Value, AllocError>
-    ensures { IfOk result (λ v. view v ≡ completion_data capabilities (completion_of document.now place)) }
+    ensures { IfOk result (λ v. view v ≡ completion_data capabilities installed.now document.now (completion_of document.now place)) }
 {
     match completion_of(alloc, document, place)? {
         None => list_value(alloc, Vec::new(alloc)),
         Some(found) => {
-            let items = offered_items(alloc, capabilities, &found.offers, found.range)?;
+            let items = offered_items(
+                alloc,
+                capabilities,
+                installed,
+                document,
+                &found.offers,
+                found.range,
+            )?;
             list_value(alloc, items)
         }
     }

@@ -1,5 +1,5 @@
 //! What is offered against faults, as values of the protocol.
-ghost use Rattle.std.specs.Prelude.{◌≡◌, IfOk, OnOk, map};
+ghost use Rattle.std.specs.Prelude.{◌≡◌, ◌++◌, IfOk, OnOk, map};
 ghost use Rattle.std.specs.String.{string_bytes};
 ghost use Rattle.serde_json.specs.View.{view};
 ghost use Rattle.lsp_document.specs.Diagnostics.{diagnostic_seen, diagnostics_by};
@@ -7,12 +7,13 @@ ghost use Rattle.lsp_fixes.specs.Edits.{advice_seen};
 ghost use Rattle.lsp_fixes.specs.Fixes as offered;
 ghost use Rattle.lsp_fixes.specs.Fixes.{fix_seen};
 ghost use Rattle.lsp_fixes.specs.Resolving as resolving;
-ghost use Rattle.ti_lsp.specs.Fixes.{advice_title, fix_shown, fixes_data, fixes_shown, is_certain, sign_title};
+ghost use Rattle.ti_lsp.specs.Fixes.{advice_title, fix_shown, fixes_data, fixes_shown, if_offered, is_certain, is_offered, sign_title};
 ghost use Rattle.ti_lsp.specs.Shown.{shown_data};
 
 use crate::showing::value_of;
 use lsp_document::{Capabilities, Diagnostic, Document};
 use lsp_fixes::{Advice, Fix, fixes_of, resolved_by};
+use lsp_installed::Installed;
 use lsp_types::Range;
 use lsp_values::answers::action_value;
 use serde_json::Value;
@@ -54,6 +55,17 @@ fn is_certain(advice: &Advice) -> bool
         Advice::Sign(_) => true,
         Advice::Spelling => true,
         Advice::Caret => true,
+    }
+}
+
+// Whether a fix is offered in a source that may have these capabilities: not in place of a name that
+// is installed.
+fn is_offered(capabilities: Capabilities, installed: &Installed, advice: &Advice) -> bool
+    ensures { result ≡ is_offered capabilities installed.now (advice_seen advice.now) }
+{
+    match (capabilities, advice) {
+        (Capabilities::UserDefined, Advice::Name(name)) => !installed.has(name.as_str()),
+        _ => true,
     }
 }
 
@@ -109,20 +121,51 @@ fn fix_value(
     )
 }
 
-// Fixes of the document of that URI, which has these diagnostics.
+// Adds a fix of the document of that URI, which has these diagnostics, if it is offered.
+fn push_if_offered(
+    alloc: Global,
+    values: &mut Vec<Value>,
+    capabilities: Capabilities,
+    installed: &Installed,
+    document: &Document,
+    uri: &str,
+    all: &[Diagnostic],
+    fix: &Fix,
+) -> Result<(), AllocError>
+    ensures { OnOk result (map view values.new.items ≡ map view values.old.items
+        ++ if_offered capabilities installed.now document.now uri.now (map diagnostic_seen all.now) (fix_seen fix.now)) }
+{
+    if is_offered(capabilities, installed, &fix.advice) {
+        values.push(fix_value(alloc, document, uri, all, fix)?)?;
+    }
+    Ok(())
+}
+
+// Those of fixes that are offered, of the document of that URI, which has these diagnostics.
 fn fix_values(
     alloc: Global,
+    capabilities: Capabilities,
+    installed: &Installed,
     document: &Document,
     uri: &str,
     all: &[Diagnostic],
     fixes: &[Fix],
 ) -> Result<Vec<Value>, AllocError>
     ensures { IfOk result (λ values. map view values.items
-        ≡ fixes_shown document.now uri.now (map diagnostic_seen all.now) (map fix_seen fixes.now)) }
+        ≡ fixes_shown capabilities installed.now document.now uri.now (map diagnostic_seen all.now) (map fix_seen fixes.now)) }
 {
     let mut values = Vec::new(alloc);
     for fix in fixes {
-        values.push(fix_value(alloc, document, uri, all, fix)?)?;
+        push_if_offered(
+            alloc,
+            &mut values,
+            capabilities,
+            installed,
+            document,
+            uri,
+            all,
+            fix,
+        )?;
     }
     Ok(values)
 }
@@ -131,12 +174,14 @@ fn fix_values(
 fn fixes_in(
     alloc: Global,
     capabilities: Capabilities,
+    installed: &Installed,
     document: &mut Document,
     uri: &str,
     range: Range,
 ) -> Result<Vec<Value>, AllocError>
     ensures values { IfOk result (λ values. map view values.items
-        ≡ fixes_shown document.old uri.now (diagnostics_by capabilities document.old) (offered.fixes_of capabilities document.old range)) }
+        ≡ fixes_shown capabilities installed.now document.old uri.now (diagnostics_by capabilities document.old)
+        (offered.fixes_of capabilities document.old range)) }
     ensures text { OnOk result (document.new ≡ document.old) }
 {
     let fixes = fixes_of(alloc, capabilities, document, range)?;
@@ -144,29 +189,30 @@ fn fixes_in(
         return Ok(Vec::new(alloc));
     }
     let all = document.diagnostics_by(alloc, capabilities)?;
-    let values = fix_values(alloc, document, uri, &all, &fixes)?;
+    let values = fix_values(alloc, capabilities, installed, document, uri, &all, &fixes)?;
     Ok(values)
 }
 
-/// What is offered against the faults of a part of a source, which may have these capabilities, if
-/// quick fixes are asked for.
+/// What is offered against the faults of a part of a source, which may have these capabilities,
+/// where these names are installed, if quick fixes are asked for.
 ///
 /// # Errors
 /// Out of memory.
 pub fn fixes(
     alloc: Global,
     capabilities: Capabilities,
+    installed: &Installed,
     document: &mut Document,
     uri: &str,
     range: Range,
     wanted: bool,
 ) -> Result<Value, AllocError>
-    ensures value { IfOk result (λ v. view v ≡ fixes_data capabilities document.old uri.now range wanted) }
+    ensures value { IfOk result (λ v. view v ≡ fixes_data capabilities installed.now document.old uri.now range wanted) }
     ensures text { OnOk result (document.new ≡ document.old) }
 {
     if !wanted {
         return Ok(Value::Array(Vec::new(alloc)));
     }
-    let values = fixes_in(alloc, capabilities, document, uri, range)?;
+    let values = fixes_in(alloc, capabilities, installed, document, uri, range)?;
     Ok(Value::Array(values))
 }

@@ -6,22 +6,27 @@ ghost use Rattle.serde_json.specs.View.{view};
 ghost use Rattle.lsp_blocks.specs.Deciding.{source_seen};
 ghost use Rattle.lsp_blocks.specs.Holdings.{entry_faulty, entry_held, entry_seen};
 ghost use Rattle.lsp_features.specs.Explaining.{explanation_of};
-ghost use Rattle.lsp_features.specs.Hovers.{about_seen, hover_of};
+ghost use Rattle.lsp_features.specs.Hovers.{about_seen};
 ghost use Rattle.lsp_features.specs.Meanings.{meaning_seen};
 ghost use Rattle.lsp_descriptions.specs.UserDescriptions.{user_described};
 ghost use Rattle.lsp_document.specs.Diagnostics.{diagnostic_seen};
-ghost use Rattle.ti_lsp.specs.Hovers.{item_lines, kind_meant, user_facts, user_meaning_text, user_sentence};
-ghost use Rattle.ti_lsp.specs.Hovers.{about_text, capabilities_line, capability_sentence, cause_sentence, entry_sentence, holding_sentence, hover_shown, later_names, meaning_text, name_sentence, source_line, source_lines};
+ghost use Rattle.ti_lsp.specs.Hovers as spec;
+ghost use Rattle.ti_lsp.specs.Hovers.{full_text, hover_at, installed_line, item_lines, kind_meant, line_of_missing, line_of_name, user_facts, user_meaning_text, user_sentence};
+ghost use Rattle.ti_lsp.specs.Hovers.{about_text, capabilities_line, capability_sentence, cause_sentence, entry_sentence, holding_sentence, later_names, meaning_text, name_sentence, source_line, source_lines};
 
 use lsp_blocks::{DecidingBlock, Entry, Holding};
 use lsp_descriptions::{detail_of, documentation_of, user_description};
 use lsp_document::{Capabilities, Diagnostic, Document};
 use lsp_features::{About, Meaning, explanation_of, hover_of};
+use lsp_installed::Installed;
 use lsp_types::Position;
 use lsp_values::answers::hover_value;
 use serde_json::Value;
 use std::alloc::{AllocError, Global};
 use ti_caps::{Cap, name};
+
+// What is added about a name that no block has, if it is installed.
+const INSTALLED: &str = "\nInstalled: `ti-tic` takes the installed entry";
 
 // What an entry holds.
 fn holding_sentence(alloc: Global, holding: Holding) -> Result<String, AllocError>
@@ -230,37 +235,86 @@ fn about_text(alloc: Global, about: &About) -> Result<String, AllocError>
     }
 }
 
-// What a position is on, and what is said of a string there.
+// What is added about a name that no block has.
+fn line_of_missing(installed: &Installed, name: &str) -> &'static str
+    ensures { result.now ≡ line_of_missing installed.now name.now }
+{
+    if installed.has(name) { INSTALLED } else { "" }
+}
+
+// What is added about a name.
+fn line_of_name(installed: &Installed, name: &str, entry: &Entry) -> &'static str
+    ensures { result.now ≡ line_of_name installed.now name.now (entry_seen entry.now) }
+{
+    match entry {
+        Entry::Missing => line_of_missing(installed, name),
+        Entry::Faulty(_) | Entry::Held(_) => "",
+    }
+}
+
+// What is added about a place where these names are installed.
+fn line_about(installed: &Installed, about: &About) -> &'static str
+    ensures { result.now ≡ spec.line_about installed.now (about_seen about.now) }
+{
+    match about {
+        About::Item { .. } | About::UserItem { .. } => "",
+        About::Name { name, entry, .. } => line_of_name(installed, name.as_str(), entry),
+    }
+}
+
+// The same in a source that may have these capabilities.
+fn installed_line(capabilities: Capabilities, installed: &Installed, about: &About) -> &'static str
+    ensures { result.now ≡ installed_line capabilities installed.now (about_seen about.now) }
+{
+    match capabilities {
+        Capabilities::Profile => "",
+        Capabilities::UserDefined => line_about(installed, about),
+    }
+}
+
+// What a position is on, where these names are installed, and what is said of a string there.
 fn full_text(
     alloc: Global,
+    capabilities: Capabilities,
+    installed: &Installed,
     document: &Document,
     place: Position,
     about: &About,
 ) -> Result<String, AllocError>
-    ensures { IfOk result (λ text. string_bytes text ≡ about_text (about_seen about.now) ++ explanation_of document.now place) }
+    ensures { IfOk result (λ text. string_bytes text ≡ full_text capabilities installed.now (about_seen about.now) (explanation_of document.now place)) }
 {
     let mut text = about_text(alloc, about)?;
+    text.push_str(installed_line(capabilities, installed, about))?;
     let said = explanation_of(alloc, document, place)?;
     text.push_str(said.as_str())?;
     Ok(text)
 }
 
-/// What is shown about a position in a source that may have these capabilities.
+/// What is shown about a position in a source that may have these capabilities, where these names
+/// are installed.
 ///
 /// # Errors
 /// Out of memory.
 pub fn hover(
     alloc: Global,
     capabilities: Capabilities,
+    installed: &Installed,
     document: &Document,
     place: Position,
 ) -> Result<Value, AllocError>
-    ensures { IfOk result (λ v. view v ≡ hover_shown (hover_of capabilities document.now place) (explanation_of document.now place)) }
+    ensures { IfOk result (λ v. view v ≡ hover_at capabilities installed.now document.now place) }
 {
     match hover_of(alloc, capabilities, document, place)? {
         None => Ok(Value::Null),
         Some(shown) => {
-            let text = full_text(alloc, document, place, &shown.about)?;
+            let text = full_text(
+                alloc,
+                capabilities,
+                installed,
+                document,
+                place,
+                &shown.about,
+            )?;
             hover_value(alloc, text.as_str(), shown.range)
         }
     }

@@ -1,8 +1,10 @@
 //! The program `ti-lsp`: a language server for terminfo source, over standard input and output.
 //!
 //! - `command`: what the words of the command line ask for
+//! - `environment`: the names of the entries that are installed
 //! - `terminfo`: a source as the server holds and shows it; `answering` answers questions about it,
-//!   `offers` has the capabilities as a completion offers them, `hovering` says what a place is on,
+//!   `offers` has the capabilities as a completion offers them and `installed_offers` the names of
+//!   installed entries, `hovering` says what a place is on,
 //!   `laying` lays out and folds, `renaming` renames, `searching` finds entries by parts of their
 //!   names, `fixing` says what is offered against faults, and `showing` writes diagnostics and
 //!   hints
@@ -10,8 +12,10 @@
 
 mod answering;
 mod command;
+mod environment;
 mod fixing;
 mod hovering;
+mod installed_offers;
 mod laying;
 mod offers;
 mod renaming;
@@ -20,11 +24,12 @@ mod showing;
 mod terminfo;
 
 use crate::command::{Task, asked};
+use crate::environment::installed_names;
 use crate::terminfo::Terminfo;
 use lsp_frames::{Buffered, FrameError};
 use lsp_server::{Server, serve};
 use std::process::ExitCode;
-use std::rt::Env;
+use std::rt::{Env, Files};
 use std::{env, io};
 use tools_devices::Counted;
 
@@ -33,7 +38,7 @@ fn main(rt: HostRuntime) -> ExitCode {
 }
 
 // Does what the command line asks for. The answer is the status of the process.
-fn run<R: Env + Input + Print + Eprint + AllocGlobal>(rt: &R) -> u8 {
+fn run<R: Env + Files + Input + Print + Eprint + AllocGlobal + Clone + Drop>(rt: &R) -> u8 {
     let Ok(words) = words(rt) else {
         return 1;
     };
@@ -57,17 +62,21 @@ fn words<R: Env + AllocGlobal>(rt: &R) -> io::Result<Vec<String>> {
 }
 
 // Replies to what comes on standard input. The answer is the status of the process: 1 at a fault.
-fn serve_input<R: Input + Print + AllocGlobal>(rt: &R) -> u8 {
+fn serve_input<R: Env + Files + Input + Print + AllocGlobal + Clone + Drop>(rt: &R) -> u8 {
     match serve_buffered(rt) {
         Ok(status) => status,
         Err(_) => 1,
     }
 }
 
-// Replies to what comes on standard input, read in pieces.
-fn serve_buffered<R: Input + Print + AllocGlobal>(rt: &R) -> Result<u8, FrameError> {
+// Replies to what comes on standard input, read in pieces. The names of installed entries are read
+// once, before.
+fn serve_buffered<R: Env + Files + Input + Print + AllocGlobal + Clone + Drop>(
+    rt: &R,
+) -> Result<u8, FrameError> {
+    let installed = installed_names(rt)?;
     let mut server: Server<Terminfo> = Server::new(rt.alloc());
     let mut input = Buffered::new(rt.alloc(), rt.reader())?;
     let mut writer = Counted::new(io::writer(rt));
-    serve(rt.alloc(), &(), &mut server, &mut input, &mut writer)
+    serve(rt.alloc(), &installed, &mut server, &mut input, &mut writer)
 }

@@ -11,8 +11,8 @@ use lsp_values::answers::symbol_information_value;
 use serde_json::Value;
 use std::alloc::{AllocError, Global};
 
-// Whether a text begins with another, whatever the case of its letters.
-fn begins_alike(text: &[u8], held: &[u8]) -> bool
+/// Whether a text begins with another, whatever the case of its letters.
+pub fn begins_alike(text: &[u8], held: &[u8]) -> bool
     ensures { result ≡ begins_alike held.now text.now }
 {
     if text.len() < held.len() {

@@ -1,5 +1,5 @@
 //! A terminfo source as the server holds and shows it.
-ghost use Rattle.std.specs.Prelude.{◌≡◌, IfOk, false, true};
+ghost use Rattle.std.specs.Prelude.{◌≡◌, IfOk, OnOk, false, true};
 ghost use Rattle.serde_json.specs.View.{items_view};
 ghost use Rattle.ti_lsp.specs.Shown.{capabilities_of, shown_by};
 
@@ -9,8 +9,9 @@ use crate::hovering::hover;
 use crate::laying::{folds, layout};
 use crate::renaming::{renamable, renamed};
 use crate::searching::search;
-use crate::showing::{hinted_values_of, values_of};
+use crate::showing::{found_by, found_values, values_of};
 use lsp_document::{Capabilities, Document};
+use lsp_installed::Installed;
 use lsp_messages::{Client, Question};
 use lsp_places::offset_of;
 use lsp_remarks::{KeptHints, hints_in};
@@ -24,6 +25,8 @@ use std::alloc::{AllocError, Global};
 #[derive(Drop)]
 pub struct Terminfo {
     document: Document,
+    // The source with the installed names that it uses, kept for the next time.
+    completed: Document,
     // The hints on its blocks.
     kept: Vec<KeptHints>,
 }
@@ -39,32 +42,36 @@ fn capabilities_of(client: Client) -> Capabilities
     }
 }
 
-// The faults of a document as values of the protocol.
+// The faults of a document, where these names are installed, as values of the protocol.
 fn fault_values(
     alloc: Global,
     capabilities: Capabilities,
+    installed: &Installed,
     document: &mut Document,
+    completed: &mut Document,
 ) -> Result<Vec<Value>, AllocError>
-    ensures values { IfOk result (λ values. items_view values.items ≡ shown_by false capabilities document.old) }
-    ensures text { document.new ≡ document.old }
+    ensures values { IfOk result (λ values. items_view values.items ≡ shown_by false capabilities installed.now document.old) }
+    ensures text { OnOk result (document.new ≡ document.old) }
 {
-    let faults = document.diagnostics_by(alloc, capabilities)?;
-    values_of(alloc, faults.as_slice())
+    let found = found_by(alloc, capabilities, installed, document, completed)?;
+    values_of(alloc, found.faults.as_slice())
 }
 
-// The same with the hints among them, which are kept.
+// The same with the hints among them, which are kept, and with the uses of installed names.
 fn hinted_values(
     alloc: Global,
     capabilities: Capabilities,
+    installed: &Installed,
     document: &mut Document,
+    completed: &mut Document,
     kept: &mut Vec<KeptHints>,
 ) -> Result<Vec<Value>, AllocError>
-    ensures values { IfOk result (λ values. items_view values.items ≡ shown_by true capabilities document.old) }
-    ensures text { document.new ≡ document.old }
+    ensures values { IfOk result (λ values. items_view values.items ≡ shown_by true capabilities installed.now document.old) }
+    ensures text { OnOk result (document.new ≡ document.old) }
 {
-    let faults = document.diagnostics_by(alloc, capabilities)?;
+    let found = found_by(alloc, capabilities, installed, document, completed)?;
     let hints = hints_in(alloc, capabilities, document, kept)?;
-    hinted_values_of(alloc, faults.as_slice(), &hints)
+    found_values(alloc, &found, &hints)
 }
 
 impl HeldText for Terminfo {
@@ -72,21 +79,21 @@ impl HeldText for Terminfo {
     ghost use Rattle.ti_lsp.specs.Answers.{sayings};
     ghost use Rattle.ti_lsp.specs.Floats.{sayings_have_no_floats};
 
-    // Nothing else is known.
-    type Surroundings = ();
+    type Surroundings = Installed;
 
     ghost text_of = { λ source. source.document };
 
     ghost place_in = { place_of };
 
-    ghost says = { λ known. sayings };
+    ghost says = { sayings };
 
-    ghost no_floats = { λ known. sayings_have_no_floats };
+    ghost no_floats = { sayings_have_no_floats };
 
     fn open(alloc: Global, text: Vec<u8>) -> Result<Terminfo, AllocError> {
         let document = Document::open(alloc, text)?;
         Ok(Terminfo {
             document,
+            completed: Document::new(alloc),
             kept: Vec::new(alloc),
         })
     }
@@ -107,28 +114,31 @@ impl HeldText for Terminfo {
     fn diagnostics(
         &mut self,
         alloc: Global,
-        _known: &(),
+        installed: &Installed,
         client: Client,
     ) -> Result<Vec<Value>, AllocError> {
         let capabilities = capabilities_of(client);
+        let (document, completed) = (&mut self.document, &mut self.completed);
         if client.hints {
-            hinted_values(alloc, capabilities, &mut self.document, &mut self.kept)
+            let kept = &mut self.kept;
+            hinted_values(alloc, capabilities, installed, document, completed, kept)
         } else {
-            fault_values(alloc, capabilities, &mut self.document)
+            fault_values(alloc, capabilities, installed, document, completed)
         }
     }
 
     fn answer(
         &mut self,
         alloc: Global,
-        _known: &(),
+        installed: &Installed,
         client: Client,
         uri: &str,
         question: Question<'_>,
     ) -> Result<Reply, AllocError> {
         let answer = match question {
             Question::Completion(place) => {
-                completion(alloc, capabilities_of(client), &self.document, place)?
+                let capabilities = capabilities_of(client);
+                completion(alloc, capabilities, installed, &self.document, place)?
             }
             Question::Definition(place) => definition(alloc, &self.document, uri, place)?,
             Question::References {
@@ -136,7 +146,8 @@ impl HeldText for Terminfo {
                 with_declaration,
             } => references(alloc, &self.document, uri, place, with_declaration)?,
             Question::Hover(place) => {
-                hover(alloc, capabilities_of(client), &self.document, place)?
+                let capabilities = capabilities_of(client);
+                hover(alloc, capabilities, installed, &self.document, place)?
             }
             Question::Symbols => outline(alloc, client.nests_symbols, &self.document, uri)?,
             Question::Highlights(place) => highlights(alloc, &self.document, place)?,
@@ -149,6 +160,7 @@ impl HeldText for Terminfo {
             Question::Fixes { range, wanted } => fixes(
                 alloc,
                 capabilities_of(client),
+                installed,
                 &mut self.document,
                 uri,
                 range,
@@ -161,7 +173,7 @@ impl HeldText for Terminfo {
     fn push_symbols(
         &self,
         alloc: Global,
-        _known: &(),
+        _installed: &Installed,
         values: &mut Vec<Value>,
         uri: &str,
         held: &str,

@@ -4,11 +4,13 @@ use Rattle.std.proofs.lemmas.Simd.{map-map}
 use Rattle.serde_json.specs.View.{items_of}
 use Rattle.lsp_document.specs.Diagnostics.{diagnostic_seen}
 use Rattle.lsp_diagnostics.specs.declared.diagnostics.Diagnostic.{Diagnostic}
+use Rattle.lsp_installed.specs.Findings.{Found}
 use Rattle.ti_lsp.specs.Shown.{shown_data}
 use Rattle.ti_lsp.proofs.terminfo.fault_values.Goals as goal
 
 pub returns-clause-values : goal.returns-clause-values
 returns-clause-values c =
     let same = sym (map-map shown_data diagnostic_seen c.as_slice.result.now)
-    ∙ (ap (λ (all : List Diagnostic). map shown_data (map diagnostic_seen all)) c.as_slice.ensures.value ∙ ap (map shown_data) c.in_ok-faults.ensures.diagnostics) in
+    ∙ (ap (λ (all : List Diagnostic). map shown_data (map diagnostic_seen all)) c.as_slice.ensures.value
+    ∙ ap (λ (found : Found). map shown_data found.faults) c.in_ok-found.ensures.found) in
     IfOk-weaker c.values_of.result _ _ (λ values h. ap items_of (h ∙ same)) c.values_of.ensures
