@@ -5,9 +5,10 @@ use everyday_directories::{
     Environment, SYSTEM_OUTPUT, entry_directories, named_output, unnamed_output,
 };
 use everyday_entries::Failure;
+use everyday_lint::{Capabilities, hint_lines};
 use everyday_tic::{TicOptions, TicStop};
 use everyday_words::TicRequest;
-use std::io;
+use std::io::{self, Write};
 use std::rt::{Clock, Env, Files};
 use tools_devices::{Counted, ToolError};
 use tools_disk::{DiskTree, ErrorStream, read_whole, reason, takes_files};
@@ -47,9 +48,32 @@ pub fn run<R: Clock + Env + Files + Input + Eprint + AllocGlobal>(
         &options,
         request.summary,
     ) {
-        Ok(status) => Ok(status),
+        Ok(status) => {
+            show_hints(rt, request, file, source)?;
+            Ok(status)
+        }
         Err(stop) => Err(stop_of(rt, tree.last_error(), stop)?),
     }
+}
+
+// Adds the hints on a source after its report, if it is only checked.
+fn show_hints<R: Eprint + AllocGlobal>(
+    rt: &R,
+    request: &TicRequest,
+    file: &str,
+    source: Vec<u8>,
+) -> Result<(), Stop> {
+    if !request.check {
+        return Ok(());
+    }
+    let capabilities = if request.user_defined {
+        Capabilities::UserDefined
+    } else {
+        Capabilities::Profile
+    };
+    let lines = hint_lines(rt.alloc(), capabilities, file, source)?;
+    let _ = ErrorStream::new(rt).write_all(lines.as_slice());
+    Ok(())
 }
 
 // The directory for the entries. The system's is tried only if none is named, and there are files
