@@ -1,84 +1,144 @@
 //! What the environment says of the terminal and of the directories of entries.
+ghost use Rattle.std.specs.Prelude.{◌≤◌, IfOk, IfSome, length};
+
 use crate::stopping::Stop;
 use everyday_directories::{Environment, entry_directories};
-use std::env::{self, VarError};
+use std::alloc::{AllocError, Global};
+use std::env::{self, FillError, VarError};
 use std::fs;
 use std::rt::{Env, Files};
+use std::str::from_utf8;
 
-// What a variable of the environment is set to.
-fn variable<R: Env + AllocGlobal>(rt: &R, name: &'static str) -> Result<Option<String>, Stop> {
-    match env::var(rt, name) {
-        Ok(value) => Ok(Some(value)),
-        Err(VarError::NotPresent) => Ok(None),
-        Err(VarError::NotUnicode) => Err(Stop::NotText(name)),
-        Err(VarError::OutOfMemory) => Err(Stop::memory()),
-    }
-}
+// How much room is made for a variable at first. Few are longer.
+const ROOM: usize = 512;
 
-// What HOME is set to. One that is not text names no directory.
-fn home<R: Env + AllocGlobal>(rt: &R) -> Result<Option<String>, Stop> {
-    match variable(rt, "HOME") {
-        Err(Stop::NotText(_)) => Ok(None),
-        home => home,
-    }
-}
-
-/// The name of the terminal that `TERM` names, if it is set and not empty.
-///
-/// # Errors
-/// That it is not text; out of memory.
-pub fn own_terminal<R: Env + AllocGlobal>(rt: &R) -> Result<Option<String>, Stop> {
-    match variable(rt, "TERM")? {
-        Some(term) if !term.is_empty() => Ok(Some(term)),
-        _ => Ok(None),
-    }
-}
-
-/// What the variables that say where entries are are set to.
-#[derive(Debug, Drop)]
+/// What the variables are set to that say which terminal there is and where entries are.
+#[derive(Drop)]
 pub struct Variables {
-    terminfo: Option<String>,
-    home: Option<String>,
-    dirs: Option<String>,
+    term: Option<Vec<u8>>,
+    terminfo: Option<Vec<u8>>,
+    home: Option<Vec<u8>>,
+    dirs: Option<Vec<u8>>,
 }
 
 impl Variables {
-    /// The same, as what says where entries are.
-    pub fn environment(&self) -> Environment<'_> {
-        Environment {
-            terminfo: self.terminfo.as_deref(),
-            home: self.home.as_deref(),
-            dirs: self.dirs.as_deref(),
+    /// Reads `TERM`, `TERMINFO`, `HOME` and `TERMINFO_DIRS` in one walk over the environment. For
+    /// each name that it is asked for, the system's interface clears a buffer of 4,096 bytes, which
+    /// takes longer.
+    ///
+    /// # Errors
+    /// Out of memory.
+    pub fn read<R: Env + AllocGlobal>(rt: &R) -> Result<Variables, Stop> {
+        let mut found = Variables {
+            term: None,
+            terminfo: None,
+            home: None,
+            dirs: None,
+        };
+        let mut buffer = Vec::new(rt.alloc());
+        buffer.resize(ROOM, 0)?;
+        for at in 0..usize::MAX {
+            match read_entry(rt, at, &mut buffer)? {
+                Some(len) => found.take(rt.alloc(), &buffer.as_slice()[..len])?,
+                None => break,
+            }
         }
+        Ok(found)
+    }
+
+    // Takes an entry of the environment, if it is the first of a variable that is read.
+    fn take(&mut self, alloc: Global, entry: &[u8]) -> Result<(), AllocError> {
+        if !matches!(entry, [b'T' | b'H', ..]) {
+            return Ok(());
+        }
+        keep(alloc, &mut self.term, b"TERM=", entry)?;
+        keep(alloc, &mut self.terminfo, b"TERMINFO=", entry)?;
+        keep(alloc, &mut self.home, b"HOME=", entry)?;
+        keep(alloc, &mut self.dirs, b"TERMINFO_DIRS=", entry)
+    }
+
+    /// The name of the terminal that `TERM` names, if it is set and not empty.
+    ///
+    /// # Errors
+    /// That it is not text.
+    pub fn terminal(&self) -> Result<Option<&str>, Stop> {
+        match text("TERM", &self.term)? {
+            Some(term) if !term.is_empty() => Ok(Some(term)),
+            _ => Ok(None),
+        }
+    }
+
+    /// What says where entries are. A `HOME` that is not text names no directory.
+    ///
+    /// # Errors
+    /// That `TERMINFO` or `TERMINFO_DIRS` is not text.
+    pub fn environment(&self) -> Result<Environment<'_>, Stop> {
+        Ok(Environment {
+            terminfo: text("TERMINFO", &self.terminfo)?,
+            home: text("HOME", &self.home).unwrap_or(None),
+            dirs: text("TERMINFO_DIRS", &self.dirs)?,
+        })
+    }
+
+    /// The directories in which entries are looked for.
+    ///
+    /// # Errors
+    /// That `TERMINFO` or `TERMINFO_DIRS` is not text; out of memory.
+    pub fn directories(&self, alloc: Global) -> Result<Vec<String>, Stop> {
+        Ok(entry_directories(alloc, &self.environment()?)?)
     }
 }
 
-/// What `TERMINFO`, `HOME` and `TERMINFO_DIRS` are set to.
-///
-/// # Errors
-/// That `TERMINFO` or `TERMINFO_DIRS` is not text; out of memory.
-pub fn read_variables<R: Env + AllocGlobal>(rt: &R) -> Result<Variables, Stop> {
-    Ok(Variables {
-        terminfo: variable(rt, "TERMINFO")?,
-        home: home(rt)?,
-        dirs: variable(rt, "TERMINFO_DIRS")?,
-    })
+// The length of an entry of the environment, which is then at the front of the buffer; `None` after
+// the last one.
+fn read_entry<R: Env>(rt: &R, at: usize, buffer: &mut Vec<u8>) -> Result<Option<usize>, AllocError>
+    ensures { IfOk result (λ found. IfSome found (λ len. len ≤ length buffer.new.items)) }
+{
+    for _doubled in 0..usize::BITS {
+        match rt.var_at(at, buffer.as_mut_slice()) {
+            Ok(len) => return Ok(Some(len)),
+            Err(FillError::NotPresent) => return Ok(None),
+            Err(FillError::TooLong) => {
+                let len = buffer.len();
+                buffer.resize(len.saturating_add(len), 0)?;
+            }
+        }
+    }
+    Err(AllocError)
 }
 
-/// The directories in which entries are looked for, by `TERMINFO`, `HOME` and `TERMINFO_DIRS`.
-///
-/// # Errors
-/// That `TERMINFO` or `TERMINFO_DIRS` is not text; out of memory.
-pub fn directories<R: Env + AllocGlobal>(rt: &R) -> Result<Vec<String>, Stop> {
-    let variables = read_variables(rt)?;
-    Ok(entry_directories(rt.alloc(), &variables.environment())?)
+// Takes the value of an entry, if it begins with that name and none was taken before.
+fn keep(
+    alloc: Global,
+    value: &mut Option<Vec<u8>>,
+    name: &[u8],
+    entry: &[u8],
+) -> Result<(), AllocError> {
+    if value.is_some() {
+        return Ok(());
+    }
+    if let Some(found) = entry.strip_prefix(name) {
+        *value = Some(Vec::from_slice(alloc, found)?);
+    }
+    Ok(())
+}
+
+// A value as text.
+fn text<'a>(name: &'static str, value: &'a Option<Vec<u8>>) -> Result<Option<&'a str>, Stop> {
+    let Some(bytes) = value else {
+        return Ok(None);
+    };
+    match from_utf8(bytes.as_slice()) {
+        Ok(text) => Ok(Some(text)),
+        Err(_) => Err(Stop::NotText(name)),
+    }
 }
 
 // Whether a variable of the environment is set, and not empty.
-fn is_set<R: Env + AllocGlobal>(rt: &R, name: &'static str) -> bool {
-    match variable(rt, name) {
-        Ok(Some(value)) => !value.is_empty(),
-        Ok(None) => false,
+fn is_set<R: Env + AllocGlobal>(rt: &R, name: &str) -> bool {
+    match env::var(rt, name) {
+        Ok(value) => !value.is_empty(),
+        Err(VarError::NotPresent) => false,
         Err(_) => true,
     }
 }
@@ -93,9 +153,8 @@ fn is_terminal<R: Files + AllocGlobal>(rt: &R) -> bool {
 
 // Whether `TERM` names a terminal that is dumb.
 fn is_dumb<R: Env + AllocGlobal>(rt: &R) -> bool {
-    match own_terminal(rt) {
-        Ok(Some(term)) => term.as_str() == "dumb",
-        Ok(None) => false,
+    match env::var(rt, "TERM") {
+        Ok(term) => term.as_str() == "dumb",
         Err(_) => false,
     }
 }

@@ -1,5 +1,5 @@
 //! `ti-infocmp`: lists entries as source, or compares them.
-use crate::environment::{directories, own_terminal};
+use crate::environment::Variables;
 use crate::output::print_bytes;
 use crate::stopping::Stop;
 use everyday_entries::Failure;
@@ -13,7 +13,7 @@ use tools_disk::{DiskTree, reason};
 /// # Errors
 /// Why it stopped.
 pub fn print_directories<R: Env + Print + AllocGlobal>(rt: &R) -> Result<u8, Stop> {
-    let directories = directories(rt)?;
+    let directories = Variables::read(rt)?.directories(rt.alloc())?;
     let text = directories_text(rt.alloc(), directories.as_slice())?;
     print_bytes(rt, text.as_bytes())?;
     Ok(0)
@@ -27,14 +27,14 @@ pub fn run<R: Clock + Env + Files + Print + AllocGlobal>(
     rt: &R,
     request: &InfocmpRequest,
 ) -> Result<u8, Stop> {
+    let variables = Variables::read(rt)?;
     let own = if needs_own(request) {
-        own_terminal(rt)?
+        variables.terminal()?
     } else {
         None
     };
-    let directories = directories(rt)?;
+    let directories = variables.directories(rt.alloc())?;
     let mut tree = DiskTree::new(rt);
-    let own = own.as_deref();
     match infocmp(rt.alloc(), &mut tree, request, own, directories.as_slice()) {
         Ok(text) => print_bytes(rt, text.as_slice())?,
         Err(failure) => return Err(stop_of(rt, &tree, failure)?),

@@ -1,5 +1,5 @@
 //! `ti-tic`: compiles a source into entries.
-use crate::environment::read_variables;
+use crate::environment::Variables;
 use crate::stopping::Stop;
 use everyday_directories::{
     Environment, SYSTEM_OUTPUT, entry_directories, named_output, unnamed_output,
@@ -24,8 +24,8 @@ pub fn run<R: Clock + Env + Files + Input + Eprint + AllocGlobal>(
     rt: &R,
     request: &TicRequest,
 ) -> Result<u8, Stop> {
-    let variables = read_variables(rt)?;
-    let environment = variables.environment();
+    let variables = Variables::read(rt)?;
+    let environment = variables.environment()?;
     let directories = entry_directories(rt.alloc(), &environment)?;
     let directory = output(rt, request, &environment)?;
     let source = source(rt, request.file.as_deref())?;

@@ -1,5 +1,5 @@
 //! `ti-tput`: writes what drives a terminal.
-use crate::environment::{directories, own_terminal};
+use crate::environment::Variables;
 use crate::infocmp_tool::stop_of;
 use crate::output::print_bytes;
 use crate::stopping::Stop;
@@ -24,8 +24,9 @@ pub fn run<R: Clock + Env + Files + Input + Print + Eprint + AllocGlobal>(
     rt: &R,
     request: &TputRequest,
 ) -> Result<u8, Stop> {
-    let name = terminal_name(rt, request.term.as_deref())?;
-    let file = entry_file(rt, name.as_str())?;
+    let variables = Variables::read(rt)?;
+    let name = terminal_name(&variables, request.term.as_deref())?;
+    let file = entry_file(rt, &variables, name)?;
     let words = words(rt, request)?;
     if request.lines {
         return write_lines(rt, &whole_entry(rt, &file)?, request.rate);
@@ -75,19 +76,23 @@ fn bad_entry<R: AllocGlobal>(rt: &R, file: &Found, why: ExtensionError) -> Stop 
 }
 
 // The name of the terminal: that of `-T`, else that of `TERM`.
-fn terminal_name<R: Env + AllocGlobal>(rt: &R, term: Option<&str>) -> Result<String, Stop> {
+fn terminal_name<'a>(variables: &'a Variables, term: Option<&'a str>) -> Result<&'a str, Stop> {
     if let Some(term) = term {
-        return Ok(String::from_str(rt.alloc(), term)?);
+        return Ok(term);
     }
-    match own_terminal(rt)? {
+    match variables.terminal()? {
         Some(term) => Ok(term),
         None => Err(Stop::of(Failure::NoName)),
     }
 }
 
 // The file of a terminal's entry.
-fn entry_file<R: Clock + Env + Files + AllocGlobal>(rt: &R, name: &str) -> Result<Found, Stop> {
-    let directories = directories(rt)?;
+fn entry_file<R: Clock + Env + Files + AllocGlobal>(
+    rt: &R,
+    variables: &Variables,
+    name: &str,
+) -> Result<Found, Stop> {
+    let directories = variables.directories(rt.alloc())?;
     let mut tree = DiskTree::new(rt);
     match named_file(rt.alloc(), &mut tree, name, directories.as_slice()) {
         Ok(file) => Ok(file),
