@@ -142,7 +142,8 @@ def little_memory(_):
         {"method": "exit"},
     ))))
     whole, fronts = with_data(given, 2**30), set()
-    for most in range(200_000, 8_000_000, 100_000):
+    # with less the loader does not start the program
+    for most in range(250_000, 8_000_000, 100_000):
         done = with_data(given, most)
         fronts.add(len(done.stdout))
         ended = (0, whole.stdout) if done.returncode == 0 else (1, whole.stdout[: len(done.stdout)])
