@@ -1,0 +1,126 @@
+//! The values that a row gives: `NAME`, `NAME#N`, `NAME=BYTES` and `NAME@`, which cancels. Before a
+//! name, `-` takes its value away, and `?` gives a value only if there is none.
+ghost use Rattle.std.specs.Prelude.{◌≤◌, ◌↔◌, IfOk, IsTrue};
+ghost use Rattle.ti_layout.specs.Values.{Agrees, HasNoNul, content_of};
+
+use crate::words::RowError;
+use std::alloc::Global;
+use std::rc::RcSlice;
+use std::str;
+use ti_caps::{Cap, Kind, find};
+use ti_layout::{Table, Value};
+
+const NUMBER_MAX: u32 = 2_147_483_647;
+
+/// No capability has the name.
+pub const NO_CAPABILITY: RowError = RowError::Bad("a word is to name a capability");
+
+/// Whether none of the bytes is a NUL.
+pub fn has_no_nul(bytes: &[u8]) -> bool
+    ensures { IsTrue result ↔ HasNoNul bytes.now }
+{
+    bytes.iter().all(|byte| *byte != 0)
+}
+
+/// The number of these digits, which is at most 2,147,483,647.
+///
+/// # Errors
+/// `Bad`
+pub fn number_of(digits: &[u8]) -> Result<u32, RowError>
+    ensures { IfOk result (λ number. number ≤ 2147483647) }
+{
+    let Ok(text) = str::from_utf8(digits) else {
+        return Err(RowError::Bad("a value is to be a number"));
+    };
+    match text.parse::<u32>() {
+        Ok(number) if number <= NUMBER_MAX => Ok(number),
+        _ => Err(RowError::Bad("a value is to be a number")),
+    }
+}
+
+/// The name and the rest of a word.
+pub fn split(word: &[u8]) -> (&[u8], &[u8]) {
+    let end = word
+        .iter()
+        .position(|byte| matches!(*byte, b'#' | b'=' | b'@'))
+        .unwrap_or(word.len());
+    (
+        word.get(..end).unwrap_or(word),
+        word.get(end..).unwrap_or(&[]),
+    )
+}
+
+/// The value that is after a name.
+///
+/// # Errors
+/// `Bad` if the capability cannot have it.
+pub fn value_of(alloc: Global, cap: Cap, rest: &[u8]) -> Result<Value, RowError>
+    ensures { IfOk result (λ value. Agrees cap (content_of value)) }
+{
+    match rest {
+        [] if cap.kind() == Kind::Flag => return Ok(Value::True),
+        [b'@'] => return Ok(Value::Cancelled),
+        [b'#', digits @ ..] if cap.kind() == Kind::Number => {
+            return Ok(Value::Number(number_of(digits)?));
+        }
+        [b'=', text @ ..] if cap.kind() == Kind::Text => {
+            let shared = RcSlice::from_slice(alloc, text)?;
+            if has_no_nul(shared.as_slice()) {
+                return Ok(Value::Text(shared));
+            }
+        }
+        _ => {}
+    }
+    Err(RowError::Bad("a capability cannot have the value"))
+}
+
+// Gives a table a value, or takes one away.
+fn put(alloc: Global, table: &mut Table, word: &[u8]) -> Result<(), RowError> {
+    match word {
+        [b'-', name @ ..] => match find(name) {
+            Some(cap) => table.set(cap, None)?,
+            None => return Err(NO_CAPABILITY),
+        },
+        [b'?', word @ ..] => {
+            let (name, rest) = split(word);
+            let Some(cap) = find(name) else {
+                return Err(NO_CAPABILITY);
+            };
+            let value = value_of(alloc, cap, rest)?;
+            table.set_if_absent(cap, value)?;
+        }
+        _ => {
+            let (name, rest) = split(word);
+            let Some(cap) = find(name) else {
+                return Err(NO_CAPABILITY);
+            };
+            let value = value_of(alloc, cap, rest)?;
+            table.set(cap, Some(value))?;
+        }
+    }
+    Ok(())
+}
+
+/// A table of the values of these words.
+///
+/// # Errors
+/// `Bad`
+pub fn table_of(alloc: Global, words: &[Vec<u8>]) -> Result<Table, RowError> {
+    let mut table = Table::new(alloc);
+    for word in words {
+        put(alloc, &mut table, word)?;
+    }
+    Ok(table)
+}
+
+/// The words before the first `+`, and those after it.
+pub fn split_at_plus(words: &[Vec<u8>]) -> (&[Vec<u8>], &[Vec<u8>]) {
+    let end = words
+        .iter()
+        .position(|word| word.as_slice() == b"+".as_slice())
+        .unwrap_or(words.len());
+    (
+        words.get(..end).unwrap_or(words),
+        words.get(end.saturating_add(1)..).unwrap_or(&[]),
+    )
+}

@@ -1,0 +1,287 @@
+//! The words of a row. Blanks are between words. A word in quotes holds blanks, and `""` is the empty
+//! word. A backslash begins an escape:
+//!
+//! - `\E`, `\n`, `\r`, `\t`, `\b`, `\f`, `\s`: the bytes that they are in terminfo(5)
+//! - `\` and up to three octal digits: the byte of that number, and NUL for 0
+//! - `\(N:` .. `\)`: what is between, N times
+//! - `\` and any other byte that is no letter: this byte
+use std::alloc::{AllocError, AllocFailed, Global};
+
+/// Why a line is not a row, or a call is not made.
+#[derive(Clone, Copy, Debug, PartialEq, Eq)]
+pub enum RowError {
+    /// The row is at fault, for this reason.
+    Bad(&'static str),
+    /// Out of memory.
+    Memory,
+}
+
+impl From<AllocError> for RowError {
+    fn from(_error: AllocError) -> RowError {
+        RowError::Memory
+    }
+}
+
+impl<T: Drop> From<AllocFailed<T>> for RowError {
+    fn from(_error: AllocFailed<T>) -> RowError {
+        RowError::Memory
+    }
+}
+
+// The most copies of a piece, and the longest word.
+const COPIES_MAX: usize = 2_000_000;
+
+const WORD_MAX: usize = 4_000_000;
+
+// Where the reader of a word is.
+#[derive(Clone, Copy, PartialEq, Eq)]
+enum Mode {
+    Plain,
+    // After a backslash.
+    Escape,
+    // In a number of this value and this many digits.
+    Octal(u32, u8),
+    // In the count of copies.
+    Copies,
+}
+
+// What is read of a word.
+#[derive(Drop)]
+struct Decoder {
+    bytes: Vec<u8>,
+    mode: Mode,
+    copies: usize,
+    // Where the piece begins that is copied.
+    piece: Option<usize>,
+}
+
+// The byte that a letter after a backslash is for.
+fn escaped(byte: u8) -> Option<u8> {
+    match byte {
+        b'E' => Some(0x1b),
+        b'n' => Some(b'\n'),
+        b'r' => Some(b'\r'),
+        b't' => Some(b'\t'),
+        b'b' => Some(0x08),
+        b'f' => Some(0x0c),
+        b's' => Some(b' '),
+        _ if byte.is_ascii_alphanumeric() => None,
+        _ => Some(byte),
+    }
+}
+
+fn octal_digit(byte: u8) -> Option<u32> {
+    match byte {
+        b'0'..=b'7' => Some(u32::from(byte - b'0')),
+        _ => None,
+    }
+}
+
+impl Decoder {
+    fn new(alloc: Global) -> Decoder {
+        Decoder {
+            bytes: Vec::new(alloc),
+            mode: Mode::Plain,
+            copies: 0,
+            piece: None,
+        }
+    }
+
+    fn push(&mut self, byte: u8) -> Result<(), RowError> {
+        if self.bytes.len() >= WORD_MAX {
+            return Err(RowError::Bad("a word is too long"));
+        }
+        self.bytes.push(byte)?;
+        Ok(())
+    }
+
+    // Ends a number, if one is being read.
+    fn end_number(&mut self) -> Result<(), RowError> {
+        let Mode::Octal(value, _) = self.mode else {
+            return Ok(());
+        };
+        let Ok(byte) = u8::try_from(value) else {
+            return Err(RowError::Bad("an octal number over 377"));
+        };
+        self.mode = Mode::Plain;
+        self.push(byte)
+    }
+
+    // Copies the piece that ends here.
+    fn end_piece(&mut self, alloc: Global) -> Result<(), RowError> {
+        let Some(start) = self.piece else {
+            return Err(RowError::Bad("`\\)` without `\\(`"));
+        };
+        let piece = Vec::from_slice(alloc, self.bytes.get(start..).unwrap_or(&[]))?;
+        if piece.len().saturating_mul(self.copies) > WORD_MAX {
+            return Err(RowError::Bad("a word is too long"));
+        }
+        self.bytes.truncate(start);
+        for _ in 0..self.copies {
+            self.bytes.extend_from_slice(&piece)?;
+        }
+        self.piece = None;
+        self.mode = Mode::Plain;
+        Ok(())
+    }
+
+    fn take_escaped(&mut self, alloc: Global, byte: u8) -> Result<(), RowError> {
+        if let Some(digit) = octal_digit(byte) {
+            self.mode = Mode::Octal(digit, 1);
+            return Ok(());
+        }
+        match byte {
+            b'(' if self.piece.is_none() => {
+                self.mode = Mode::Copies;
+                self.copies = 0;
+                Ok(())
+            }
+            b')' => self.end_piece(alloc),
+            _ => match escaped(byte) {
+                Some(byte) => {
+                    self.mode = Mode::Plain;
+                    self.push(byte)
+                }
+                None => Err(RowError::Bad("an unknown escape")),
+            },
+        }
+    }
+
+    // Takes a byte of a count of copies.
+    fn take_count(&mut self, byte: u8) -> Result<(), RowError> {
+        match byte {
+            b'0'..=b'9' => {
+                let digit = usize::from(byte - b'0');
+                self.copies = self.copies.saturating_mul(10).saturating_add(digit);
+                if self.copies > COPIES_MAX {
+                    return Err(RowError::Bad("too many copies"));
+                }
+                Ok(())
+            }
+            b':' => {
+                self.piece = Some(self.bytes.len());
+                self.mode = Mode::Plain;
+                Ok(())
+            }
+            _ => Err(RowError::Bad("a count of copies ends with `:`")),
+        }
+    }
+
+    // Takes a byte outside of an escape, or ends a number before it.
+    fn take_plain(&mut self, byte: u8) -> Result<(), RowError> {
+        self.end_number()?;
+        if byte == b'\\' {
+            self.mode = Mode::Escape;
+            return Ok(());
+        }
+        self.push(byte)
+    }
+
+    fn take(&mut self, alloc: Global, byte: u8) -> Result<(), RowError> {
+        match self.mode {
+            Mode::Escape => self.take_escaped(alloc, byte),
+            Mode::Copies => self.take_count(byte),
+            Mode::Octal(value, digits) => match octal_digit(byte) {
+                Some(digit) if digits < 3 => {
+                    self.mode = Mode::Octal(value.wrapping_mul(8).wrapping_add(digit), digits + 1);
+                    Ok(())
+                }
+                _ => self.take_plain(byte),
+            },
+            Mode::Plain => self.take_plain(byte),
+        }
+    }
+
+    fn end(&mut self) -> Result<(), RowError> {
+        self.end_number()?;
+        if self.mode != Mode::Plain || self.piece.is_some() {
+            return Err(RowError::Bad("a word ends in an escape"));
+        }
+        Ok(())
+    }
+}
+
+// The bytes of a word.
+fn decode(alloc: Global, word: &[u8]) -> Result<Vec<u8>, RowError> {
+    let mut decoder = Decoder::new(alloc);
+    for byte in word {
+        decoder.take(alloc, *byte)?;
+    }
+    decoder.end()?;
+    Ok(decoder.bytes)
+}
+
+// The bytes of a word, which may be in quotes.
+fn decode_word(alloc: Global, word: &[u8]) -> Result<Vec<u8>, RowError> {
+    match word {
+        [b'"', inner @ .., b'"'] => decode(alloc, inner),
+        [b'"', ..] => Err(RowError::Bad("a word in quotes ends with a quote")),
+        _ => decode(alloc, word),
+    }
+}
+
+// Where the words of a line are.
+#[derive(Drop)]
+struct Cutter {
+    places: Vec<(usize, usize)>,
+    // Where the word begins that is being read.
+    start: Option<usize>,
+    is_quoted: bool,
+    is_escaped: bool,
+}
+
+impl Cutter {
+    // Ends the word that is being read.
+    fn end(&mut self, at: usize) -> Result<(), AllocError> {
+        if let Some(start) = self.start {
+            self.places.push((start, at))?;
+        }
+        self.start = None;
+        self.is_quoted = false;
+        Ok(())
+    }
+
+    fn take(&mut self, at: usize, byte: u8) -> Result<(), AllocError> {
+        if self.is_escaped {
+            self.is_escaped = false;
+            return Ok(());
+        }
+        if (byte == b' ' || byte == b'\t') && !self.is_quoted {
+            return self.end(at);
+        }
+        if self.start.is_none() {
+            self.start = Some(at);
+            self.is_quoted = byte == b'"';
+        } else if byte == b'"' && self.is_quoted {
+            self.is_quoted = false;
+        }
+        self.is_escaped = byte == b'\\';
+        Ok(())
+    }
+}
+
+/// The words of a line.
+///
+/// # Errors
+/// Why a word is none, and out of memory.
+pub fn words_of(alloc: Global, line: &[u8]) -> Result<Vec<Vec<u8>>, RowError> {
+    let mut cutter = Cutter {
+        places: Vec::new(alloc),
+        start: None,
+        is_quoted: false,
+        is_escaped: false,
+    };
+    for (at, byte) in line.iter().enumerate() {
+        cutter.take(at, *byte)?;
+    }
+    if cutter.is_quoted {
+        return Err(RowError::Bad("a word in quotes ends with a quote"));
+    }
+    cutter.end(line.len())?;
+    let mut words = Vec::new(alloc);
+    for (start, end) in &cutter.places {
+        let word = line.get(*start..*end).unwrap_or(&[]);
+        words.push(decode_word(alloc, word)?)?;
+    }
+    Ok(words)
+}
