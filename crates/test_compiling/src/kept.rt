@@ -3,9 +3,9 @@ use crate::making::say_report;
 use std::alloc::{AllocError, Global};
 use std::fmt::Write;
 use std::test::Fail;
-use ti_base::Database;
-use user_compiling::{Finding, compile, findings_of, found_faults, report_of};
-use user_kept::KeptDatabase;
+use ti_base::{Database, Edit, EditError, Outcome};
+use user_compiling::{Compiled, Finding, compile, findings_of, found_faults, report_of};
+use user_kept::{KeptDatabase, run};
 use user_values::ValuesError;
 
 // The report of a source, or that it has too many names.
@@ -28,6 +28,7 @@ enum Step<'a> {
     Insert(usize, &'a str),
     Replace(usize, &'a str),
     Remove(usize),
+    Move(usize, usize),
 }
 
 // Makes an edit.
@@ -36,6 +37,7 @@ fn make(kept: &mut KeptDatabase, step: Step<'_>) -> Result<(), Fail> {
         Step::Insert(at, text) => kept.insert(at, text.as_bytes()),
         Step::Replace(at, text) => kept.replace(at, text.as_bytes()),
         Step::Remove(at) => kept.remove(at),
+        Step::Move(from, to) => kept.relocate(from, to),
     };
     match made {
         Ok(_) => Ok(()),
@@ -44,7 +46,7 @@ fn make(kept: &mut KeptDatabase, step: Step<'_>) -> Result<(), Fail> {
 }
 
 // Edits, and the report after each.
-const STEPS: [(Step<'static>, &str); 12] = [
+const STEPS: [(Step<'static>, &str); 16] = [
     (Step::Insert(0, "b,Tc,\n"), ""),
     (
         Step::Insert(0, "c,bad=\\400,\n"),
@@ -75,6 +77,13 @@ const STEPS: [(Step<'static>, &str); 12] = [
     (Step::Replace(1, "b,use=b,\n"), "2: E7 Circular b\n"),
     (Step::Insert(1, "b,Tc,\n"), "3: W4 DuplicateName b\n"),
     (Step::Replace(2, "d,use=b,\n"), ""),
+    (Step::Move(1, 2), ""),
+    (
+        Step::Replace(2, "b,bad=\\400,Su#2,\n"),
+        "3: W5 BadUserDefined bad\n",
+    ),
+    (Step::Move(2, 0), "1: W5 BadUserDefined bad\n"),
+    (Step::Move(0, 1), "2: W5 BadUserDefined bad\n"),
 ];
 
 #[test]
@@ -85,6 +94,94 @@ fn what_is_kept_is_as_if_found_anew(rt: HostRuntime) -> Result<(), Fail> {
         make(&mut kept, step)?;
         assert_eq!(rt; report(alloc, &mut kept)?.as_str(), wanted);
     }
+    Ok(())
+}
+
+// Whether what becomes of each block is what becomes of it if all is made anew.
+fn entries_are_fresh(alloc: Global, kept: &mut KeptDatabase) -> Result<bool, Fail> {
+    let Ok(fresh) = compile(alloc, kept.database()) else {
+        return Err(Fail::new("too many names"));
+    };
+    for at in 0..fresh.len() {
+        if at >= kept.len() {
+            return Err(Fail::new("a block is missing"));
+        }
+        let Ok(state) = kept.compiled(alloc, at) else {
+            return Err(Fail::new("no entry"));
+        };
+        let same = match (&state, &fresh[at]) {
+            (Compiled::Written(bytes), Compiled::Written(wanted)) => {
+                bytes.as_slice() == wanted.as_slice()
+            }
+            (Compiled::TooLarge, Compiled::TooLarge) => true,
+            (Compiled::Unresolved, Compiled::Unresolved) => true,
+            _ => false,
+        };
+        if !same {
+            return Ok(false);
+        }
+    }
+    Ok(true)
+}
+
+#[test]
+fn entries_are_as_if_made_anew(rt: HostRuntime) -> Result<(), Fail> {
+    let alloc = rt.alloc();
+    let mut kept = KeptDatabase::new(alloc);
+    for (step, _) in STEPS {
+        make(&mut kept, step)?;
+        assert!(rt; entries_are_fresh(alloc, &mut kept)?);
+    }
+    Ok(())
+}
+
+// The entry of `b,Tc,`, byte by byte: header, names, and the extension with one boolean.
+const TC_ENTRY: &[u8] =
+    b"\x1a\x01\x02\0\0\0\0\0\0\0\0\0b\0\x01\0\0\0\0\0\x01\0\x03\0\x01\0\0\0Tc\0";
+
+// Edits, one of them of a block that is not there.
+#[test]
+fn a_list_of_edits(rt: HostRuntime) -> Result<(), Fail> {
+    let alloc = rt.alloc();
+    let edits = [
+        Edit::Insert {
+            at: 0,
+            text: b"a,use=b,\n",
+        },
+        Edit::Insert {
+            at: 1,
+            text: b"c,Tc,\n",
+        },
+        Edit::Remove { at: 2 },
+        Edit::Replace {
+            at: 1,
+            text: b"b,Tc,\n",
+        },
+        Edit::Relocate { from: 1, to: 0 },
+        Edit::Insert {
+            at: 2,
+            text: b"d,bad=\\400,\n",
+        },
+        Edit::Remove { at: 1 },
+    ];
+    let (mut kept, outcomes) = run(alloc, &edits)?;
+    let refused = Outcome::Refused(EditError::Position);
+    for (at, outcome) in outcomes.iter().enumerate() {
+        let wanted = if at == 2 { refused } else { Outcome::Accepted };
+        assert!(rt; *outcome == wanted);
+    }
+    assert_eq!(rt; outcomes.len(), edits.len());
+    assert_eq!(rt;
+        report(alloc, &mut kept)?.as_str(),
+        "2: W5 BadUserDefined bad\n"
+    );
+    if kept.len() != 2 {
+        return Err(Fail::new("a block is missing"));
+    }
+    let Ok(state) = kept.compiled(alloc, 0) else {
+        return Err(Fail::new("no entry"));
+    };
+    assert!(rt; state.bytes() == Some(TC_ENTRY));
     Ok(())
 }
 

@@ -280,7 +280,7 @@ const LONG: &'static [u8] =
     Longername\0Xm\0";
 
 // What follows an entry, a name, and what is shown of it.
-static READ: [(&'static [u8], &'static [u8], &'static str); 15] = [
+static READ: [(&'static [u8], &'static [u8], &'static str); 17] = [
     // nothing, and fewer bytes than a header
     (b"", b"Tc", "-"),
     (b"\x01\0\0\0\0\0\x01\0\x03", b"Tc", "-"),
@@ -326,6 +326,17 @@ static READ: [(&'static [u8], &'static [u8], &'static str); 15] = [
     // strings of 15 and 16 bytes
     (LONG, b"Longername", "abcdefghijklmno"),
     (LONG, b"Xm", "abcdefghijklmnop"),
+    // two strings of one text take the room of two, and three leave none for their names
+    (
+        b"\0\0\0\0\x02\0\x04\0\x08\0\0\0\0\0\0\0\x02\0x\0?\0q\0r\0",
+        b"r",
+        "x",
+    ),
+    (
+        b"\0\0\0\0\x03\0\x06\0\x09\0\0\0\0\0\0\0\0\0\x02\0\x04\0xx\0q\0r\0s\0",
+        b"r",
+        "!",
+    ),
     // an offset after the table does not mean that the string is absent
     (b"\0\0\0\0\x01\0\x02\0\x02\0\x12\0\0\0q\0", b"q", "!"),
 ];

@@ -1,6 +1,7 @@
 //! What blocks say of user-defined names once their uses are expanded.
 use std::alloc::{AllocError, Global};
 use std::fmt::Write;
+use std::rc::RcSlice;
 use std::test::Fail;
 use ti_base::Database;
 use ti_layout::Value;
@@ -37,9 +38,10 @@ fn say_value(said: &mut String, value: &Value) -> Result<(), AllocError> {
 // What a table says, in the order of the names.
 fn say_table(alloc: Global, table: &UserTable) -> Result<String, AllocError> {
     let mut said = String::new(alloc);
-    for (name, value) in table.entries() {
-        say_name(&mut said, name.as_slice())?;
-        say_value(&mut said, value)?;
+    for entry in table.entries() {
+        let entry = entry.as_ref();
+        say_name(&mut said, entry.name.as_slice())?;
+        say_value(&mut said, &entry.value)?;
         said.push_str(";")?;
     }
     Ok(said)
@@ -180,13 +182,21 @@ fn each_name_is_counted_once(rt: HostRuntime) -> Result<(), Fail> {
 #[test]
 fn what_is_said_first_remains(rt: HostRuntime) -> Result<(), Fail> {
     let alloc = rt.alloc();
-    let mut table = UserTable::new(alloc);
-    table.add(alloc, b"Tc", &Value::Cancelled)?;
-    table.add(alloc, b"Tc", &Value::True)?;
-    let mut other = UserTable::new(alloc);
-    other.add(alloc, b"Su", &Value::Number(3))?;
-    other.add(alloc, b"Tc", &Value::True)?;
+    let tc = RcSlice::from_slice(alloc, b"Tc")?;
+    let su = RcSlice::from_slice(alloc, b"Su")?;
+    let mut table = UserTable::new();
+    table.add(alloc, &tc, &Value::Cancelled)?;
+    table.add(alloc, &tc, &Value::True)?;
+    let mut other = UserTable::new();
+    other.add(alloc, &su, &Value::Number(3))?;
+    other.add(alloc, &tc, &Value::True)?;
     table.merge(alloc, &other)?;
+    assert_eq!(rt; say_table(alloc, &table)?.as_str(), "Su#3;Tc@;");
+    // The first table that is merged is shared; a name that comes later is in one of them alone.
+    let mut third = UserTable::new();
+    third.merge(alloc, &table)?;
+    third.add(alloc, &RcSlice::from_slice(alloc, b"RGB")?, &Value::True)?;
+    assert_eq!(rt; say_table(alloc, &third)?.as_str(), "RGB;Su#3;Tc@;");
     assert_eq!(rt; say_table(alloc, &table)?.as_str(), "Su#3;Tc@;");
     assert!(rt; matches!(table.get(b"Su"), Some(Value::Number(3))));
     assert!(rt; table.get(b"RGB").is_none());

@@ -53,10 +53,10 @@ pub record AreKnown : Type 0 where
 -- ---- the blocks
 
 -- a text of a source
-abbrev IsText : List ℕ → Type 0
+abbrev pub IsText : List ℕ → Type 0
 IsText text = OneBlock text × AreBytes text
 
-texts-both : (texts : List (List ℕ)) → All OneBlock texts → All AreBytes texts → All IsText texts
+pub texts-both : (texts : List (List ℕ)) → All OneBlock texts → All AreBytes texts → All IsText texts
 texts-both [] blocks are = All-nil IsText
 texts-both (t ∷ texts) blocks are =
     All-cons IsText t texts (All-head OneBlock t texts blocks, All-head AreBytes t texts are)
@@ -66,11 +66,34 @@ texts-both (t ∷ texts) blocks are =
 abbrev BlockFits : Reading → Type 0
 BlockFits block = All ItemFits block.items
 
-text-fits : AreKnown → (text : List ℕ) → IsText text → BlockFits (reading_of_text text)
-text-fits known text is = items-fit (reading_of_text text).items (known.well_read text is.0).sets (parsed-bytes known.sound known.computed text is.1)
+-- what is known of a block that resolves: its names field can be listed, and what it says fits
+pub record IsGoodBlock (block : Reading) (ms : List Mention) : Type 0 where
+  pub listable : IsListable block.field block.names
+  pub some : block.field ≢ []
+  pub no_nul : All (λ byte. byte ≢ 0) block.field
+  pub fit : All MentionFits ms
 
-blocks-fit : AreKnown → (texts : List (List ℕ)) → All IsText texts → All BlockFits (readings texts)
-blocks-fit known texts are = All-map BlockFits reading_of_text texts (All-weaker IsText (λ text. BlockFits (reading_of_text text)) (text-fits known) texts are)
+module _ (sound : ValuesAreSound) (computed : HasReading) (well_read : EachIsWellRead) where
+  text-fits : (text : List ℕ) → IsText text → BlockFits (reading_of_text text)
+  text-fits text is = items-fit (reading_of_text text).items (well_read text is.0).sets (parsed-bytes sound computed text is.1)
+
+  blocks-fit : (texts : List (List ℕ)) → All IsText texts → All BlockFits (readings texts)
+  blocks-fit texts are = All-map BlockFits reading_of_text texts (All-weaker IsText (λ text. BlockFits (reading_of_text text)) text-fits texts are)
+
+  pub good-block : (texts : List (List ℕ)) (text : List ℕ) (ms : List Mention) → All IsText texts → IsText text
+      → expansion (readings texts) (reading_of_text text) ≡ Some ms → IsGoodBlock (reading_of_text text) ms
+  good-block texts text ms are is e =
+      let blocks = readings texts in
+      let block = reading_of_text text in
+      let whole : is_broken block ≡ false = unbroken-expand (owner_block blocks) (length blocks) block ms e in
+      let fits : All BlockFits blocks = blocks-fit texts are in
+      let named = (well_read text is.0).named whole in
+      record {
+        listable = block-listable text is.0 (computed text) whole;
+        some = named.some;
+        no_nul = named.no_nul;
+        fit = expand-fits (owner_block blocks) (λ name b o. owned-has BlockFits blocks name b fits o) (suc (length blocks)) block ms (text-fits text is) e;
+      }
 
 -- the text at a place
 record IsParsedFrom (texts : List (List ℕ)) (at : ℕ) (block : Reading) : Type 0 where
@@ -118,25 +141,21 @@ has-image : AreKnown → (texts : List (List ℕ)) (at : ℕ) (bytes : List ℕ)
 has-image known texts at bytes are is =
     let blocks = readings texts in
     let found = follows (entry blocks) (slice_get blocks at) bytes is in
-    let block = found.from in
-    let expands = follows (entry_of block) (expansion blocks block) bytes found.gives in
+    let expands = follows (entry_of found.from) (expansion blocks found.from) bytes found.gives in
+    let of_text = parsed-from texts at found.from found.is in
+    let block = reading_of_text of_text.text in
     let ms = expands.from in
-    let of_text = parsed-from texts at block found.is in
-    let text = All-at IsText texts at of_text.text are of_text.stands in
-    let sound : is_broken block ≡ false = unbroken-expand (owner_block blocks) (length blocks) block ms expands.is in
-    let fits : All BlockFits blocks = blocks-fit known texts are in
-    let named = (known.well_read of_text.text text.0).named (ap is_broken of_text.is ∙ sound) in
-    let image = entry-image block ms bytes expands.gives in
+    let good = good-block known.sound known.computed known.well_read texts of_text.text ms are (All-at IsText texts at of_text.text are of_text.stands)
+    (ap (expansion blocks) of_text.is ∙ expands.is) in
+    let image = entry-image block ms bytes (ap (λ (b : Reading). entry_of b ms) of_text.is ∙ expands.gives) in
     record {
       field = block.field;
       names = block.names;
       mentions = ms;
-      listable = subst (λ b. IsListable b.field b.names) of_text.is
-          (block-listable of_text.text text.0 (known.computed of_text.text) (ap is_broken of_text.is ∙ sound));
-      some = subst (λ (b : Reading). b.field ≢ []) of_text.is named.some;
-      no_nul = subst (λ (b : Reading). All (λ byte. byte ≢ 0) b.field) of_text.is named.no_nul;
-      fit = expand-fits (owner_block blocks) (λ name b e. owned-has BlockFits blocks name b fits e) (suc (length blocks)) block ms
-          (subst BlockFits of_text.is (text-fits known of_text.text text)) expands.is;
+      listable = good.listable;
+      some = good.some;
+      no_nul = good.no_nul;
+      fit = good.fit;
       is = image.is;
       within = image.within;
     }

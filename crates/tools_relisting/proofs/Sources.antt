@@ -11,7 +11,7 @@ front-bytes : (s t : List ℕ) → OfBytes (s ++ t) → OfBytes s
 front-bytes [] t h = tt
 front-bytes (x ∷ s) t h = (h.0, front-bytes s t h.1)
 
-each-bytes : (texts : List (List ℕ)) → OfBytes (concat texts) → All AreBytes texts
+pub each-bytes : (texts : List (List ℕ)) → OfBytes (concat texts) → All AreBytes texts
 each-bytes [] h = All-nil AreBytes
 each-bytes (text ∷ texts) h =
     All-cons AreBytes text texts (All-from_recursion (λ b. b < 256) text (front-bytes text (concat texts) h))

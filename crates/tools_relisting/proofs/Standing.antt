@@ -19,7 +19,7 @@ use Rattle.tools_relisting.proofs.ReadBack.{item-readable}
 use Rattle.tools_relisting.proofs.Heading.{one_plus, first-lookup}
 
 -- no head line begins in a line, nor just after it
-inline-headless : (before : ℕ) (w rest : List ℕ) → (before == 10) ≡ false → is_inline w ≡ true → HasNoHead 44 rest → HasNoHead before (w ++ 44 ∷ rest)
+pub inline-headless : (before : ℕ) (w rest : List ℕ) → (before == 10) ≡ false → is_inline w ≡ true → HasNoHead 44 rest → HasNoHead before (w ++ 44 ∷ rest)
 inline-headless before [] rest b h none = (and_left (before == 10) (begins_head 44) b, none)
 inline-headless before (x ∷ xs) rest b h none =
     let parts = and_parts (not (x == 10)) (is_inline xs) h in
@@ -56,7 +56,7 @@ name-first x xs is =
           All-head IsNameByte x (first_name xs) (rw (other, one_plus n) at named)
     ]
 
-field-head : (field tail : List ℕ) (names : List (List ℕ)) → IsListable field names → HasNoHead 44 tail → HasOneHead (field ++ 44 ∷ tail)
+pub field-head : (field tail : List ℕ) (names : List (List ℕ)) → IsListable field names → HasNoHead 44 tail → HasOneHead (field ++ 44 ∷ tail)
 field-head [] tail names good none = absurd ((first-lookup [] names good.header).some refl)
 field-head (x ∷ xs) tail names good none =
     let byte = name-first x xs (first-lookup (x ∷ xs) names good.header) in

@@ -30,7 +30,7 @@ abbrev pub OfBytes : List ℕ → Type 0
 OfBytes s = AllByRecursion (λ b. b < 256) s
 
 -- bytes with their lines: each text that is read is of bytes
-abbrev ArePlacedBytes : List PlacedByte → Type 0
+abbrev pub ArePlacedBytes : List PlacedByte → Type 0
 ArePlacedBytes s = OfBytes (bytes s)
 
 uncommented-bytes : (comment : Bool) (before : ℕ) (s : List ℕ) → OfBytes s → OfBytes (uncommented comment before s)
@@ -49,7 +49,7 @@ unbroken-bytes joining (x ∷ xs) h =
       | false ↦ (h.0, unbroken-bytes false xs h.1)
     ]
 
-folded-bytes : (block : List ℕ) → AreBytes block → ArePlacedBytes (folding_of block)
+pub folded-bytes : (block : List ℕ) → AreBytes block → ArePlacedBytes (folding_of block)
 folded-bytes block h =
     rw (bytes-folded block) (unbroken-bytes false (uncommented false 10 block) (uncommented-bytes false 10 block (recursion_from_All (λ b. b < 256) block h)))
 
@@ -61,11 +61,11 @@ behind-placed : (s t : List PlacedByte) → ArePlacedBytes (s ++ t) → ArePlace
 behind-placed [] t h = h
 behind-placed (x ∷ s) t h = behind-placed s t h.1
 
-rest-bytes : (s field rest : List PlacedByte) → Begins s field rest → ArePlacedBytes s → ArePlacedBytes rest
+pub rest-bytes : (s field rest : List PlacedByte) → Begins s field rest → ArePlacedBytes s → ArePlacedBytes rest
 rest-bytes _ _ _ (all_field field none) h = tt
 rest-bytes _ _ _ (field_and_rest field rest line none) h = (behind-placed field ((44, line) ∷ rest) h).1
 
-items-bytes : (before : ℕ) (text : List PlacedByte) (items : List (List PlacedByte)) → AreItems before text items → ArePlacedBytes text
+pub items-bytes : (before : ℕ) (text : List PlacedByte) (items : List (List PlacedByte)) → AreItems before text items → ArePlacedBytes text
     → AllByRecursion ArePlacedBytes items
 items-bytes _ _ _ (last_item before) h = (tt, tt)
 items-bytes _ _ _ (item_ends before line text items are) h = (tt, items-bytes 44 text items are h.1)
@@ -76,23 +76,23 @@ items-bytes _ _ _ (single_byte before x text item items no_comma alone are) h =
     let later = items-bytes x.0 text (item ∷ items) are h.1 in
     ((h.0, later.0), later.1)
 
-front-bytes : (item : List PlacedByte) → ArePlacedBytes item → ArePlacedBytes (without_front item)
+pub front-bytes : (item : List PlacedByte) → ArePlacedBytes item → ArePlacedBytes (without_front item)
 front-bytes [] h = tt
 front-bytes (x ∷ xs) h = elim (is_white_space x.0) as (λ b. ArePlacedBytes (cond b (without_front xs) (x ∷ xs))) [ true ↦ front-bytes xs h.1 | false ↦ h ]
 
 -- ---- what an item states, and what comes of it
 
-abbrev ClaimBytes : Claim → Type 0
+abbrev pub ClaimBytes : Claim → Type 0
 ClaimBytes claims_flag = Unit {0}
 ClaimBytes (claims_number value) = Unit {0}
 ClaimBytes (claims_text value) = OfBytes value
 ClaimBytes claims_cancel = Unit {0}
 
-abbrev StatementBytes : Option Statement → Type 0
+abbrev pub StatementBytes : Option Statement → Type 0
 StatementBytes None = Unit {0}
 StatementBytes (Some s) = ClaimBytes s.claim
 
-states-bytes : (text : List ℕ) (o : Option Statement) → States text o → OfBytes text → StatementBytes o
+pub states-bytes : (text : List ℕ) (o : Option Statement) → States text o → OfBytes text → StatementBytes o
 states-bytes _ _ empty_item h = tt
 states-bytes _ _ (disabled_item text) h = tt
 states-bytes _ _ (number_item name value none on) h = tt

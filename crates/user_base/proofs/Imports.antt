@@ -1,5 +1,5 @@
 -- What a block imports as far as user-defined capabilities go, it uses.
-use Rattle.std.proofs.Common.{◌≡◌, ◌⊎◌, inl, inr, ℕ, ◌+◌, Bool, true, false, cond, List, [], ◌∷◌, ◌++◌, map, Option, Some, None, refl, sym, ap, ◌∙◌, subst}
+use Rattle.std.proofs.Common.{◌≡◌, ◌⊎◌, inl, inr, ℕ, ◌+◌, Bool, true, false, cond, List, [], ◌∷◌, ◌++◌, map, Option, Some, None, refl, sym, subst}
 use Rattle.std.specs.Prelude.{Ok, Err}
 use Rattle.std.proofs.lemmas.Bool.{cases_Bool}
 use Rattle.std.proofs.lemmas.Option.{none-some}
@@ -13,7 +13,7 @@ use Rattle.ti_source.specs.Judging.{items_at as items_at_there, items_from as it
 use Rattle.ti_source.specs.Verdicts.{ReadClaim, reads_flag, reads_number, reads_text, reads_cancel, is_import, items_by as items_by_there, verdict_on as verdict_there}
 use Rattle.ti_source.specs.Parsing.{reading_of_text}
 use Rattle.ti_source.specs.Reading.{ReadItem}
-use Rattle.base_meaning.specs.Reaching.{used_name, Uses}
+use Rattle.base_meaning.specs.Reaching.{Uses}
 use Rattle.user_items.specs.Names.{is_user_defined_name}
 use Rattle.user_items.specs.Verdicts.{UserSaid, says, imports, defining_verdict, verdict_on}
 use Rattle.user_items.specs.Reading.{ReadUserItem, items_at, items_from}

@@ -1,17 +1,15 @@
 -- What was found out about a block stays right with each edit on which the block does not depend.
-use Rattle.std.proofs.Common.{◌≡◌, ℕ, zero, suc, List, [], ◌∷◌, Option, Some, None, slice_get, refl, sym, ap, ◌∙◌, subst}
+use Rattle.std.proofs.Common.{◌≡◌, ℕ, zero, suc, List, [], ◌∷◌, Option, Some, None, slice_get, refl, ◌∙◌, subst}
 use Rattle.std.specs.List.{AllZip}
 use Rattle.std.proofs.lemmas.Option.{same_Some, none-some}
 use Rattle.ti_source.specs.Parsing.{reading_of_text}
 use Rattle.base_meaning.specs.Owner.{readings}
 use Rattle.base_meaning.specs.Expansion.{expansion as expansion_there}
 use Rattle.base_meaning.specs.Compiled.{EntryState}
-use Rattle.user_values.specs.declared.table.UserTable.{UserTable}
-use Rattle.user_values.specs.Expansion.{first_said, expansion}
-use Rattle.user_values.specs.Tables.{HasUserTable}
-use Rattle.user_compiling.specs.Rows.{AreRowsOf}
-use Rattle.user_compiling.specs.Entries.{IsStateOf, does_not_resolve, does_resolve, state_with}
-use Rattle.user_compiling.proofs.RowLists.{rows_are_determined}
+use Rattle.user_values.specs.Expansion.{expansion}
+use Rattle.user_values.specs.Tables.{TableSeen, HasUserTable}
+use Rattle.user_compiling.specs.Entries.{IsStateOf, does_not_resolve, does_resolve}
+use Rattle.user_compiling.proofs.ReadBack.{one_state}
 use Rattle.user_base.specs.Places.{position_before}
 use Rattle.user_base.specs.Kept.{KeptTablesStayRight, KeptStatesStayRight, StatesAreDetermined}
 use Rattle.user_base.proofs.Untouched.{untouched}
@@ -26,7 +24,7 @@ zip_at R (a ∷ xs) (b ∷ ys) (suc at) x y all e d = zip_at R xs ys at x y all.
 
 -- ---- a block whose expansions are the same
 
-table_stays : (texts next : List (List ℕ)) (text : List ℕ) (table : Option UserTable) → expansion next text ≡ expansion texts text
+table_stays : (texts next : List (List ℕ)) (text : List ℕ) (table : Option TableSeen) → expansion next text ≡ expansion texts text
     → HasUserTable texts text table → HasUserTable next text table
 table_stays texts next text None e h = e ∙ h
 table_stays texts next text (Some table) e h = (h.0, e ∙ h.1, h.2)
@@ -57,18 +55,6 @@ kept_states = λ texts change states at text state h all stands other e.
     (zip_at (IsStateOf texts) texts states (position_before change at) text state all kept.stood e)
 
 -- ---- only one thing becomes of a block
-
-one_state : (texts : List (List ℕ)) (text : List ℕ) (s t : EntryState) → IsStateOf texts text s → IsStateOf texts text t → s ≡ t
-one_state texts text _ _ (does_not_resolve e) (does_not_resolve f) = refl
-one_state texts text _ _ (does_not_resolve e) (does_resolve {state = t} h) = absurd (none-some h.mentions (sym e ∙ h.expands))
-one_state texts text _ _ (does_resolve {state = s} g) (does_not_resolve f) = absurd (none-some g.mentions (sym f ∙ g.expands))
-one_state texts text _ _ (does_resolve {state = s} g) (does_resolve {state = t} h) =
-    let block = reading_of_text text in
-    let said = same_Some g.mentions h.mentions (sym g.expands ∙ h.expands) in
-    let user_said = same_Some g.user_mentions h.user_mentions (sym g.user_expands ∙ h.user_expands) in
-    let rows = rows_are_determined (first_said g.user_mentions) g.rows h.rows g.are_rows
-    (subst (λ ms. AreRowsOf (first_said ms) h.rows) (sym user_said) h.are_rows) in
-    g.is ∙ ap (λ ms. state_with block ms g.rows) said ∙ ap (state_with block h.mentions) rows ∙ sym h.is
 
 same_states : (texts xs : List (List ℕ)) (ss ts : List EntryState) → AllZip (IsStateOf texts) xs ss → AllZip (IsStateOf texts) xs ts → ss ≡ ts
 same_states texts [] [] [] all both = refl

@@ -1,10 +1,10 @@
 -- Two sources in which names that are not touched belong to the same text: what does not reach a
 -- touched name says the same in both.
-use Rattle.std.proofs.Common.{◌≡◌, ℕ, zero, suc, ◌⊎◌, inl, inr, Bool, true, false, cond, List, [], ◌∷◌, length, Option, Some, None, option_and_then, slice_get}
+use Rattle.std.proofs.Common.{◌≡◌, ℕ, zero, suc, ◌⊎◌, inl, inr, Bool, false, cond, List, [], ◌∷◌, length, Option, Some, None, option_and_then, slice_get}
 use Rattle.std.proofs.Common.{refl, sym, ◌∙◌, ap}
 use Rattle.std.proofs.lemmas.Option.{same_Some, none-some}
 use Rattle.ti_source.specs.Parsing.{reading_of_text}
-use Rattle.base_meaning.specs.Owner.{owner, owner_block, readings}
+use Rattle.base_meaning.specs.Owner.{owner_block, readings}
 use Rattle.base_meaning.specs.Expansion.{is_broken}
 use Rattle.base_meaning.specs.Reaching.{Uses}
 use Rattle.base_meaning.proofs.Owning.{nobody, somebody, owning}

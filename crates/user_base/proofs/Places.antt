@@ -9,7 +9,7 @@ use Rattle.ti_source.specs.Reading.{Reading}
 use Rattle.ti_text.proofs.Lists.{item_at, get-set_other}
 use Rattle.base_meaning.specs.Owner.{readings}
 use Rattle.base_meaning.specs.Edits.{Change, insertion, replacement, removal, relocation, IsInPlace, list_after, with_item_moved}
-use Rattle.base_meaning.specs.Exchange.{Exchange, position_behind, shifted_position, exchange_of, block_from}
+use Rattle.base_meaning.specs.Exchange.{position_behind, shifted_position, exchange_of, block_from}
 use Rattle.base_meaning.specs.Dependents.{IsPutAt}
 use Rattle.base_meaning.proofs.Placing.{get-insert, split-insert}
 use Rattle.user_base.specs.Places.{position_ahead, position_before}

@@ -1,11 +1,11 @@
 -- A block that does not depend on an edit says after it what it said.
-use Rattle.std.proofs.Common.{◌≡◌, ℕ, inl, inr, Bool, true, false, List, Option, Some, None, option_map, option_and_then, slice_get, refl, sym, ◌∙◌, ap, subst}
+use Rattle.std.proofs.Common.{◌≡◌, ℕ, inl, inr, List, Option, Some, None, option_map, option_and_then, slice_get, refl, sym, ◌∙◌, ap, subst}
 use Rattle.std.proofs.lemmas.Bool.{false_from_ne_true}
 use Rattle.ti_source.specs.Parsing.{reading_of_text}
 use Rattle.base_meaning.specs.Owner.{is_among, owner, owner_block, readings}
 use Rattle.base_meaning.specs.Expansion.{expansion as expansion_there}
 use Rattle.base_meaning.specs.Edits.{Change, IsInPlace, list_after}
-use Rattle.base_meaning.specs.Exchange.{Exchange, IsExchange, old_list, new_list, shifted_position, exchange_of}
+use Rattle.base_meaning.specs.Exchange.{old_list, new_list, shifted_position, exchange_of}
 use Rattle.base_meaning.specs.Dependents.{touched_names, ReachesOne, IsDependent}
 use Rattle.base_meaning.specs.Reaching.{Uses}
 use Rattle.base_meaning.proofs.Placing.{get-with, owner-with, split-with, shifted-other}
@@ -13,7 +13,6 @@ use Rattle.base_meaning.proofs.KeptWays.{IsFree}
 use Rattle.base_meaning.proofs.Exchanging.{off_old, off_new}
 use Rattle.base_meaning.proofs.KeptFaults.{kept_block, touched_in_both}
 use Rattle.base_meaning.proofs.ExchangeLaws.{exchanged}
-use Rattle.user_values.specs.Expansion.{owner_text, expand}
 use Rattle.user_values.proofs.Resolving.{read_text}
 use Rattle.user_base.specs.Places.{position_before}
 use Rattle.user_base.specs.Untouched.{IsUntouched, UntouchedBlocksSayTheSame}

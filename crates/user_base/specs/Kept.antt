@@ -4,15 +4,14 @@ use Rattle.base_meaning.specs.Compiled.{EntryState}
 use Rattle.base_meaning.specs.Edits.{Change, IsInPlace, list_after}
 use Rattle.base_meaning.specs.Exchange.{exchange_of}
 use Rattle.base_meaning.specs.Dependents.{IsDependent}
-use Rattle.user_values.specs.declared.table.UserTable.{UserTable}
-use Rattle.user_values.specs.Tables.{IsTableAt}
+use Rattle.user_values.specs.Tables.{TableSeen, IsTableAt}
 use Rattle.user_compiling.specs.Entries.{AreStates, IsStateOf}
 use Rattle.user_base.specs.Places.{position_before}
 
 -- the table that such a block had is its table after the edit
 abbrev pub KeptTablesStayRight : Type 0
 KeptTablesStayRight =
-    (texts : List (List ℕ)) (change : Change) (at : ℕ) (table : Option UserTable)
+    (texts : List (List ℕ)) (change : Change) (at : ℕ) (table : Option TableSeen)
     → IsInPlace texts change → ¬ (IsDependent (exchange_of texts change) at)
     → IsTableAt texts (position_before change at) table
     → IsTableAt (list_after texts change) at table

@@ -2,6 +2,8 @@ pub mod RowLists
 pub mod Imaging
 pub mod Pairs
 pub mod States
+pub mod Mentioned
+pub mod ReadBack
 pub mod SourceFaults
 pub mod Findings
 pub mod Profile

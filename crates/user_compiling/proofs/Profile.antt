@@ -6,30 +6,30 @@ use Rattle.std.proofs.lemmas.List.{map-append}
 use Rattle.std.proofs.lemmas.Option.{same_Some, none-some}
 use Rattle.user_values.proofs.Resolving.{read_text}
 use Rattle.ti_text.specs.Lists.{both_lists}
-use Rattle.ti_source.specs.Reading.{Reading, ReadFault, ReadItem}
+use Rattle.ti_source.specs.Reading.{Reading}
 use Rattle.ti_source.specs.Parsing.{reading_of_text}
 use Rattle.ti_source.specs.Walking.{block_items}
 use Rattle.ti_layout.specs.Values.{Mention}
 use Rattle.ti_layout.specs.Laws.{without_cancel}
 use Rattle.base_meaning.specs.Owner.{owner, readings}
 use Rattle.base_meaning.specs.Expansion.{is_broken, expansion as expansion_there}
-use Rattle.base_meaning.specs.Compiled.{EntryState, unresolved, oversized, written, state_of, state_with as state_there, entry, entry_of, is_too_large}
+use Rattle.base_meaning.specs.Compiled.{EntryState, oversized, written, state_of, state_with as state_there, entry, entry_of, is_too_large}
 use Rattle.base_meaning.specs.Compiled.{image_of, compiled}
 use Rattle.base_meaning.specs.Faults.{SourceFault, is_kept, item_faults, local_faults, name_faults, entry_faults, block_faults, faults_after, faults}
-use Rattle.base_meaning.specs.Laws.{numbered_faults, ItemFaultsAreInOrder}
-use Rattle.base_meaning.specs.Report.{report_line, report}
+use Rattle.base_meaning.specs.Laws.{ItemFaultsAreInOrder}
+use Rattle.base_meaning.specs.Report.{report_line}
 use Rattle.user_items.specs.Verdicts.{UserSaid, UserVerdict, user_accepted, user_odd, user_refused, says, imports}
-use Rattle.user_items.specs.Laws.{NamedPlace, WarningsAreOfDefiningItems, user_warning, places_from}
+use Rattle.user_items.specs.Laws.{WarningsAreOfDefiningItems, user_warning, places_from}
 use Rattle.user_items.specs.Reading.{ReadUserItem, UserJudged, items_from}
 use Rattle.user_items.specs.Parsing.{user_reading_of_text}
 use Rattle.user_items.specs.inside.Computed.{judged_of}
 use Rattle.user_extension.specs.UserDefined.{Row}
 use Rattle.user_values.specs.Expansion.{UserMention, first_said, mentions_of, expand_items, owner_text, expand}
 use Rattle.user_compiling.specs.Rows.{AreRowsOf}
-use Rattle.user_compiling.specs.Entries.{HasStateBy, IsStateOf, does_not_resolve, does_resolve, AreStates, entry_in, state_with}
-use Rattle.user_compiling.specs.Faults.{ExtendedSourceFault, of_profile, extended_item_faults, extended_block_faults, extended_faults_after, extended_faults}
-use Rattle.user_compiling.specs.Report.{extended_line, extended_report}
-use Rattle.user_compiling.specs.Laws.{DefineNoNames, profile_states, PlainSourcesAreAsInTheProfile}
+use Rattle.user_compiling.specs.Entries.{IsStateOf, does_not_resolve, does_resolve, entry_in, state_with}
+use Rattle.user_compiling.specs.Faults.{of_profile, extended_block_faults, extended_faults_after}
+use Rattle.user_compiling.specs.Report.{extended_line}
+use Rattle.user_compiling.specs.Laws.{DefineNoNames, PlainSourcesAreAsInTheProfile}
 use Rattle.user_compiling.proofs.RowLists.{contains_head}
 use Rattle.user_compiling.proofs.Pairs.{plain_items}
 use Rattle.user_compiling.proofs.States.{bare_image}

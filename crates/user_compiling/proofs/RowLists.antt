@@ -1,50 +1,49 @@
 -- The rows of a table, kind by kind, are those of a block, and there is only one such list.
-use Rattle.std.proofs.Common.{◌≡◌, ◌≢◌, ◌↔◌, ℕ, zero, suc, ◌+◌, ◌<◌, Bool, true, false, cond, List, [], ◌∷◌, ◌++◌, map, filter, length, get_or, Option}
+use Rattle.std.proofs.Common.{◌≡◌, ◌↔◌, ℕ, zero, suc, ◌+◌, ◌<◌, Bool, true, false, cond, List, [], ◌∷◌, ◌++◌, filter, length, get_or, take, Option}
 use Rattle.std.proofs.Common.{Some, None, refl, sym, ap, ◌∙◌, subst, arith, append_assoc, ◌⊎◌, inl, inr}
 use Rattle.std.specs.Prelude.{IsTrue, ◌==◌, ◌&&◌, ◌||◌, nat_le, All}
-use Rattle.std.specs.List.{AllPairs, AllByRecursion, Contains}
-use Rattle.std.specs.List.Sorted.{IsStrictlySortedBy}
-use Rattle.std.specs.Option.{option_map}
-use Rattle.std.specs.Ordering.{nat_cmp, is_eq, is_lt, ordering_reverse}
+use Rattle.std.specs.List.{AllPairs, Contains}
+use Rattle.std.specs.Ordering.{nat_cmp, is_eq, is_lt}
+use Rattle.std.specs.Str.{bytes_eq}
 use Rattle.std.specs.declared.cmp.Ordering.{Ordering}
 use Rattle.std.specs.declared.cmp.Ordering.TheVariants.{Less, Equal, Greater}
 use Rattle.std.specs.Cmp.Lexicographic.{slice_cmp, bytes_decides}
 use Rattle.std.proofs.lemmas.Map.Text.{is_eq-slice_cmp}
-use Rattle.std.specs.Map.{lookup, keys_of}
-use Rattle.std.specs.BTreeMap.{is_at}
-use Rattle.std.specs.declared.vec.Vec.{Vec}
 use Rattle.std.specs.declared.alloc.Global.{Global}
+use Rattle.std.specs.declared.rc.Rc.{Rc}
 use Rattle.std.proofs.lemmas.Bool.{cases_Bool, cases_lt, false≢true}
 use Rattle.std.proofs.lemmas.Cmp.{nat_list_cmp_total, tied_itself}
-use Rattle.std.proofs.lemmas.List.{map-append}
-use Rattle.std.proofs.lemmas.List.Elements.{All-nil, All-cons, All-append, All-contains, All-filter, filter-append, filter_passes, All-get_or}
-use Rattle.std.proofs.lemmas.List.Elements.{All-from_recursion, Contains-append_cases, Contains-append_left, Contains-append_right}
+use Rattle.std.proofs.lemmas.List.Elements.{All-append, All-contains, filter-append, filter_passes}
+use Rattle.std.proofs.lemmas.List.Elements.{Contains-append_cases, Contains-append_left, Contains-append_right}
 use Rattle.std.proofs.lemmas.List.Kept.{AllPairs-cons, AllPairs-filter}
 use Rattle.std.proofs.lemmas.Option.{same_Some, none-some}
+use Rattle.ti_text.proofs.Lists.{map-take_item}
 use Rattle.ti_caps.specs.declared.capability.Kind.{Kind}
 use Rattle.ti_caps.specs.declared.capability.Kind.TheVariants as kind
-use Rattle.ti_layout.specs.declared.values.Value.{Value}
-use Rattle.ti_layout.specs.Values.{Content, content_true, content_number, content_text, content_cancelled, content_of}
+use Rattle.ti_layout.specs.Values.{Content, content_true, content_number, content_text, content_cancelled}
 use Rattle.ti_layout.specs.Laws.{without_cancel}
 use Rattle.user_extension.specs.UserDefined.{Row, comes_before, kind_rank}
 use Rattle.user_compiling.specs.Rows.{AreRowsOf, RowsAreDetermined}
-use Rattle.user_compiling.specs.inside.Kinds.{is_of_kind, of_kind, row_of_entry, row_with, rows_of_kind}
+use Rattle.user_values.specs.Expansion.{first_said}
+use Rattle.user_values.specs.Tables.{entries_seen, entry_seen}
+use Rattle.user_values.specs.declared.entries.UserEntry.{UserEntry}
+use Rattle.user_compiling.specs.inside.Kinds.{is_of_kind, of_kind, row_with, rows_of_kind}
 
 -- ---- lists
 
 pub contains_head : (r : Row) (rs : List Row) → Contains (r ∷ rs) r
 contains_head r rs = (0, omega arith, refl)
 
-contains_later : (r : Row) (rs : List Row) (x : Row) → Contains rs x → Contains (r ∷ rs) x
+pub contains_later : (r : Row) (rs : List Row) (x : Row) → Contains rs x → Contains (r ∷ rs) x
 contains_later r rs x c = (suc c.0, omega (arith, c.1), c.2)
 
-contains_cases : (r : Row) (rs : List Row) (x : Row) → Contains (r ∷ rs) x → (r ≡ x) ⊎ Contains rs x
+pub contains_cases : (r : Row) (rs : List Row) (x : Row) → Contains (r ∷ rs) x → (r ≡ x) ⊎ Contains rs x
 contains_cases r rs x c = by_place r rs x c.0 c.1 c.2 where
   by_place : (r : Row) (rs : List Row) (x : Row) (k : ℕ) → k < length (r ∷ rs) → get_or (r ∷ rs) k x ≡ x → (r ≡ x) ⊎ Contains rs x
   by_place r rs x zero l e = inl e
   by_place r rs x (suc k) l e = inr (k, omega (arith, l), e)
 
-contains_none : (x : Row) → Contains [] x → ⊥
+pub contains_none : (x : Row) → Contains [] x → ⊥
 contains_none x c = omega (arith, c.1)
 
 filter-contains : (p : Row → Bool) (rs : List Row) (x : Row) → Contains rs x → p x ≡ true → Contains (filter p rs) x
@@ -125,7 +124,7 @@ names_apart x y a b = less_itself x (nat_list_cmp_total.trans x y x a b) where
     apart_orderings e = cc
 
 -- no two rows come before each other
-rows_apart : (u v : Row) → IsTrue (comes_before u v) → IsTrue (comes_before v u) → ⊥
+pub rows_apart : (u v : Row) → IsTrue (comes_before u v) → IsTrue (comes_before v u) → ⊥
 rows_apart u v e f = elim (cases_lt (kind_rank u.1) (kind_rank v.1)) [
   | inl lt ↦ false≢true (sym (not_after_rank (kind_rank v.1) (kind_rank u.1) (slice_cmp nat_cmp v.0 u.0) lt) ∙ f)
   | inr le ↦ elim (cases_lt (kind_rank v.1) (kind_rank u.1)) [
@@ -185,81 +184,45 @@ pub rows_are_determined : RowsAreDetermined
 rows_are_determined said one other a b =
     determined one other a.rise b.rise (λ r. (λ c. (b.each r.0 r.1).1 ((a.each r.0 r.1).0 c), λ c. (a.each r.0 r.1).1 ((b.each r.0 r.1).0 c)))
 
--- ---- the entries of a table
-
-abbrev Entries : Type 0
-Entries = List (Vec ℕ Global × Value)
-
-abbrev key_cmp : Vec ℕ Global → Vec ℕ Global → Ordering
-key_cmp x y = slice_cmp nat_cmp x.items y.items
-
-abbrev said_in : Entries → List ℕ → Option Content
-said_in es name = option_map content_of (lookup (is_at (λ key. slice_cmp nat_cmp name key.items)) es)
-
-later_names : (k : Vec ℕ Global) (es : Entries) → AllByRecursion (λ y. key_cmp k y ≡ Less) (keys_of es)
-    → All (λ (r : Row). slice_cmp nat_cmp k.items r.0 ≡ Less) (map row_of_entry es)
-later_names k [] h = All-nil (λ (r : Row). slice_cmp nat_cmp k.items r.0 ≡ Less)
-later_names k (e ∷ es) h = All-cons (λ (r : Row). slice_cmp nat_cmp k.items r.0 ≡ Less) (row_of_entry e) (map row_of_entry es) h.0 (later_names k es h.1)
+-- ---- what a table says
 
 abbrev ByName : Row → Row → Type 0
 ByName u v = slice_cmp nat_cmp u.0 v.0 ≡ Less
 
-names_rise : (es : Entries) → IsStrictlySortedBy key_cmp (keys_of es) → AllPairs ByName (map row_of_entry es)
-unfolding IsStrictlySortedBy
-names_rise [] s = λ i j d a b. absurd (omega (arith, b))
-names_rise (e ∷ es) s = AllPairs-cons ByName (row_of_entry e) (map row_of_entry es) (later_names e.0 es s.0) (names_rise es s.1)
+said_here : (r : Row) (rs : List Row) (name : List ℕ) (content : Content) → r ≡ (name, content) → first_said (r ∷ rs) name ≡ Some content
+said_here r rs name content same =
+    let named : r.0 ≡ name = ap (λ (x : Row). x.0) same in
+    let given : r.1 ≡ content = ap (λ (x : Row). x.1) same in
+    let passes : bytes_eq r.0 name ≡ true = (bytes_decides r.0 name).1 named in
+    ap (λ (b : Bool). cond b (Some r.1) (first_said rs name)) passes ∙ ap (λ (x : Content). Some x) given
 
-test_itself : (name : List ℕ) → is_eq (slice_cmp nat_cmp name name) ≡ true
-test_itself name = ap is_eq (tied_itself nat_list_cmp_total name)
+passed_said : (r : Row) (rs : List Row) (name : List ℕ) → bytes_eq r.0 name ≡ false → first_said (r ∷ rs) name ≡ first_said rs name
+passed_said r rs name f = ap (λ (b : Bool). cond b (Some r.1) (first_said rs name)) f
 
-test_of_less : (x y : List ℕ) → slice_cmp nat_cmp x y ≡ Less → is_eq (slice_cmp nat_cmp y x) ≡ false
-test_of_less x y l = ap is_eq (nat_list_cmp_total.antisymm y x) ∙ ap (λ o. is_eq (ordering_reverse o)) l
+said_later : (r : Row) (rs : List Row) (name : List ℕ) → slice_cmp nat_cmp r.0 name ≡ Less → first_said (r ∷ rs) name ≡ first_said rs name
+said_later r rs name l = passed_said r rs name (sym (is_eq-slice_cmp r.0 name) ∙ ap is_eq l)
 
-said_here : (e : Vec ℕ Global × Value) (es : Entries) (name : List ℕ) (content : Content) → row_of_entry e ≡ (name, content)
-    → said_in (e ∷ es) name ≡ Some content
-said_here e es name content same =
-    let named : e.0.items ≡ name = ap (λ (r : Row). r.0) same in
-    let given : content_of e.1 ≡ content = ap (λ (r : Row). r.1) same in
-    let passes : is_eq (slice_cmp nat_cmp name e.0.items) ≡ true = rw named (test_itself name) in
-    rw (passes, given) refl
-
-said_later : (e : Vec ℕ Global × Value) (es : Entries) (name : List ℕ) → slice_cmp nat_cmp e.0.items name ≡ Less → said_in (e ∷ es) name ≡ said_in es name
-said_later e es name l = rw (test_of_less e.0.items name l) refl
-
-said_of_row : (es : Entries) → IsStrictlySortedBy key_cmp (keys_of es) → (name : List ℕ) (content : Content)
-    → Contains (map row_of_entry es) (name, content) → said_in es name ≡ Some content
-unfolding IsStrictlySortedBy
+said_of_row : (rs : List Row) → AllPairs ByName rs → (name : List ℕ) (content : Content) → Contains rs (name, content) → first_said rs name ≡ Some content
 said_of_row [] s name content c = absurd (contains_none (name, content) c)
-said_of_row (e ∷ es) s name content c = elim (contains_cases (row_of_entry e) (map row_of_entry es) (name, content) c) [
-  | inl same ↦ said_here e es name content same
+said_of_row (r ∷ rs) s name content c = elim (contains_cases r rs (name, content) c) [
+  | inl same ↦ said_here r rs name content same
   | inr later ↦
-      let less : slice_cmp nat_cmp e.0.items name ≡ Less =
-      All-contains (λ (r : Row). slice_cmp nat_cmp e.0.items r.0 ≡ Less) (map row_of_entry es) (name, content) (later_names e.0 es s.0) later in
-      said_later e es name less ∙ said_of_row es s.1 name content later
+      let less : slice_cmp nat_cmp r.0 name ≡ Less = All-contains (ByName r) rs (name, content) (pairs_head ByName r rs s) later in
+      said_later r rs name less ∙ said_of_row rs (pairs_tail ByName r rs s) name content later
 ]
 
-found_said : (x : Vec ℕ Global × Value) (es : Entries) (name : List ℕ) → is_eq (slice_cmp nat_cmp name x.0.items) ≡ true
-    → said_in (x ∷ es) name ≡ Some (content_of x.1)
-found_said x es name t =
-    ap (λ (b : Bool). option_map content_of (cond b (Some x.1) (lookup (is_at (λ (key : Vec ℕ Global). slice_cmp nat_cmp name key.items)) es))) t
-
-passed_said : (x : Vec ℕ Global × Value) (es : Entries) (name : List ℕ) → is_eq (slice_cmp nat_cmp name x.0.items) ≡ false
-    → said_in (x ∷ es) name ≡ said_in es name
-passed_said x es name f =
-    ap (λ (b : Bool). option_map content_of (cond b (Some x.1) (lookup (is_at (λ (key : Vec ℕ Global). slice_cmp nat_cmp name key.items)) es))) f
-
-row_same : (a b : List ℕ) (c d : Content) → a ≡ b → c ≡ d → ◌≡◌ {A = Row} (a, c) (b, d)
+pub row_same : (a b : List ℕ) (c d : Content) → a ≡ b → c ≡ d → ◌≡◌ {A = Row} (a, c) (b, d)
 row_same a b c d e f = rw (e, f) refl
 
-row_of_said : (es : Entries) (name : List ℕ) (content : Content) → said_in es name ≡ Some content → Contains (map row_of_entry es) (name, content)
+row_of_said : (rs : List Row) (name : List ℕ) (content : Content) → first_said rs name ≡ Some content → Contains rs (name, content)
 row_of_said [] name content e = absurd (none-some content e)
-row_of_said (x ∷ es) name content e = elim (cases_Bool (is_eq (slice_cmp nat_cmp name x.0.items))) [
+row_of_said (r ∷ rs) name content e = elim (cases_Bool (bytes_eq r.0 name)) [
   | inl t ↦
-      let same : name ≡ x.0.items = (bytes_decides name x.0.items).0 (sym (is_eq-slice_cmp name x.0.items) ∙ t) in
-      let given : content_of x.1 ≡ content = same_Some (content_of x.1) content (sym (found_said x es name t) ∙ e) in
-      subst (λ (r : Row). Contains (map row_of_entry (x ∷ es)) r) (row_same x.0.items name (content_of x.1) content (sym same) given)
-      (contains_head (row_of_entry x) (map row_of_entry es))
-  | inr f ↦ contains_later (row_of_entry x) (map row_of_entry es) (name, content) (row_of_said es name content (sym (passed_said x es name f) ∙ e))
+      let same : r.0 ≡ name = (bytes_decides r.0 name).0 t in
+      let found : first_said (r ∷ rs) name ≡ Some r.1 = ap (λ (b : Bool). cond b (Some r.1) (first_said rs name)) t in
+      let given : r.1 ≡ content = same_Some r.1 content (sym found ∙ e) in
+      subst (λ (x : Row). Contains (r ∷ rs) x) (row_same r.0 name r.1 content same given) (contains_head r rs)
+  | inr f ↦ contains_later r rs (name, content) (row_of_said rs name content (sym (passed_said r rs name f) ∙ e))
 ]
 
 -- ---- kind by kind
@@ -292,7 +255,7 @@ present kind.Flag content_cancelled e = absurd (false≢true e)
 present kind.Number content_cancelled e = absurd (false≢true e)
 present kind.Text content_cancelled e = absurd (false≢true e)
 
-uncancelled : (o : Option Content) (c : Content) → without_cancel o ≡ Some c → o ≡ Some c
+pub uncancelled : (o : Option Content) (c : Content) → without_cancel o ≡ Some c → o ≡ Some c
 uncancelled None c e = absurd (none-some c e)
 uncancelled (Some content_true) c e = e
 uncancelled (Some (content_number n)) c e = e
@@ -365,18 +328,17 @@ all_rise rows h =
     ])
 
 -- the rows of a table are those of the block that says what it says
-pub rows_of_entries : (es : Entries) → IsStrictlySortedBy key_cmp (keys_of es) → AreRowsOf (said_in es) (all_kinds (map row_of_entry es))
-rows_of_entries es s = record {
-  rise = all_rise (map row_of_entry es) (names_rise es s);
-  each = λ name content.
-      let rows = map row_of_entry es in (
-        λ c.
-            let there = from_all rows (name, content) c in
-            ap without_cancel (said_of_row es s name content there.0) ∙ there.1,
-        λ e.
-            let said : said_in es name ≡ Some content = uncancelled (said_in es name) content e in
-            in_all rows name content (row_of_said es name content said) (sym (ap without_cancel said) ∙ e),
-      );
+pub rows_of_entries : (rows : List Row) → AllPairs ByName rows → AreRowsOf (first_said rows) (all_kinds rows)
+rows_of_entries rows s = record {
+  rise = all_rise rows s;
+  each = λ name content. (
+    λ c.
+        let there = from_all rows (name, content) c in
+        ap without_cancel (said_of_row rows s name content there.0) ∙ there.1,
+    λ e.
+        let said : first_said rows name ≡ Some content = uncancelled (first_said rows name) content e in
+        in_all rows name content (row_of_said rows name content said) (sym (ap without_cancel said) ∙ e),
+  );
 }
 
 -- one more row of a kind
@@ -387,29 +349,34 @@ kind_more k rows r =
     ++ row_with r.0 (cond b (Some r.1) None)) [ true ↦ refl | false ↦ refl ]
 
 -- a row of one more entry was added
-pub row_more : (k : Kind) (es : Entries) (key : Vec ℕ Global) (v : Value) (start old new : List Row) → old ≡ start ++ rows_of_kind k (map row_of_entry es)
-    → new ≡ old ++ row_with key.items (of_kind k (content_of v))
-    → new ≡ start ++ rows_of_kind k (map row_of_entry (es ++ (key, v) ∷ []))
-row_more k es key v start old new e n =
-    n ∙ ap (λ xs. xs ++ row_with key.items (of_kind k (content_of v))) e
-    ∙ append_assoc start (rows_of_kind k (map row_of_entry es)) (row_with key.items (of_kind k (content_of v)))
-    ∙ ap (λ xs. start ++ xs) (sym (kind_more k (map row_of_entry es) (key.items, content_of v))
-    ∙ ap (rows_of_kind k) (sym (map-append row_of_entry es ((key, v) ∷ []))))
+pub row_more : (k : Kind) (entries : List (Rc UserEntry Global)) (at : ℕ) (entry : Rc UserEntry Global) (start old new : List Row)
+    → old ≡ start ++ rows_of_kind k (entries_seen (take at entries)) → at < length entries → entry ≡ get_or entries at entry
+    → new ≡ old ++ row_with (entry_seen entry.value).0 (of_kind k (entry_seen entry.value).1)
+    → new ≡ start ++ rows_of_kind k (entries_seen (take (at + 1) entries))
+row_more k entries at entry start old new e within is n =
+    let seen : Rc UserEntry Global → Row = λ x. entry_seen x.value in
+    let before = entries_seen (take at entries) in
+    let added = row_with (seen entry).0 (of_kind k (seen entry).1) in
+    n ∙ ap (λ xs. xs ++ added) e ∙ append_assoc start (rows_of_kind k before) added
+    ∙ ap (λ xs. start ++ xs) (sym (kind_more k before (seen entry)) ∙ ap (rows_of_kind k) (sym (map-take_item seen entries at entry within is)))
+
+-- the rows of who gives each name the same value
+pub rows_alike : (said other : List ℕ → Option Content) (rows : List Row) → ((name : List ℕ) → without_cancel (said name) ≡ without_cancel (other name))
+    → AreRowsOf said rows → AreRowsOf other rows
+rows_alike said other rows h are = record {
+  rise = are.rise;
+  each = λ name content. (λ c. sym (h name) ∙ (are.each name content).0 c, λ e. (are.each name content).1 (h name ∙ e));
+}
 
 pub rows_agree : (said other : List ℕ → Option Content) (rows : List Row) → ((name : List ℕ) → said name ≡ other name) → AreRowsOf said rows
     → AreRowsOf other rows
-rows_agree said other rows h are = record {
-  rise = are.rise;
-  each = λ name content. (λ c. ap without_cancel (sym (h name)) ∙ (are.each name content).0 c, λ e. (are.each name content).1 (ap without_cancel (h name) ∙ e));
-}
+rows_agree said other rows h are = rows_alike said other rows (λ name. ap without_cancel (h name)) are
 
 -- the rows of the three kinds, added in turn, are those of who says what the entries say
-pub rows_in_turn : (es : Entries) (said : List ℕ → Option Content) (none a b c : List Row) → IsStrictlySortedBy key_cmp (keys_of es)
-    → ((name : List ℕ) → said_in es name ≡ said name) → none ≡ []
-    → a ≡ none ++ rows_of_kind kind.Flag (map row_of_entry es) → b ≡ a ++ rows_of_kind kind.Number (map row_of_entry es)
-    → c ≡ b ++ rows_of_kind kind.Text (map row_of_entry es) → AreRowsOf said c
-rows_in_turn es said none a b c s h n e f g =
-    let rows = map row_of_entry es in
+pub rows_in_turn : (rows : List Row) (said : List ℕ → Option Content) (none a b c : List Row) → AllPairs ByName rows
+    → ((name : List ℕ) → first_said rows name ≡ said name) → none ≡ [] → a ≡ none ++ rows_of_kind kind.Flag rows
+    → b ≡ a ++ rows_of_kind kind.Number rows → c ≡ b ++ rows_of_kind kind.Text rows → AreRowsOf said c
+rows_in_turn rows said none a b c s h n e f g =
     let flags : a ≡ rows_of_kind kind.Flag rows = e ∙ ap (λ xs. xs ++ rows_of_kind kind.Flag rows) n in
     let all : c ≡ all_kinds rows = g ∙ ap (λ xs. xs ++ rows_of_kind kind.Text rows) (f ∙ ap (λ xs. xs ++ rows_of_kind kind.Number rows) flags) in
-    rows_agree (said_in es) said c h (subst (AreRowsOf (said_in es)) (sym all) (rows_of_entries es s))
+    rows_agree (first_said rows) said c h (subst (AreRowsOf (first_said rows)) (sym all) (rows_of_entries rows s))

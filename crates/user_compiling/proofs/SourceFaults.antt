@@ -1,15 +1,12 @@
 -- The faults of a block and of a source, put together.
-use Rattle.std.proofs.Common.{◌≡◌, ◌≢◌, ℕ, zero, suc, ◌+◌, ◌-◌, ◌<◌, ◌≤◌, Bool, true, false, ◌&&◌, cond, nat_eq, List, [], ◌∷◌, ◌++◌, map, filter, length}
-use Rattle.std.proofs.Common.{length-append, take, drop, get_or, Option, Some, None, is_some, slice_get, refl, sym, ap, ◌∙◌, subst, arith, append_assoc}
-use Rattle.std.specs.Prelude.{All, is_none, not, option_and_then}
-use Rattle.std.specs.List.{flat_map, take-map, drop-map}
-use Rattle.std.proofs.lemmas.Bool.{false≢true}
-use Rattle.std.proofs.lemmas.List.{append-nil, drop_all, length-map, map-append}
+use Rattle.std.proofs.Common.{◌≡◌, ℕ, zero, suc, ◌+◌, ◌-◌, ◌<◌, ◌≤◌, Bool, true, false, ◌&&◌, cond, nat_eq, List, [], ◌∷◌, ◌++◌, map, filter, length}
+use Rattle.std.proofs.Common.{length-append, take, drop, get_or, Option, Some, None, is_some, slice_get, refl, sym, ap, ◌∙◌, arith, append_assoc}
+use Rattle.std.specs.Prelude.{All, is_none, option_and_then}
+use Rattle.std.specs.List.{take-map, drop-map}
+use Rattle.std.proofs.lemmas.List.{append-nil, drop_all, length-map}
 use Rattle.ti_base.proofs.Lists.{drop_get}
 use Rattle.std.proofs.lemmas.List.Elements.{All-nil, All-cons, All-head, All-tail, All-append, All-map}
-use Rattle.std.proofs.lemmas.Option.{same_Some, none-some}
 use Rattle.user_values.proofs.Resolving.{read_text}
-use Rattle.ti_text.specs.Limits.{block_bytes_max}
 use Rattle.ti_source.specs.declared.code.Code.{Code}
 use Rattle.ti_source.specs.declared.code.Code.TheVariants as code
 use Rattle.ti_source.specs.Reading.{Reading, ReadFault, ReadItem}
@@ -26,7 +23,7 @@ use Rattle.base_meaning.specs.Faults.{fault_of_use, fault_of_item, faults_before
 use Rattle.user_items.specs.declared.reading.UserCode.{UserCode}
 use Rattle.user_items.specs.declared.reading.UserCode.TheVariants as user
 use Rattle.user_compiling.specs.Faults.{ExtendedSourceFault, of_profile, bad_user_defined, with_code, in_place, bad_at, is_user_warning}
-use Rattle.user_compiling.specs.Faults.{extended_item_faults, extended_block_faults, extended_faults_after}
+use Rattle.user_compiling.specs.Faults.{extended_block_faults, extended_faults_after}
 use Rattle.user_compiling.specs.Report.{IsExtendedPlaced}
 use Rattle.user_compiling.specs.inside.Pairs.{replaced, head_code, tail_codes, front_faults, count_at}
 

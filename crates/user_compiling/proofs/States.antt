@@ -1,5 +1,5 @@
 -- What becomes of a block, by its table and its rows.
-use Rattle.std.proofs.Common.{◌≡◌, ◌≢◌, ℕ, ◌<◌, ◌≤◌, Bool, true, false, cond, nat_lt, List, [], ◌∷◌, length}
+use Rattle.std.proofs.Common.{◌≡◌, ℕ, ◌<◌, ◌≤◌, Bool, true, false, cond, nat_lt, List, [], ◌∷◌, length}
 use Rattle.std.proofs.Common.{Option, Some, None, is_some, option_and_then, slice_get, refl, sym, ap, ◌∙◌, subst, arith}
 use Rattle.std.proofs.lemmas.Bool.{lt-ltb, le-ltb, false≢true}
 use Rattle.user_values.proofs.Resolving.{read_text}
@@ -24,7 +24,7 @@ use Rattle.user_compiling.specs.inside.States.{state_of_entry}
 use Rattle.user_compiling.proofs.RowLists.{rows_agree}
 use Rattle.user_compiling.proofs.Imaging.{entries_are_of_values, limits_are_of_values, entry_without}
 
-uncancelled-twice : (o : Option Content) → without_cancel (without_cancel o) ≡ without_cancel o
+pub uncancelled-twice : (o : Option Content) → without_cancel (without_cancel o) ≡ without_cancel o
 uncancelled-twice None = refl
 uncancelled-twice (Some content_true) = refl
 uncancelled-twice (Some (content_number n)) = refl

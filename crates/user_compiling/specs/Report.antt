@@ -4,7 +4,6 @@ use Rattle.std.specs.Prelude.{ℕ, ◌+◌, ◌-◌, List, ◌∷◌, ◌++◌, 
 use Rattle.std.specs.Fmt.{decimal}
 use Rattle.std.specs.List.{flat_map}
 use Rattle.ti_text.specs.Ascii as ascii
-use Rattle.ti_text.specs.Limits.{block_bytes_max}
 use Rattle.base_meaning.specs.Compiled.{EntryState}
 use Rattle.base_meaning.specs.Report.{detail_text, lines_before, report_line}
 use Rattle.base_meaning.specs.Usable.{IsPlaced, IsLine}

@@ -15,7 +15,8 @@
 //!   for its faults (`Finding`), which can be kept; `block_faults`: the faults of a block;
 //!   `source_faults`: those of a source (`faults`), also by what was found out (`found_faults`)
 //! - `report`: the faults as text (`report_of`)
-//! - `laws`: without user-defined names all is as in the profile
+//! - `laws`: each entry is read as what its block says; without user-defined names all is as in the
+//!   profile
 //!
 //! A source without user-defined names gives the entries and the report that `ti_base` gives.
 #![tactic(auto)]

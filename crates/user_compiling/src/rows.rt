@@ -2,16 +2,16 @@
 ghost use Rattle.std.specs.Prelude.{◌≡◌, ◌++◌, IfOk, OnOk, option_map};
 ghost use Rattle.ti_layout.specs.Values.{content_of, content_seen};
 ghost use Rattle.user_extension.specs.UserDefined as spec;
-ghost use Rattle.user_values.specs.Tables.{said_at};
+ghost use Rattle.user_values.specs.Tables.{entries_seen, entry_seen, said_at};
 ghost use Rattle.user_compiling.specs.Rows.{AreRowsOf};
-ghost use Rattle.user_compiling.specs.inside.Kinds.{of_kind, row_with, rows_of_kind, map_rows};
+ghost use Rattle.user_compiling.specs.inside.Kinds.{of_kind, row_with, rows_of_kind};
 
 use std::alloc::{AllocError, Global};
-use std::collections::BTreeMap;
+use std::rc::Rc;
 use ti_caps::Kind;
 use ti_layout::{Content, Value};
 use user_extension::UserDefined;
-use user_values::UserTable;
+use user_values::{UserEntry, UserTable};
 
 // What a value says, if it is of this kind.
 fn content_of_kind(value: &Value, kind: Kind) -> Option<Content<'_>>
@@ -39,16 +39,33 @@ fn push_row<'a>(
     Ok(())
 }
 
-// Adds those of a kind, in the order of their names.
-fn push_kind<'a>(
-    entries: &'a BTreeMap<Vec<u8>, Value>,
+// Adds the name of an entry with what it has of a kind, if it has something.
+fn push_entry<'a>(
+    entry: &'a Rc<UserEntry>,
     kind: Kind,
     rows: &mut Vec<UserDefined<'a>>,
 ) -> Result<(), AllocError>
-    ensures { OnOk result (spec.rows_of rows.new.items ≡ spec.rows_of rows.old.items ++ rows_of_kind kind (map_rows entries.now)) }
+    ensures { OnOk result (spec.rows_of rows.new.items ≡ spec.rows_of rows.old.items
+        ++ row_with (entry_seen entry.now.value).0 (of_kind kind (entry_seen entry.now.value).1)) }
 {
-    for (name, value) in entries {
-        push_row(name.as_slice(), content_of_kind(value, kind), rows)?;
+    let entry = entry.as_ref();
+    push_row(
+        entry.name.as_slice(),
+        content_of_kind(&entry.value, kind),
+        rows,
+    )
+}
+
+// Adds those of a kind, in the order of their names.
+fn push_kind<'a>(
+    entries: &'a [Rc<UserEntry>],
+    kind: Kind,
+    rows: &mut Vec<UserDefined<'a>>,
+) -> Result<(), AllocError>
+    ensures { OnOk result (spec.rows_of rows.new.items ≡ spec.rows_of rows.old.items ++ rows_of_kind kind (entries_seen entries.now)) }
+{
+    for entry in entries {
+        push_entry(entry, kind, rows)?;
     }
     Ok(())
 }

@@ -1,20 +1,25 @@
--- The values that an extension shows can be written again.
+-- The values that an extension shows can be written again, and those that the tables of an entry
+-- show too.
 use Rattle.std.proofs.Common.{◌≡◌, ℕ, ◌+◌, ◌-◌, ◌*◌, ◌<◌, Bool, true, false, cond, eqb, ltb, nat_lt, ◌==◌, List, length, drop, get_or, Option, Some, None}
 use Rattle.std.proofs.Common.{refl, sym, ap, ◌∙◌, subst, arith}
-use Rattle.std.specs.Prelude.{IfSome, slice_index}
+use Rattle.std.specs.Prelude.{IfSome, option_and_then, slice_get, slice_index}
 use Rattle.std.specs.List.{before_first, position_or_len}
 use Rattle.std.specs.Option.{option_map}
 use Rattle.std.proofs.lemmas.Bool.{ltb-true}
 use Rattle.std.proofs.lemmas.List.{get_or-take, length-take}
 use Rattle.std.proofs.lemmas.List.Sums.{fails_before_first}
+use Rattle.ti_caps.specs.Tables.{Capability}
+use Rattle.ti_caps.specs.declared.capability.Kind.{Kind}
+use Rattle.ti_caps.specs.declared.capability.Kind.TheVariants.{Flag, Number, Text}
 use Rattle.ti_text.specs.Texts.{HasNoNul}
 use Rattle.ti_layout.specs.declared.layout.Format.{Format}
 use Rattle.ti_layout.specs.declared.layout.Format.TheVariants.{Legacy, Extended}
 use Rattle.ti_layout.specs.declared.values.Content.{Content as Lent}
 use Rattle.ti_layout.specs.Layout.{first_negative, width}
-use Rattle.ti_layout.specs.Reading.{count_in, number_at, stored_flag, stored_number, stored_text, word_at}
-use Rattle.ti_layout.specs.Values.{Content, content_true, content_number, content_text, content_seen}
+use Rattle.ti_layout.specs.Reading.{Reads, count_in, number_at, says, stored_flag, stored_number, stored_text, word_at}
+use Rattle.ti_layout.specs.Values.{Content, Contents, content_true, content_number, content_text, content_seen}
 use Rattle.user_extension.specs.UserDefined.{IsValue}
+use Rattle.user_extension.specs.Laws.{TextsHaveNoNul}
 use Rattle.user_extension.specs.Reading.{Parts, value_in}
 
 -- what stands before the first NUL has none
@@ -57,3 +62,22 @@ value_sound w p i =
 pub lent_sound : (o : Option Lent) (q : Option Content) → option_map content_seen o ≡ q → IfSome q IsValue → IfSome o (λ v. IsValue (content_seen v))
 lent_sound None q e h = tt
 lent_sound (Some v) q e h = subst (λ x. IfSome x IsValue) (sym e) h
+
+-- ---- the tables of an entry
+
+and_then_sound : (f : ℕ → Option Content) (o : Option ℕ) → ((n : ℕ) → IfSome (f n) IsValue) → IfSome (option_and_then f o) IsValue
+and_then_sound f None h = tt
+and_then_sound f (Some n) h = h n
+
+says_sound : (w : Format) (flags numbers offsets strings : List ℕ) (kind : Kind) (i : ℕ) → IfSome (says w flags numbers offsets strings kind i) IsValue
+says_sound w flags numbers offsets strings Flag i = flag_sound (slice_index flags i)
+says_sound w flags numbers offsets strings Number i =
+    and_then_sound (stored_number w) (slice_get numbers i) (λ n. number_under w n (nat_lt n (first_negative w)) refl)
+says_sound w flags numbers offsets strings Text i = and_then_sound (stored_text strings) (slice_get offsets i) (text_sound strings)
+
+pub texts_have_no_nul : TextsHaveNoNul
+texts_have_no_nul bytes names contents r c text e =
+    let s = r.sections in
+    let is : says r.format s.flags s.numbers s.offsets s.strings c.kind c.index ≡ Some (content_text text) =
+    sym (ap (λ (f : Contents). f c) r.held) ∙ e in
+    subst (λ x. IfSome x IsValue) is (says_sound r.format s.flags s.numbers s.offsets s.strings c.kind c.index)

@@ -1,9 +1,9 @@
--- What ties reading user-defined capabilities to writing them.
+-- What ties reading user-defined capabilities to writing them, and what holds of what is read.
 use Rattle.ti_text.specs.Limits.{extended_entry_max, names_max}
 use Rattle.std.specs.Prelude.{◌≡◌, ℕ, ◌<◌, ◌≤◌, List, ◌++◌, map, length, slice_index_or, Some}
 use Rattle.ti_layout.specs.declared.layout.Format.{Format}
 use Rattle.ti_layout.specs.Layout.{first_negative}
-use Rattle.ti_layout.specs.Values.{AgreesIfSome, Contents, content_number}
+use Rattle.ti_layout.specs.Values.{AgreesIfSome, Contents, content_number, content_text}
 use Rattle.ti_text.specs.Texts.{HasNoNul}
 use Rattle.ti_layout.specs.Reading.{Reads}
 use Rattle.ti_layout.specs.Laws.{without_cancel}
@@ -35,3 +35,9 @@ EntriesAreRead =
     → ((c : Capability) → IsCapability c → AgreesIfSome c (contents c)) → AreUserDefined rows → Fits field contents rows
     → (read : Contents) × Reads (entry field contents rows) field read × ((c : Capability) → IsCapability c → read c ≡ without_cancel (contents c))
     × EndsWell (entry field contents rows) × (rows_after (entry field contents rows) ≡ as_read rows)
+
+-- A string of an entry that is read holds no NUL.
+abbrev pub TextsHaveNoNul : Type 0
+TextsHaveNoNul =
+    (bytes names : List ℕ) (contents : Contents) → Reads bytes names contents
+    → (c : Capability) (text : List ℕ) → contents c ≡ Some (content_text text) → HasNoNul text

@@ -1,8 +1,8 @@
 //! The sections of an extension: cut by the header's numbers, and looked through.
-ghost use Rattle.std.specs.Prelude.{◌≡◌, ℕ, ◌<◌, ◌≤◌, ◌≢◌, ◌*◌, ◌↔◌, length, false, IfSome, IfNone, OnSome, IsTrue};
+ghost use Rattle.std.specs.Prelude.{◌≡◌, ℕ, ◌<◌, ◌≤◌, ◌≢◌, ◌+◌, ◌*◌, ◌↔◌, min, length, false, IfSome, IfNone, OnSome, IsTrue};
 ghost use Rattle.ti_layout.specs.Layout.{first_negative};
 ghost use Rattle.ti_layout.specs.declared.layout.Format.TheVariants.{Legacy};
-ghost use Rattle.ti_layout.specs.Reading.{HasBadOffset, HasEnd, count_in};
+ghost use Rattle.ti_layout.specs.Reading.{HasBadOffset, HasEnd, count_in, text_from};
 ghost use Rattle.ti_layout.specs.Sections.{AreOffsets};
 ghost use Rattle.user_extension.specs.Reading as spec;
 ghost use Rattle.user_extension.specs.Reading.{AreNames, IsExtension};
@@ -67,14 +67,14 @@ pub fn cut(rest: &[u8], format: Format) -> Option<Sections<'_>>
     })
 }
 
-/// The bytes of the values that are there, each with its NUL, if each offset leads to a value or
-/// means that it is absent or cancelled. One search for the last NUL serves all: a NUL follows
-/// exactly the offsets up to it.
+/// The bytes of the values that are there, each with its NUL, but no more than the table has, if
+/// each offset leads to a value or means that it is absent or cancelled. One search for the last
+/// NUL serves all: a NUL follows exactly the offsets up to it.
+#[tactic(auto, using(crate::proofs::Sizes::capped))]
 pub fn values_size(values: &[u8], table: &[u8]) -> Option<usize>
-    requires few { count_in Legacy values.now ≤ first_negative Legacy }
     requires small { length table.now < first_negative Legacy }
     ensures sound { OnSome result (AreOffsets values.now table.now) }
-    ensures size { IfSome result (λ n. n ≡ spec.values_size values.now table.now (count_in Legacy values.now)) }
+    ensures size { IfSome result (λ n. n ≡ min (spec.values_size values.now table.now (count_in Legacy values.now)) (length table.now)) }
     ensures none { IfNone result (HasBadOffset values.now table.now) }
 {
     let ends = ends(table);
@@ -82,12 +82,26 @@ pub fn values_size(values: &[u8], table: &[u8]) -> Option<usize>
     for index in 0..values.len() / 2 {
         let offset = word(values, 2 * index);
         if offset < ends {
-            size += text(table, offset).len() + 1;
+            size = with_text(size, table, offset);
         } else if offset < CANCELLED_WORD {
             return None;
         }
     }
     Some(size)
+}
+
+// A size and that of a text with its NUL, but no more than the table has. No text is looked at once
+// that much is reached, so that many values that lead to one text take no longer than others.
+fn with_text(size: usize, table: &[u8], offset: usize) -> usize
+    requires small { length table.now < first_negative Legacy }
+    requires size { size ≤ length table.now }
+    requires offset { offset < length table.now }
+    ensures { result ≡ min (size + (length (text_from table.now offset) + 1)) (length table.now) }
+{
+    if size == table.len() {
+        return size;
+    }
+    (size + text(table, offset).len() + 1).min(table.len())
 }
 
 /// The offset after the last NUL of a table: a NUL follows exactly the offsets before it.

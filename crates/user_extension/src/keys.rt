@@ -1,11 +1,11 @@
 //! Names as numbers: by these the order of most names is seen, and that most are no names of the
 //! tables.
-ghost use Rattle.std.specs.Prelude.{◌≡◌, ◌<◌, ◌/◌, length, take, drop, IfSome, IsTrue};
+ghost use Rattle.std.specs.Prelude.{◌≡◌, ◌<◌, ◌/◌, ◌↔◌, length, take, drop, IfSome, IsNone, IsTrue};
 ghost use Rattle.std.specs.List.{list_all};
 ghost use Rattle.std.specs.Ordering.{nat_cmp, is_lt};
 ghost use Rattle.std.specs.Cmp.Lexicographic.{slice_cmp};
 ghost use Rattle.user_items.specs.Names.{is_from_to, is_user_defined_byte, is_user_defined_name};
-ghost use Rattle.user_extension.specs.inside.Keys.{IsKey, has_mark, is_marked, is_plain_byte, spot};
+ghost use Rattle.user_extension.specs.inside.Keys.{HasNoKey, IsKey, has_mark, is_marked, is_plain_byte, spot};
 
 use byteorder::{BigEndian, ByteOrder};
 
@@ -137,11 +137,13 @@ fn is_from_to(first: u8, last: u8, byte: u8) -> bool
     (first <= byte) & (byte <= last)
 }
 
-/// The key of a name at an offset of a table, if the name is short and eight bytes are there.
+/// The key of a name at an offset of a table. None exactly if the name is empty or has eight bytes
+/// or more, or fewer than eight are left from the offset on.
 pub fn key_at(table: &[u8], offset: usize, name: &[u8]) -> Option<u64>
     requires within { offset < length table.now }
     requires name { name.now ≡ take (length name.now) (drop offset table.now) }
-    ensures { IfSome result (λ key. IsKey key name.now) }
+    ensures key { IfSome result (λ key. IsKey key name.now) }
+    ensures none { IsNone result ↔ HasNoKey table.now offset name.now }
 {
     let len = name.len();
     if len == 0 || len >= KEY_BYTES || table.len() - offset < KEY_BYTES {

@@ -16,7 +16,7 @@
 //!   `extension_parts`: its sections, for who holds them in another struct (`ExtensionParts`)
 //! - `checks`: its sections, cut by its header and looked through; `keys`: names as numbers;
 //!   `texts`: texts ended by a NUL
-//! - `laws`: what is written is read again
+//! - `laws`: what is written is read again, and no string that is read holds a NUL
 //!
 //! Nothing here takes memory but `write`.
 #![tactic(auto)]

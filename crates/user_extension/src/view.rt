@@ -67,7 +67,7 @@ impl<'a> Extension<'a> {
             return None;
         }
         let size = values_size(sections.values, sections.table)?;
-        let tail = &sections.table[size.min(sections.table.len())..];
+        let tail = &sections.table[size..];
         let second = sections.flags.len();
         let third = second + sections.numbers.len() / format.width();
         if !are_names(sections.names, tail, second, third) {

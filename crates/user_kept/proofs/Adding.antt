@@ -1,5 +1,5 @@
 -- What a block says is added to what was said, use by use.
-use Rattle.std.proofs.Common.{◌≡◌, ℕ, suc, List, [], ◌∷◌, ◌++◌, map, length, Option, Some, None, option_and_then, slice_get, refl, sym, ap, ◌∙◌, subst}
+use Rattle.std.proofs.Common.{◌≡◌, ℕ, suc, List, [], ◌∷◌, ◌++◌, length, Option, Some, None, option_and_then, slice_get, refl, sym, ap, ◌∙◌, subst}
 use Rattle.std.specs.Option.{option_or, IsSome}
 use Rattle.std.proofs.lemmas.Option.{same_Some}
 use Rattle.base_meaning.specs.Owner.{owner, readings}
@@ -8,7 +8,7 @@ use Rattle.user_items.specs.Reading.{ReadUserItem}
 use Rattle.user_items.specs.Parsing.{user_reading_of_text}
 use Rattle.user_values.specs.Expansion.{UserMention, expand_items, expansion, first_said, owner_text}
 use Rattle.user_values.specs.Tables.{AddsSaid, Said, names_at}
-use Rattle.user_values.proofs.Making.{IsTableOfItems, and_then_parts, some_from, table_of_block, table_of_one_more, used_owner}
+use Rattle.user_values.proofs.Making.{and_then_parts, some_from, table_of_block, table_of_one_more, used_owner}
 use Rattle.user_values.proofs.Resolving.{found}
 use Rattle.user_kept.specs.inside.Adding.{AddsBlock, AddsMentions}
 

@@ -1,5 +1,5 @@
 -- What was found out about a block stays right after an edit on which the block does not depend.
-use Rattle.std.proofs.Common.{◌≡◌, ℕ, zero, suc, ◌+◌, ◌<◌, ◌≤◌, inl, inr, true, false, nat_eq, List, [], ◌∷◌, map, length, drop, set, get_or, Option, Some, None, slice_get}
+use Rattle.std.proofs.Common.{◌≡◌, ℕ, zero, suc, ◌+◌, ◌<◌, ◌≤◌, inl, inr, false, nat_eq, List, [], ◌∷◌, length, set, get_or, Option, Some, None, slice_get}
 use Rattle.std.proofs.Common.{refl, sym, ap, ◌∙◌, subst, arith, Contains, All, ◌⊎◌}
 use Rattle.std.specs.List.{AllZip, insert, remove}
 use Rattle.std.specs.Option.{is_some, option_map}
@@ -13,7 +13,7 @@ use Rattle.ti_source.specs.Parsing.{reading_of_text}
 use Rattle.ti_layout.specs.Values.{Mention, contents}
 use Rattle.base_meaning.specs.Compiled.{EntryState}
 use Rattle.base_meaning.specs.Dependents.{IsDependent}
-use Rattle.base_meaning.specs.Edits.{Change, IsInPlace, insertion, list_after, removal, replacement}
+use Rattle.base_meaning.specs.Edits.{Change, insertion, list_after, relocation, removal, replacement, with_item_moved}
 use Rattle.base_meaning.specs.Exchange.{exchange_of, new_list}
 use Rattle.base_meaning.specs.Expansion.{expansion as expansion_there}
 use Rattle.base_meaning.specs.Owner.{readings}
@@ -26,7 +26,7 @@ use Rattle.user_compiling.specs.Entries.{AreStates, IsStateOf, does_not_resolve,
 use Rattle.user_compiling.specs.Findings.{AreFindingsBy, IsFindingBy}
 use Rattle.user_compiling.specs.declared.finding.Finding.{Finding}
 use Rattle.user_values.proofs.Resolving.{read_text}
-use Rattle.user_base.specs.Places.{position_before}
+use Rattle.user_base.specs.Places.{position_ahead, position_before}
 use Rattle.user_base.proofs.Places.{PutsAt, put_in, remained}
 use Rattle.user_base.specs.Untouched.{UntouchedBlocksSayTheSame}
 use Rattle.user_kept.specs.inside.Kept.{AreRight, AreRightOff, IsKeptBefore, IsRightOf}
@@ -170,6 +170,85 @@ module _ (next : List (List ℕ)) (place : ℕ) (rebuilt : List ℕ) (kept : Kep
       let b = h.kept_of.names in
       let c = ap (λ (xs : List (List ℕ)). name_count xs (length xs)) h.next_is in
       omega (arith, a, b, c)
+
+-- ---- a block is moved
+
+moved_some : {X : Type 0} (xs : List X) (from to : ℕ) (x : X) → slice_get xs from ≡ Some x → with_item_moved xs from to ≡ insert (remove xs from) to x
+moved_some xs from to x e = rw e refl
+
+module _ (next : List (List ℕ)) (from to : ℕ) (rebuilt : List ℕ) (kept : Kept) (h : IsKeptBefore next (λ _. relocation from to) rebuilt kept) where
+  places : (from < length h.texts) × (to < length h.texts)
+  places = h.in_place
+
+  -- the block that is moved
+  pub moved : (text : List ℕ) × (slice_get h.texts from ≡ Some text)
+  moved = item_at h.texts from places.0
+
+  pub from_moved : from < length kept.findings.items
+  from_moved =
+      let l = places.0 in
+      let n = h.kept_of.findings.as_many in
+      omega (arith, l, n)
+
+  rest_long : to ≤ length (remove h.texts from)
+  rest_long =
+      let l = places.1 in
+      let a = length-remove h.texts from places.0 in
+      omega (arith, l, a)
+
+  pub to_moved : to ≤ length (remove kept.findings.items from)
+  to_moved =
+      let l = places.1 in
+      let n = h.kept_of.findings.as_many in
+      let a = length-remove kept.findings.items from from_moved in
+      omega (arith, l, n, a)
+
+  next_moved : next ≡ insert (remove h.texts from) to moved.0
+  next_moved = h.next_is ∙ moved_some h.texts from to moved.0 moved.1
+
+  long_moved : length next ≡ length h.texts
+  long_moved =
+      let l = places.0 in
+      let a = length-insert (remove h.texts from) to moved.0 rest_long in
+      let b = length-remove h.texts from l in
+      let c = ap (λ (xs : List (List ℕ)). length xs) next_moved in
+      omega (arith, a, b, c, l)
+
+  pub to_next : to < length next
+  to_next =
+      let l = places.1 in
+      let n = long_moved in
+      omega (arith, l, n)
+
+  pub as_many_moved : (finding : Finding) → length (insert (remove kept.findings.items from) to finding) ≡ length next
+  as_many_moved finding =
+      let l = from_moved in
+      let a = length-insert (remove kept.findings.items from) to finding to_moved in
+      let b = length-remove kept.findings.items from l in
+      let n = h.kept_of.findings.as_many in
+      let m = long_moved in
+      omega (arith, a, b, n, m, l)
+
+  pub right_moved : UntouchedBlocksSayTheSame → (finding : Finding) → AreRightOff next rebuilt (insert (remove kept.findings.items from) to finding)
+  right_moved law finding =
+      let findings = kept.findings.items in
+      let n = h.kept_of.findings.as_many in
+      let m : length (remove findings from) ≡ length (remove h.texts from) =
+      omega (arith, n, length-remove findings from from_moved, length-remove h.texts from places.0) in
+      right_there next (λ _. relocation from to) rebuilt kept h law (insert (remove findings from) to finding)
+      (λ at apart. remained (remove h.texts from) (insertion to []) (remove findings from) finding at rest_long m apart
+      ∙ remained h.texts (removal from) findings finding (position_ahead to at) places.0 n (λ none. none))
+
+  pub stands_moved : slice_get next to ≡ Some moved.0
+  stands_moved = ap (λ (xs : List (List ℕ)). slice_get xs to) next_moved ∙ get-inserted_there (remove h.texts from) to moved.0 rest_long
+
+  pub names_moved : name_count next (length next) ≤ kept.names + length (names_of (user_reading_of_text moved.0).items)
+  names_moved =
+      let a = few_inserted (remove h.texts from) to moved.0 rest_long in
+      let b = few_removed h.texts from in
+      let k = h.kept_of.names in
+      let c = ap (λ (xs : List (List ℕ)). name_count xs (length xs)) next_moved in
+      omega (arith, a, b, k, c)
 
 -- ---- found out again, one after the other
 

@@ -1,3 +1,4 @@
 pub mod Adding
 pub mod Keeping
 pub mod Names
+pub mod EditRuns

@@ -30,7 +30,7 @@ fn add_item(
 {
     match what {
         UserWhat::Says(name, value) => {
-            table.add(alloc, name.as_slice(), value)?;
+            table.add(alloc, name, value)?;
             Ok(true)
         }
         UserWhat::Import(name) => {
@@ -86,7 +86,7 @@ pub(crate) fn table_alone(
     requires whole { (text : List ℕ) → slice_get database.now at ≡ Some text → IsSome (expansion database.now text) }
     ensures { IfOk result (λ found. (table : UserTable) → found ≡ Some table → (text : List ℕ) → slice_get database.now at ≡ Some text → IsUserTableOf database.now text (said_at table)) }
 {
-    let mut table = UserTable::new(alloc);
+    let mut table = UserTable::new();
     if add_block(alloc, database, at, DEPTH, left, &mut table)? {
         Ok(Some(table))
     } else {

@@ -12,8 +12,12 @@ use ti_base::Database;
 use user_compiling::{Compiled, Finding, compile_with};
 use user_items::{UserItem, UserWhat, known_user_items};
 
-// What becomes of the block at a position, or none if too many blocks are to be read for it.
-fn state_alone(
+/// How many blocks are read for one that is asked for or for those that depend on an edit, at most;
+/// if that does not suffice, all is found out anew.
+pub(crate) const BLOCKS_READ: usize = 4_096;
+
+/// What becomes of the block at a position, or none if too many blocks are to be read for it.
+pub(crate) fn state_alone(
     alloc: Global,
     database: &Database,
     at: usize,

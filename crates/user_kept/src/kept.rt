@@ -1,18 +1,14 @@
 //! What is kept of a source, and what remains of it after an edit.
 ghost use Rattle.std.specs.Prelude.{◌≡◌, ◌<◌, ◌≤◌, ℕ, List, All, IfOk, IfSome, IsErrOf, OnOk, length, true};
-ghost use Rattle.base_meaning.specs.Edits.{insertion, removal, replacement};
+ghost use Rattle.base_meaning.specs.Edits.{insertion, relocation, removal, replacement};
 ghost use Rattle.user_values.specs.Limit.{name_count, name_limit, IsOverLimitAt};
 ghost use Rattle.user_kept.specs.inside.Kept.{AreRight, AreRightOff, IsKeptBefore, IsKeptOf};
 
-use crate::found::{find, says_at};
+use crate::found::{BLOCKS_READ, find, says_at};
 use std::alloc::{AllocError, Global};
 use ti_base::Database;
 use user_compiling::{Finding, compile, findings_of};
 use user_values::{NAME_LIMIT, ValuesError, count_names};
-
-// How many blocks are read for those that depend on an edit, at most; where that does not suffice,
-// all is found out anew.
-const BLOCKS_READ: usize = 4_096;
 
 /// What is kept of a source that has no more user-defined names than it may.
 #[derive(Drop)]
@@ -163,6 +159,29 @@ impl Kept {
         findings.remove(at);
         found_again(alloc, database, rebuilt, findings, self.names)
     }
+
+    // The same once a block is moved.
+    fn after_relocation(
+        self,
+        alloc: Global,
+        database: &Database,
+        from: usize,
+        to: usize,
+        rebuilt: &[usize],
+    ) -> Result<Option<Kept>, AllocError>
+        requires { IsKeptBefore database.now (λ _. relocation from to) rebuilt.now self }
+        ensures { IfOk result (λ kept. IfSome kept (IsKeptOf database.now)) }
+    {
+        user_base::laws::untouched_blocks_say_the_same();
+        let names = self.names.saturating_add(says_at(alloc, database, to)?);
+        if names > NAME_LIMIT {
+            return Ok(None);
+        }
+        let mut findings = self.findings;
+        let finding = findings.remove(from);
+        findings.insert(to, finding)?;
+        found_again(alloc, database, rebuilt, findings, names)
+    }
 }
 
 /// What remains of what was kept once the block at a position is replaced and these are rebuilt. If
@@ -219,6 +238,26 @@ pub(crate) fn kept_after_removal(
         None => None,
         Some(kept) => kept
             .after_removal(alloc, database, at, rebuilt)
+            .unwrap_or(None),
+    }
+}
+
+/// The same once a block is moved.
+pub(crate) fn kept_after_relocation(
+    alloc: Global,
+    database: &Database,
+    old: Option<Kept>,
+    from: usize,
+    to: usize,
+    rebuilt: &[usize],
+) -> Option<Kept>
+    requires { IfSome old (IsKeptBefore database.now (λ _. relocation from to) rebuilt.now) }
+    ensures { IfSome result (IsKeptOf database.now) }
+{
+    match old {
+        None => None,
+        Some(kept) => kept
+            .after_relocation(alloc, database, from, to, rebuilt)
             .unwrap_or(None),
     }
 }

@@ -6,17 +6,23 @@
 //! let found = kept.user_faults(alloc)?;
 //! kept.replace(at, text)?;
 //! let found = kept.user_faults(alloc)?;
+//! let entry = kept.compiled(alloc, at)?;
 //! ```
 //!
-//! - `database`: the database (`KeptDatabase`)
+//! - `database`: the database (`KeptDatabase`); `running`: the one that a list of edits makes (`run`)
 //! - `kept`: what is kept of a source, and what remains of it after an edit
 //! - `found`: what is found out about one block; `alone`: what that says of user-defined names,
-//!   without the tables of other blocks
+//!   without the tables of other blocks; `entry`: what becomes of it, when it is asked for
+//! - `laws`: what an edit leaves of what was found out
 #![tactic(auto)]
 
 mod alone;
 mod database;
+mod entry;
 mod found;
 mod kept;
+pub mod laws;
+mod running;
 
 pub use database::KeptDatabase;
+pub use running::run;

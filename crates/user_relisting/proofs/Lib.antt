@@ -1,9 +1,13 @@
 pub mod Words
 pub mod Stating
 pub mod ReadBack
+pub mod Standing
 pub mod Laying
 pub mod Listed
 pub mod Compiling
 pub mod Related
 pub mod Restoring
 pub mod Telling
+pub mod RelatedTables
+pub mod Read
+pub mod Using

@@ -150,7 +150,8 @@ kind-gives layout table kind us items =
     ap (filter_map user_said) (append_assoc (map of_tables (kind_items layout table kind)) (map of_row us) items)
     ∙ tables-give table (in_order layout.order kind) (map of_row us ++ items) ∙ rows-give us items
 
-tables-kept : (ss : List Said) (more : List Item) → filter_map table_said (map of_tables ss ++ more) ≡ ss ++ filter_map table_said more
+-- the profile keeps what is of the tables
+pub tables-kept : (ss : List Said) (more : List Item) → filter_map table_said (map of_tables ss ++ more) ≡ ss ++ filter_map table_said more
 tables-kept [] more = refl
 tables-kept (s ∷ ss) more = ap (λ (xs : List Said). s ∷ xs) (tables-kept ss more)
 

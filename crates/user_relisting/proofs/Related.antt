@@ -16,12 +16,13 @@ use Rattle.ti_caps.specs.declared.capability.Kind.TheVariants.{Flag, Number, Tex
 use Rattle.ti_list.specs.Items as tables
 use Rattle.ti_source.specs.declared.code.Code.TheVariants as code
 use Rattle.ti_source.specs.Parsing.{reading_of_text}
-use Rattle.ti_source.specs.Reading.{said_import, ReadFault}
+use Rattle.ti_source.specs.Reading.{Said, said_import, ReadFault}
 use Rattle.ti_layout.specs.Values.{Content, Contents}
 use Rattle.ti_layout.specs.View.{Entry}
 use Rattle.ti_list.specs.declared.layout.Layout.{Layout}
 use Rattle.ti_list.specs.Listing.{kind_items, in_order}
 use Rattle.ti_list.specs.RelativeSource.{difference, differing_contents, first_name, first_of, same_content, use_lines}
+use Rattle.tools_relisting.specs.Layouts.{entry_items, uses_of}
 use Rattle.tools_relisting.specs.Relisting.{CanHave, CanHaveAll}
 use Rattle.user_items.specs.Names.{is_user_defined_name}
 use Rattle.user_items.specs.Verdicts.{UserSaid, imports}
@@ -32,10 +33,11 @@ use Rattle.user_listing.specs.Names.{is_of_kind, names_among, names_of_both, nam
 use Rattle.user_listing.specs.Items.{item_if_said, kind_lines, table_items}
 use Rattle.user_listing.specs.RelativeSource.{differing_kind, extended_relative, first_said, user_difference}
 use Rattle.user_listing.proofs.Rows.{both-less, both-equal, both-greater}
-use Rattle.user_relisting.specs.Items.{Item, of_tables, of_user, item_text, user_said, IsTail, no_more, new_line, IsSource, CanBeWritten}
-use Rattle.user_relisting.specs.Items.{IsUserReadAs, ItemsAreRead, ItemsAreReadByTheProfile}
+use Rattle.user_relisting.specs.Items.{Item, of_tables, of_user, item_text, user_said, table_said, IsTail, no_more, new_line, IsSource, CanBeWritten}
+use Rattle.user_relisting.specs.Items.{IsUserReadAs, IsProfileReadAs, ItemsAreRead, ItemsAreReadByTheProfile}
 use Rattle.user_relisting.specs.ReadingBack.{AreWritable, CanBeUsed, IsWritableIfSome, RelativesAreRead, differing_said, relative_said, said_if}
 use Rattle.user_relisting.proofs.Laying.{three-kinds, tables-can, texts-map, tables-give, kind-valid}
+use Rattle.user_relisting.proofs.Listed.{tables-kept}
 
 -- ---- items of names of which something is said
 
@@ -71,6 +73,18 @@ items-give say (name ∷ names) more =
     ∙ item-gives name (say name) (items_of say names ++ more)
     ∙ ap (λ (ss : List UserSaid). said_if name (say name) ++ ss) (items-give say names more)
     ∙ sym (append_assoc (said_if name (say name)) (flat_map (λ (n : List ℕ). said_if n (say n)) names) (filter_map user_said more))
+
+-- to the profile they are nothing
+item-left-out : (name : List ℕ) (o : Option Content) (items : List Item) → filter_map table_said (item_if name o ++ items) ≡ filter_map table_said items
+item-left-out name None items = refl
+item-left-out name (Some content) items = refl
+
+items-left-out : (say : List ℕ → Option Content) (names : List (List ℕ)) (more : List Item)
+    → filter_map table_said (items_of say names ++ more) ≡ filter_map table_said more
+items-left-out say [] more = refl
+items-left-out say (name ∷ names) more =
+    ap (filter_map table_said) (append_assoc (item_if name (say name)) (items_of say names) more)
+    ∙ item-left-out name (say name) (items_of say names ++ more) ∙ items-left-out say names more
 
 item-can : (name : List ℕ) (o : Option Content) → is_user_defined_name name ≡ true → IsWritableIfSome o → All CanBeWritten (item_if name o)
 item-can name None user can = All-nil CanBeWritten
@@ -197,7 +211,21 @@ uses-give : (others : List Extended) → filter_map user_said (map use_of others
 uses-give [] = refl
 uses-give (other ∷ others) = ap (λ (ss : List UserSaid). imports (first_name other.entry.names) ∷ ss) (uses-give others)
 
+uses-kept : (others : List Extended) → filter_map table_said (map use_of others) ≡ uses_of (entries_in others)
+uses-kept [] = refl
+uses-kept (other ∷ others) = ap (λ (ss : List Said). said_import (first_name other.entry.names) ∷ ss) (uses-kept others)
+
 -- ---- a kind, and the whole
+
+-- the relative source of an entry is laid out as items: what it says of the tables and of
+-- user-defined names, kind by kind, and then the uses
+pub record IsRelativeLaidOut (entry : Extended) (others : List Extended) (layout : Layout) : Type 0 where
+  pub items : List Item
+  pub can : All CanBeWritten items
+  pub source : IsSource entry.entry.names items (extended_relative entry others layout)
+  pub gives : filter_map user_said items ≡ relative_said entry others
+  pub keeps : filter_map table_said items
+      ≡ entry_items layout (differing_contents entry.entry.contents (entries_in others)) ++ uses_of (entries_in others)
 
 module _ (ordered : EachKindIsInOrder) (entry : Extended) (others : List Extended) (layout : Layout) (has : CanHaveAll entry.entry.contents)
     (own : AreWritable entry.rows) (used : All CanBeUsed others) where
@@ -222,6 +250,12 @@ module _ (ordered : EachKindIsInOrder) (entry : Extended) (others : List Extende
       ap (filter_map user_said) (append_assoc (map of_tables (kind_items layout table kind)) (items_of (say kind) (names_among kind entry others)) more)
       ∙ tables-give table (in_order layout.order kind) (items_of (say kind) (names_among kind entry others) ++ more)
       ∙ items-give (say kind) (names_among kind entry others) more
+
+  kind-keeps : (kind : Kind) (more : List Item) → filter_map table_said (kind_list kind ++ more) ≡ kind_items layout table kind ++ filter_map table_said more
+  kind-keeps kind more =
+      ap (filter_map table_said) (append_assoc (map of_tables (kind_items layout table kind)) (items_of (say kind) (names_among kind entry others)) more)
+      ∙ tables-kept (kind_items layout table kind) (items_of (say kind) (names_among kind entry others) ++ more)
+      ∙ ap (λ (ss : List Said). kind_items layout table kind ++ ss) (items-left-out (say kind) (names_among kind entry others) more)
 
   kind-can : (kind : Kind) → AllByRecursion IsCapability (in_order layout.order kind) → All CanBeWritten (kind_list kind)
   kind-can kind valid =
@@ -249,6 +283,18 @@ module _ (ordered : EachKindIsInOrder) (entry : Extended) (others : List Extende
       ∙ ap (λ (ss : List UserSaid). differing_said Number entry others ++ ss)
       (kind-gives Text (map use_of others) ∙ ap (λ (ss : List UserSaid). differing_said Text entry others ++ ss) (uses-give others)))
 
+  all-keep : filter_map table_said all_items ≡ entry_items layout table ++ uses_of (entries_in others)
+  all-keep =
+      let flags = kind_items layout table Flag in
+      let numbers = kind_items layout table Number in
+      let texts = kind_items layout table Text in
+      let uses = uses_of (entries_in others) in
+      kind-keeps Flag (kind_list Number ++ (kind_list Text ++ map use_of others))
+      ∙ ap (λ (ss : List Said). flags ++ ss)
+      (kind-keeps Number (kind_list Text ++ map use_of others)
+      ∙ ap (λ (ss : List Said). numbers ++ ss) (kind-keeps Text (map use_of others) ∙ ap (λ (ss : List Said). texts ++ ss) (uses-kept others)))
+      ∙ sym (append_assoc flags (numbers ++ texts) uses ∙ ap (λ (ss : List Said). flags ++ ss) (append_assoc numbers texts uses))
+
   source : IsSource entry.entry.names all_items (extended_relative entry others layout)
   source =
       let front = entry.entry.names ++ 44 ∷ differing_kind layout entry others Flag ++ differing_kind layout entry others Number
@@ -259,20 +305,40 @@ module _ (ordered : EachKindIsInOrder) (entry : Extended) (others : List Extende
       rw (kind-lines Flag, kind-lines Number, kind-lines Text) at laid in
       subst (λ text. IsSource entry.entry.names all_items text) (sym (append_assoc front (use_lines (entries_in others)) (10 ∷ []))) lines
 
+pub relative_laid_out : EachKindIsInOrder → (entry : Extended) (others : List Extended) (layout : Layout) → CanHaveAll entry.entry.contents
+    → AreWritable entry.rows → All CanBeUsed others
+    → IsRelativeLaidOut entry others layout
+relative_laid_out ordered entry others layout has own used = record {
+  items = all_items ordered entry others layout has own used;
+  can = all-can ordered entry others layout has own used;
+  source = source ordered entry others layout has own used;
+  gives = all-give ordered entry others layout has own used;
+  keeps = all-keep ordered entry others layout has own used;
+}
+
 pub relatives_read : EachKindIsInOrder → ItemsAreRead → RelativesAreRead
 relatives_read ordered read entry others names layout good has own used =
-    subst (λ ss. IsUserReadAs ss (user_reading_of_text (extended_relative entry others layout))) (all-give ordered entry others layout has own used)
-    (read entry.entry.names names (all_items ordered entry others layout has own used) (extended_relative entry others layout) good
-    (all-can ordered entry others layout has own used)
-    (source ordered entry others layout has own used))
+    let laid = relative_laid_out ordered entry others layout has own used in
+    subst (λ ss. IsUserReadAs ss (user_reading_of_text (extended_relative entry others layout))) laid.gives
+    (read entry.entry.names names laid.items (extended_relative entry others layout) good laid.can laid.source)
 
--- without user-defined capabilities each fault is a warning
+-- what the profile reads of it
+pub relative-plain : EachKindIsInOrder → ItemsAreReadByTheProfile → (entry : Extended) (others : List Extended) (names : List (List ℕ)) (layout : Layout)
+    → tables.IsListable entry.entry.names names
+    → CanHaveAll entry.entry.contents → AreWritable entry.rows → All CanBeUsed others
+    → IsProfileReadAs entry.entry.names names
+    (entry_items layout (differing_contents entry.entry.contents (entries_in others)) ++ uses_of (entries_in others))
+    (reading_of_text (extended_relative entry others layout))
+relative-plain ordered plain entry others names layout good has own used =
+    let laid = relative_laid_out ordered entry others layout has own used in
+    subst (λ items. IsProfileReadAs entry.entry.names names items (reading_of_text (extended_relative entry others layout))) laid.keeps
+    (plain entry.entry.names names laid.items (extended_relative entry others layout) good laid.can laid.source)
+
+-- each fault of that is a warning
 pub relative-sound : EachKindIsInOrder → ItemsAreReadByTheProfile → (entry : Extended) (others : List Extended) (names : List (List ℕ)) (layout : Layout)
     → tables.IsListable entry.entry.names names
     → CanHaveAll entry.entry.contents → AreWritable entry.rows → All CanBeUsed others
     → AllByRecursion (λ (fault : ReadFault). fault.code ≡ code.UnknownCapability) (reading_of_text (extended_relative entry others layout)).faults
 relative-sound ordered plain entry others names layout good has own used =
     recursion_from_All (λ (fault : ReadFault). fault.code ≡ code.UnknownCapability) (reading_of_text (extended_relative entry others layout)).faults
-    (plain entry.entry.names names (all_items ordered entry others layout has own used) (extended_relative entry others layout) good
-    (all-can ordered entry others layout has own used)
-    (source ordered entry others layout has own used)).warned
+    (relative-plain ordered plain entry others names layout good has own used).warned

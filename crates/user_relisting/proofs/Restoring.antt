@@ -1,6 +1,6 @@
 -- What a relative source and the others say of a user-defined name together is what the entry says.
-use Rattle.std.proofs.Common.{◌≡◌, ◌≢◌, ℕ, Bool, true, false, cond, ◌||◌, List, [], ◌∷◌, ◌++◌, map, Option, Some, None, refl, ap, sym, ◌∙◌, append_assoc}
-use Rattle.std.specs.List.{AllByRecursion, flat_map, list_any}
+use Rattle.std.proofs.Common.{◌≡◌, ◌≢◌, ℕ, Bool, true, false, cond, ◌||◌, List, [], ◌∷◌, ◌++◌, map, Option, Some, None, refl, ap, sym, ◌∙◌, subst, append_assoc}
+use Rattle.std.specs.List.{All, AllByRecursion, flat_map, list_any}
 use Rattle.std.specs.Option.{option_or}
 use Rattle.std.specs.Str.{bytes_eq}
 use Rattle.std.specs.Ordering.{nat_cmp, is_eq}
@@ -47,7 +47,7 @@ by-same : (h x : Content) (b : Bool) → same_content h x ≡ b → without_canc
 by-same h x true e = ap (λ y. without_cancel (Some y)) (sym (same-true h x e))
 by-same h x false e = refl
 
-restores : (own theirs : Option Content) → without_cancel (option_or (difference own theirs) theirs) ≡ without_cancel own
+pub restores : (own theirs : Option Content) → without_cancel (option_or (difference own theirs) theirs) ≡ without_cancel own
 restores None None = refl
 restores None (Some x) = refl
 restores (Some h) None = refl
@@ -286,23 +286,61 @@ plain-same (Some (content_number m)) plain = refl
 plain-same (Some (content_text u)) plain = refl
 plain-same (Some content_cancelled) plain = absurd (plain refl)
 
+pub said-same : (rows : List ReadRow) (n : List ℕ) → AllByRecursion (λ (row : ReadRow). row.1 ≢ Some content_cancelled) rows
+    → without_cancel (said rows n) ≡ said rows n
+said-same rows n all = plain-same (said rows n) (said-plain rows n all)
+
+-- what the items of the three kinds give a name
+by-kinds : (entry : Extended) (others : List Extended) (name : List ℕ)
+    → given (relative_said entry others) name
+    ≡ option_or (if_in (is_in (names_among Flag entry others) name) (user_difference Flag (said entry.rows name) (first_said others name)))
+    (option_or (if_in (is_in (names_among Number entry others) name) (user_difference Number (said entry.rows name) (first_said others name)))
+    (option_or (if_in (is_in (names_among Text entry others) name) (user_difference Text (said entry.rows name) (first_said others name))) None))
+by-kinds entry others name =
+    let say : Kind → List ℕ → Option Content = λ kind n. user_difference kind (said entry.rows n) (first_said others n) in
+    let uses = map (λ (other : Extended). imports (first_name other.entry.names)) others in
+    let in_kind : Kind → Bool = λ kind. is_in (names_among kind entry others) name in
+    given-items (say Flag) (names_among Flag entry others) name (differing_said Number entry others ++ (differing_said Text entry others ++ uses))
+    ∙ ap (option_or (if_in (in_kind Flag) (say Flag name)))
+    (given-items (say Number) (names_among Number entry others) name (differing_said Text entry others ++ uses)
+    ∙ ap (option_or (if_in (in_kind Number) (say Number name)))
+    (given-items (say Text) (names_among Text entry others) name uses ∙ ap (option_or (if_in (in_kind Text) (say Text name))) (given-uses others name)))
+
 pub relatives_say : RelativesSayTheEntry
 relatives_say entry others name all =
     let own = said entry.rows name in
     let theirs = first_said others name in
     let plain = said-plain entry.rows name (recursion_from_All (λ (row : ReadRow). row.1 ≢ Some content_cancelled) entry.rows all) in
-    let say : Kind → List ℕ → Option Content = λ kind n. user_difference kind (said entry.rows n) (first_said others n) in
-    let uses = map (λ (other : Extended). imports (first_name other.entry.names)) others in
     let in_kind : Kind → Bool = λ kind. is_in (names_among kind entry others) name in
-    let gives : given (relative_said entry others) name
-    ≡ option_or (if_in (in_kind Flag) (say Flag name)) (option_or (if_in (in_kind Number) (say Number name))
-    (option_or (if_in (in_kind Text) (say Text name)) None)) =
-    given-items (say Flag) (names_among Flag entry others) name (differing_said Number entry others ++ (differing_said Text entry others ++ uses))
-    ∙ ap (option_or (if_in (in_kind Flag) (say Flag name)))
-    (given-items (say Number) (names_among Number entry others) name (differing_said Text entry others ++ uses)
-    ∙ ap (option_or (if_in (in_kind Number) (say Number name)))
-    (given-items (say Text) (names_among Text entry others) name uses ∙ ap (option_or (if_in (in_kind Text) (say Text name))) (given-uses others name))) in
-    ap (λ o. without_cancel (option_or o theirs)) gives
+    ap (λ o. without_cancel (option_or o theirs)) (by-kinds entry others name)
     ∙ kinds-give own theirs (in_kind Flag) (in_kind Number) (in_kind Text) plain (among-in Flag entry others name) (among-in Number entry others name)
     (among-in Text entry others name)
     ∙ plain-same own plain
+
+-- ---- listings
+
+-- what is said of a name where nothing was is no cancel
+kind-plain : (b : Bool) (kind : Kind) (own : Option Content) → own ≢ Some content_cancelled → if_in b (user_difference kind own None) ≢ Some content_cancelled
+kind-plain b kind own plain =
+    let none : None ≢ Some content_cancelled = λ e. cc in
+    let apart : difference own None ≢ Some content_cancelled = subst (λ (o : Option Content). o ≢ Some content_cancelled) (sym (apart-same own)) plain in
+    plain-either b (user_difference kind own None) None (plain-either (is_of_kind kind (option_or own None)) (difference own None) None apart none) none
+  where
+    apart-same : (own : Option Content) → difference own None ≡ own
+    apart-same None = refl
+    apart-same (Some x) = refl
+
+-- what the listing of an entry gives a name is what the entry has
+pub listing-gives : (entry : Extended) (name : List ℕ) → All (λ (row : ReadRow). row.1 ≢ Some content_cancelled) entry.rows
+    → given (relative_said entry []) name ≡ said entry.rows name
+listing-gives entry name all =
+    let own = said entry.rows name in
+    let none : None ≢ Some content_cancelled = λ e. cc in
+    let plain = said-plain entry.rows name (recursion_from_All (λ (row : ReadRow). row.1 ≢ Some content_cancelled) entry.rows all) in
+    let part : (kind : Kind) → if_in (is_in (names_among kind entry []) name) (user_difference kind own None) ≢ Some content_cancelled =
+    λ kind. kind-plain (is_in (names_among kind entry []) name) kind own plain in
+    let given_plain : given (relative_said entry []) name ≢ Some content_cancelled =
+    subst (λ (o : Option Content). o ≢ Some content_cancelled) (sym (by-kinds entry [] name))
+    (plain-or _ _ (part Flag) (plain-or _ _ (part Number) (plain-or _ None (part Text) none))) in
+    sym (plain-same (given (relative_said entry []) name) given_plain) ∙ sym (ap without_cancel (or-none (given (relative_said entry []) name)))
+    ∙ relatives_say entry [] name all

@@ -1,6 +1,6 @@
 -- What listings and relative source say of user-defined names in a source.
 use Rattle.std.proofs.Common.{◌≡◌, ◌≢◌, ℕ, suc, Bool, true, false, cond, List, [], ◌∷◌, ◌++◌, map, length, Option, Some, None, option_and_then, refl}
-use Rattle.std.proofs.Common.{ap, sym, ◌∙◌, subst, append_assoc, arith}
+use Rattle.std.proofs.Common.{ap, sym, ◌∙◌, subst, append_assoc, append-nil, arith}
 use Rattle.std.specs.List.{All, AllByRecursion, flat_map}
 use Rattle.std.specs.Option.{option_or}
 use Rattle.std.specs.Str.{bytes_eq}
@@ -30,24 +30,25 @@ use Rattle.user_listing.specs.Names.{names_among}
 use Rattle.user_listing.specs.RelativeSource.{extended_relative, first_said, user_difference}
 use Rattle.user_values.specs.Expansion.{UserMention, first_said as mentioned, mentions_of, expand_items, expand, owner_text}
 use Rattle.user_relisting.specs.Items.{IsWritable, IsUserReadAs, ItemsAreRead, ItemsAreReadByTheProfile}
-use Rattle.user_relisting.specs.ReadingBack.{AreWritable, CanBeListed, CanBeUsed, IsListedIn, IsWritableIfSome, Listed, ListingsSayTheEntry}
+use Rattle.user_relisting.specs.ReadingBack.{AreWritable, CanBeListed, CanBeUsed, HasListing, IsListedIn, IsWritableIfSome, Listed, ListingsSayTheEntry}
 use Rattle.user_relisting.specs.ReadingBack.{RelativesSayTheEntryInASource, differing_said, entries_of, given, relative_said, said_if}
 use Rattle.user_relisting.proofs.Compiling.{not-broken}
 use Rattle.user_relisting.proofs.Listed.{laid_out, listings_read}
 use Rattle.user_relisting.proofs.Related.{relative-sound, relatives_read}
-use Rattle.user_relisting.proofs.Restoring.{relatives_say}
+use Rattle.user_relisting.proofs.Restoring.{listing-gives, relatives_say}
+use Rattle.user_listing.proofs.Alone.{relative-alone}
 
 -- the mentions that what is said gives
-abbrev expand_said : (List ℕ → Option (List UserMention)) → List UserSaid → Option (List UserMention)
+abbrev pub expand_said : (List ℕ → Option (List UserMention)) → List UserSaid → Option (List UserMention)
 expand_said of_name [] = Some []
 expand_said of_name (s ∷ ss) = both_lists (mentions_of of_name s) (expand_said of_name ss)
 
-items-said : (of_name : List ℕ → Option (List UserMention)) (items : List ReadUserItem) → expand_items of_name items
+pub items-said : (of_name : List ℕ → Option (List UserMention)) (items : List ReadUserItem) → expand_items of_name items
     ≡ expand_said of_name (map (λ (item : ReadUserItem). item.said) items)
 items-said of_name [] = refl
 items-said of_name (item ∷ items) = ap (both_lists (mentions_of of_name item.said)) (items-said of_name items)
 
-abbrev names_in : List (List ℕ) → ℕ → List ℕ → Option (List UserMention)
+abbrev pub names_in : List (List ℕ) → ℕ → List ℕ → Option (List UserMention)
 names_in texts depth name = option_and_then (expand texts depth) (owner_text texts name)
 
 -- a block that is not broken expands to what it says
@@ -81,10 +82,6 @@ module _ (ordered : EachKindIsInOrder) (read : ItemsAreRead) (plain : ItemsAreRe
       (reading_of_text text).faults (plain entry.entry.names can.names laid.items text can.listable laid.can laid.source).warned) in
       block-expands texts depth text _ sound (listings_read ordered read entry can.names can.rows layout can.listable can.holds can.are_rows can.of_source)
       ∙ rows-expand (names_in texts depth) can.rows
-
-  pub listings_say : ListingsSayTheEntry
-  listings_say entry layout texts can =
-      (can.rows, listing-expands entry layout texts (length texts) can, λ name. ap (λ rows. said rows name) can.are_rows ∙ sym (rows-mentioned can.rows name))
 
 -- ---- relative source
 
@@ -188,13 +185,25 @@ rows-plain : (rows : List Row) → AllByRecursion (λ (u : Row). IsValue u.1) ro
 rows-plain [] all = tt
 rows-plain (u ∷ us) all = (value-plain u.1 all.0, rows-plain us all.1)
 
-writable : (entry : Extended) → CanBeListed entry → AllByRecursion (λ (row : ReadRow). (is_user_defined_name row.0 ≡ true) × IsWritableIfSome row.1) entry.rows
+pub writable : (entry : Extended) → CanBeListed entry → AllByRecursion (λ (row : ReadRow). (is_user_defined_name row.0 ≡ true) × IsWritableIfSome row.1) entry.rows
 writable entry can =
     subst (AllByRecursion (λ (row : ReadRow). (is_user_defined_name row.0 ≡ true) × IsWritableIfSome row.1)) (sym can.are_rows)
     (row-writable can.rows (recursion_from_All (λ (u : Row). is_user_defined_name u.0 ≡ true) can.rows can.of_source.user_defined.names) (recursion_from_All (λ
     (u : Row). IsWritable u.1) can.rows can.of_source.writable))
 
-can-use : (texts : List (List ℕ)) (listed : List Listed) → AllByRecursion (IsListedIn texts) listed → All CanBeUsed (entries_of listed)
+-- an entry of a source has a listing
+pub has-listing : (entry : Extended) → CanBeListed entry → HasListing entry
+has-listing entry can = record {
+  names = can.names;
+  listable = can.listable;
+  holds = can.holds;
+  writable = All-from_recursion (λ (row : ReadRow). (is_user_defined_name row.0 ≡ true) × IsWritableIfSome row.1) entry.rows (writable entry can);
+  plain = All-from_recursion (λ (row : ReadRow). row.1 ≢ Some content_cancelled) entry.rows
+      (subst (AllByRecursion (λ (row : ReadRow). row.1 ≢ Some content_cancelled)) (sym can.are_rows)
+      (rows-plain can.rows (recursion_from_All (λ (u : Row). IsValue u.1) can.rows can.of_source.user_defined.values)));
+}
+
+pub can-use : (texts : List (List ℕ)) (listed : List Listed) → AllByRecursion (IsListedIn texts) listed → All CanBeUsed (entries_of listed)
 can-use texts [] all = All-nil CanBeUsed
 can-use texts (one ∷ others) all =
     All-cons CanBeUsed one.0 (entries_of others)
@@ -271,3 +280,40 @@ module _ (ordered : EachKindIsInOrder) (read : ItemsAreRead) (plain : ItemsAreRe
   pub relatives_say_there : RelativesSayTheEntryInASource
   relatives_say_there entry layout listed [] can some used = absurd (omega (arith, some))
   relatives_say_there entry layout listed (text ∷ texts) can some used = relative-expands entry layout listed (text ∷ texts) (length texts) can used
+
+-- ---- listings of any rows
+
+module _ (ordered : EachKindIsInOrder) (read : ItemsAreRead) (plain : ItemsAreReadByTheProfile) where
+  -- what the listing of an entry says, kind by kind
+  abbrev pub listed_mentions : Extended → List UserMention
+  listed_mentions entry = pairs_of (differing_said Flag entry []) ++ (pairs_of (differing_said Number entry []) ++ pairs_of (differing_said Text entry []))
+
+  pub any-expands : (entry : Extended) (layout : Layout) (texts : List (List ℕ)) (depth : ℕ) (can : HasListing entry)
+      → expand texts (suc depth) (extended_listing entry layout) ≡ Some (listed_mentions entry)
+  any-expands entry layout texts depth can =
+      let text = extended_relative entry [] layout in
+      let none = All-nil CanBeUsed in
+      let sound = not-broken (reading_of_text text).faults (relative-sound ordered plain entry [] can.names layout can.listable can.holds can.writable none) in
+      let reads = relatives_read ordered read entry [] can.names layout can.listable can.holds can.writable none in
+      let of_name = names_in texts depth in
+      let say : Kind → List ℕ → Option Content = λ kind name. user_difference kind (said entry.rows name) (first_said [] name) in
+      let f = pairs_of (differing_said Flag entry []) in
+      let n = pairs_of (differing_said Number entry []) in
+      let t = pairs_of (differing_said Text entry []) in
+      ap (expand texts (suc depth)) (sym (relative-alone entry layout)) ∙ block-expands texts depth text (relative_said entry []) sound reads
+      ∙ names-before (say Flag) (names_among Flag entry []) of_name (differing_said Number entry [] ++ (differing_said Text entry [] ++ []))
+      ∙ ap (before f) (names-before (say Number) (names_among Number entry []) of_name (differing_said Text entry [] ++ [])
+      ∙ ap (before n) (names-before (say Text) (names_among Text entry []) of_name [] ∙ ap (λ (ms : List UserMention). Some ms) (append-nil t)))
+
+  pub any-tells : (entry : Extended) (name : List ℕ) → HasListing entry → said entry.rows name ≡ mentioned (listed_mentions entry) name
+  any-tells entry name can =
+      let f = differing_said Flag entry [] in
+      let n = differing_said Number entry [] in
+      let t = differing_said Text entry [] in
+      sym (listing-gives entry name can.plain)
+      ∙ ap (λ ss. given ss name) (ap (λ ss. f ++ (n ++ ss)) (append-nil t))
+      ∙ sym (pairs-given (f ++ (n ++ t)) name)
+      ∙ ap (λ ms. mentioned ms name) (pairs-append f (n ++ t) ∙ ap (λ ms. pairs_of f ++ ms) (pairs-append n t))
+
+  pub listings_say : ListingsSayTheEntry
+  listings_say entry layout texts can = (listed_mentions entry, any-expands entry layout texts (length texts) can, λ name. any-tells entry name can)

@@ -5,6 +5,7 @@ use Rattle.ti_text.specs.Limits.{number_max}
 use Rattle.std.specs.Prelude.{◌≡◌, ℕ, ◌≤◌, true, List, [], ◌∷◌, ◌++◌, map, All, Option, Some, None}
 use Rattle.std.specs.List.{filter_map}
 use Rattle.ti_spelling.specs.Spelling.{AreBytes, HasNoNul}
+use Rattle.ti_source.specs.Cutting.{OneBlock}
 use Rattle.ti_source.specs.declared.code.Code.TheVariants as code
 use Rattle.ti_source.specs.Reading.{Said, said_flag, said_number, said_text, said_cancel, said_import, ReadFault, ReadItem, Reading}
 use Rattle.ti_source.specs.Parsing.{reading_of_text}
@@ -95,3 +96,10 @@ ItemsAreRead =
     (field : List ℕ) (names : List (List ℕ)) (items : List Item) (text : List ℕ) → tables.IsListable field names → All CanBeWritten items
     → IsSource field items text
     → IsUserReadAs (filter_map user_said items) (user_reading_of_text text)
+
+-- A text that lays out a names field and items that can be written is one block, which begins with
+-- the field and ends with a newline.
+abbrev pub ItemsAreBlocks : Type 0
+ItemsAreBlocks =
+    (field : List ℕ) (names : List (List ℕ)) (items : List Item) (text : List ℕ) → tables.IsListable field names → All CanBeWritten items
+    → IsSource field items text → OneBlock text

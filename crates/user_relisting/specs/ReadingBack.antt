@@ -11,6 +11,8 @@ use Rattle.base_meaning.specs.Owner.{readings}
 use Rattle.base_meaning.specs.Expansion as profile
 use Rattle.ti_layout.specs.Values.{Content, content_cancelled, contents, Mention}
 use Rattle.ti_layout.specs.Laws.{without_cancel}
+use Rattle.ti_layout.specs.Reading.{Reads}
+use Rattle.ti_spelling.specs.Spelling.{AreBytes}
 use Rattle.ti_layout.specs.Image.{image, ImageFits}
 use Rattle.base_meaning.specs.Compiled.{compiled}
 use Rattle.ti_list.specs.Items.{IsListable}
@@ -21,7 +23,7 @@ use Rattle.user_items.specs.Names.{is_user_defined_name}
 use Rattle.user_items.specs.Verdicts.{UserSaid, says, imports}
 use Rattle.user_items.specs.Parsing.{user_reading_of_text}
 use Rattle.user_extension.specs.UserDefined.{AreUserDefined, Row}
-use Rattle.user_extension.specs.Reading.{ReadRow, said}
+use Rattle.user_extension.specs.Reading.{EndsWell, ReadRow, rows_after, said}
 use Rattle.user_extension.specs.Laws.{as_read}
 use Rattle.user_listing.specs.Entries.{Extended}
 use Rattle.user_listing.specs.Names.{names_among}
@@ -118,16 +120,31 @@ pub record CanBeListed (entry : Extended) : Type 0 where
   pub are_rows : entry.rows ≡ as_read rows
   pub of_source : AreOfSource rows
 
+-- an entry whose names field and values can be listed, whatever its user-defined rows: some may have
+-- no value, and a name may stand in several
+pub record HasListing (entry : Extended) : Type 0 where
+  pub names : List (List ℕ)
+  pub listable : IsListable entry.entry.names names
+  pub holds : CanHaveAll entry.entry.contents
+  pub writable : AreWritable entry.rows
+  pub plain : All (λ (row : ReadRow). row.1 ≢ Some content_cancelled) entry.rows
+
+-- An entry that is read has a listing if its names field can be listed.
+abbrev pub ReadEntriesHaveListings : Type 0
+ReadEntriesHaveListings =
+    (bytes : List ℕ) (entry : Extended) (names : List (List ℕ)) → AreBytes bytes → Reads bytes entry.entry.names entry.entry.contents → EndsWell bytes
+    → entry.rows ≡ rows_after bytes → IsListable entry.entry.names names → HasListing entry
+
 -- In whatever source it is, the listing of such an entry says of each user-defined name what the
--- entry has.
+-- entry has: what the first of its rows that has a value has.
 abbrev pub ListingsSayTheEntry : Type 0
 ListingsSayTheEntry =
-    (entry : Extended) (layout : Layout) (texts : List (List ℕ)) → CanBeListed entry → IsUserTableOf texts (extended_listing entry layout) (said entry.rows)
+    (entry : Extended) (layout : Layout) (texts : List (List ℕ)) → HasListing entry → IsUserTableOf texts (extended_listing entry layout) (said entry.rows)
 
 -- And without user-defined capabilities it says of each capability of the tables what the entry has.
 abbrev pub ListingsSayTheTables : Type 0
 ListingsSayTheTables =
-    (entry : Extended) (layout : Layout) (texts : List (List ℕ)) → CanBeListed entry
+    (entry : Extended) (layout : Layout) (texts : List (List ℕ)) → HasListing entry
     → (mentions : List Mention) × (profile.expansion (readings texts) (reading_of_text (extended_listing entry layout)) ≡ Some mentions)
     × ((c : Capability) → IsCapability c → contents mentions c ≡ entry.entry.contents c)
 
@@ -153,3 +170,11 @@ RelativesSayTheEntryInASource =
     (entry : Extended) (layout : Layout) (listed : List Listed) (texts : List (List ℕ)) → CanBeListed entry → 0 < length texts → All (IsListedIn texts) listed
     → (mentions : List UserMention) × (expansion texts (extended_relative entry (entries_of listed) layout) ≡ Some mentions)
     × ((name : List ℕ) → without_cancel (mentioned mentions name) ≡ said entry.rows name)
+
+-- And without user-defined capabilities it says of each capability of the tables what the entry has,
+-- a cancel being nothing.
+abbrev pub RelativesSayTheTablesInASource : Type 0
+RelativesSayTheTablesInASource =
+    (entry : Extended) (layout : Layout) (listed : List Listed) (texts : List (List ℕ)) → CanBeListed entry → 0 < length texts → All (IsListedIn texts) listed
+    → (mentions : List Mention) × (profile.expansion (readings texts) (reading_of_text (extended_relative entry (entries_of listed) layout)) ≡ Some mentions)
+    × ((c : Capability) → IsCapability c → without_cancel (contents mentions c) ≡ without_cancel (entry.entry.contents c))

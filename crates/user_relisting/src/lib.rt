@@ -8,7 +8,8 @@
 mod reading_back;
 
 pub use reading_back::{
-    items_are_read, items_are_read_by_the_profile, listings_are_read,
-    listings_compile_by_the_profile, listings_say_the_entry, relatives_are_read,
-    relatives_say_the_entry, relatives_say_the_entry_in_a_source,
+    items_are_blocks, items_are_read, items_are_read_by_the_profile, listings_are_read,
+    listings_compile_by_the_profile, listings_say_the_entry, read_entries_have_listings,
+    relatives_are_read, relatives_say_the_entry, relatives_say_the_entry_in_a_source,
+    users_have_the_entry,
 };

@@ -1,7 +1,8 @@
 //! A listing is read as what it lists.
-ghost use Rattle.user_relisting.specs.Items.{ItemsAreRead, ItemsAreReadByTheProfile};
-ghost use Rattle.user_relisting.specs.ReadingBack.{ListingsAreRead, ListingsCompileByTheProfile, ListingsSayTheEntry, ListingsSayTheTables};
-ghost use Rattle.user_relisting.specs.ReadingBack.{RelativesAreRead, RelativesSayTheEntry, RelativesSayTheEntryInASource};
+ghost use Rattle.user_relisting.specs.Items.{ItemsAreBlocks, ItemsAreRead, ItemsAreReadByTheProfile};
+ghost use Rattle.user_relisting.specs.ReadingBack.{ListingsAreRead, ListingsCompileByTheProfile, ListingsSayTheEntry, ListingsSayTheTables, ReadEntriesHaveListings};
+ghost use Rattle.user_relisting.specs.Using.{UsersHaveTheEntry, UsersHaveTheTables};
+ghost use Rattle.user_relisting.specs.ReadingBack.{RelativesAreRead, RelativesSayTheEntry, RelativesSayTheEntryInASource, RelativesSayTheTablesInASource};
 
 /// Each text that is laid out as a listing, whatever its layout, is read as the user-defined items
 /// and the uses that it lists, without a fault.
@@ -21,6 +22,15 @@ pub fn items_are_read_by_the_profile()
     ti_caps::laws::every_name_is_found();
     ti_source::laws::written_spells();
     ti_source::laws::one_reading();
+}
+
+/// Each text that is laid out as a listing with user-defined items, whatever its layout, is one
+/// block.
+pub fn items_are_blocks()
+    ensures { ItemsAreBlocks }
+{
+    ti_caps::laws::every_name_is_found();
+    ti_source::laws::written_spells();
 }
 
 /// The listing of an entry with user-defined capabilities, in any layout, is read as exactly these,
@@ -57,6 +67,12 @@ pub fn relatives_say_the_entry()
     ensures { RelativesSayTheEntry }
 {}
 
+/// Each entry that is read has a listing as the next law asks for, if its names field can be listed:
+/// also one in which user-defined capabilities are absent, or a name has values of several kinds.
+pub fn read_entries_have_listings()
+    ensures { ReadEntriesHaveListings }
+{}
+
 /// In whatever source it is, the listing of an entry with user-defined capabilities says of each
 /// user-defined name and of each capability of the tables what the entry has.
 pub fn listings_say_the_entry()
@@ -69,9 +85,22 @@ pub fn listings_say_the_entry()
 }
 
 /// In a source in which the first names of the others lead to their listings, the relative source
-/// of an entry says of each user-defined name what the entry has.
+/// of an entry says of each user-defined name and of each capability of the tables what the entry
+/// has.
 pub fn relatives_say_the_entry_in_a_source()
-    ensures { RelativesSayTheEntryInASource }
+    ensures user_defined { RelativesSayTheEntryInASource }
+    ensures tables { RelativesSayTheTablesInASource }
+{
+    ti_caps::laws::each_kind_is_in_order();
+    items_are_read();
+    items_are_read_by_the_profile();
+}
+
+/// A block that uses an entry whose listing stands in its source has the entry's value of each
+/// user-defined name and of each capability of the tables that no other of its items can give it.
+pub fn users_have_the_entry()
+    ensures user_defined { UsersHaveTheEntry }
+    ensures tables { UsersHaveTheTables }
 {
     ti_caps::laws::each_kind_is_in_order();
     items_are_read();

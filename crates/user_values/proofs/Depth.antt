@@ -1,9 +1,8 @@
 -- An expansion is equal at each greater depth.
-use Rattle.std.proofs.Common.{◌≡◌, ℕ, zero, suc, ◌+◌, ◌-◌, ◌≤◌, Bool, true, false, cond, List, [], ◌∷◌, ◌++◌, Option, Some, None, is_some, option_and_then}
+use Rattle.std.proofs.Common.{◌≡◌, ℕ, zero, suc, ◌+◌, ◌-◌, ◌≤◌, Bool, true, false, cond, List, [], ◌∷◌, ◌++◌, Option, Some, None, option_and_then}
 use Rattle.std.proofs.Common.{refl, sym, ap, ◌∙◌, arith, append_assoc}
 use Rattle.std.specs.Option.{option_or}
 use Rattle.std.specs.Str.{bytes_eq}
-use Rattle.std.proofs.lemmas.Bool.{false≢true}
 use Rattle.std.proofs.lemmas.Option.{same_Some, none-some}
 use Rattle.ti_text.specs.Lists.{both_lists}
 use Rattle.ti_source.specs.Parsing.{reading_of_text}
@@ -11,7 +10,7 @@ use Rattle.base_meaning.specs.Expansion.{is_broken}
 use Rattle.user_items.specs.Verdicts.{UserSaid, says, imports}
 use Rattle.user_items.specs.Reading.{ReadUserItem}
 use Rattle.user_items.specs.Parsing.{user_reading_of_text}
-use Rattle.user_values.specs.Expansion.{UserMention, first_said, mentions_of, expand_items, owner_text, expand, expansion}
+use Rattle.user_values.specs.Expansion.{UserMention, first_said, mentions_of, expand_items, owner_text, expand}
 
 abbrev pub Mentions : Type 0
 Mentions = Option (List UserMention)

@@ -1,7 +1,9 @@
-pub mod Saying
 pub mod Depth
+pub mod Saying
+pub mod Searching
 pub mod Resolving
 pub mod Making
 pub mod Ordering
 pub mod Naming
+pub mod Counting
 pub mod Walking

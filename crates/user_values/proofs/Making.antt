@@ -1,27 +1,26 @@
 -- The table of a block, made item by item.
-use Rattle.std.proofs.Common.{◌≡◌, ℕ, zero, suc, ◌+◌, ◌<◌, ◌≤◌, List, [], ◌∷◌, ◌++◌, map, length, Option, Some, None, is_some, option_and_then, slice_get}
+use Rattle.std.proofs.Common.{◌≡◌, ℕ, zero, suc, ◌<◌, ◌≤◌, List, [], ◌∷◌, ◌++◌, map, length, Option, Some, None, is_some, option_and_then, slice_get}
 use Rattle.std.proofs.Common.{refl, sym, ap, ◌∙◌}
 use Rattle.std.specs.Option.{option_map, option_or, IsSome}
 use Rattle.std.proofs.lemmas.Bool.{false≢true}
 use Rattle.std.proofs.lemmas.List.{length-map, take_all}
 use Rattle.std.proofs.lemmas.Option.{same_Some, none-some, slice_get-map, slice_get_read}
-use Rattle.std.proofs.Common.{Bool, true, false, not, take, get_or, arith}
+use Rattle.std.proofs.Common.{true, false, take, get_or}
 use Rattle.ti_source.specs.Parsing.{reading_of_text}
 use Rattle.ti_layout.specs.Values.{Mention, contents}
-use Rattle.base_meaning.specs.Expansion.{expansion as expansion_there}
 use Rattle.base_meaning.specs.ValueTables.{HasTable}
 use Rattle.user_items.specs.declared.reading.UserItem.{UserItem}
 use Rattle.user_items.specs.Reading.{user_item_of}
 use Rattle.ti_text.specs.Lists.{both_lists}
 use Rattle.base_meaning.specs.Owner.{owner, readings}
-use Rattle.user_items.specs.Verdicts.{UserSaid, says, imports}
+use Rattle.user_items.specs.Verdicts.{imports}
 use Rattle.user_items.specs.Reading.{ReadUserItem, UserBlock, user_reading_of}
 use Rattle.user_items.specs.declared.reading.UserItems.{UserItems}
 use Rattle.user_items.specs.Parsing.{user_reading_of_text}
 use Rattle.user_values.specs.Expansion.{UserMention, first_said, mentions_of, expand_items, owner_text, expand, expansion}
 use Rattle.user_values.specs.Tables.{Said, names_at, AddsSaid, IsUserTableOf}
-use Rattle.user_values.proofs.Depth.{Mentions, names_at as names_deep, expand_items-append, first_said-append, joined_parts, expands, expanded}
-use Rattle.user_values.proofs.Resolving.{found, mapped, some_of, as_resolved}
+use Rattle.user_values.proofs.Depth.{names_at as names_deep, expand_items-append, first_said-append, joined_parts, expands, expanded}
+use Rattle.user_values.proofs.Resolving.{found, some_of, as_resolved}
 
 -- the table that the first of these items make
 pub record IsTableOfItems (texts : List (List ℕ)) (items : List ReadUserItem) (said : Said) : Type 0 where

@@ -1,7 +1,6 @@
 -- Names that are found one after the other.
 use Rattle.std.proofs.Common.{◌≡◌, ℕ, ◌+◌, ◌<◌, ◌≤◌, Bool, true, false, ◌||◌, cond, List, [], ◌∷◌, ◌++◌, map, length, take, drop, get_or, Option, Some}
 use Rattle.std.proofs.Common.{None, is_some, refl, sym, ap, ◌∙◌, subst, arith, append-nil, length-append}
-use Rattle.std.specs.List.{flat_map, list_any}
 use Rattle.std.specs.Option.{option_or}
 use Rattle.std.specs.Str.{bytes_eq}
 use Rattle.std.proofs.lemmas.Grind.{flat_map-append}
@@ -16,7 +15,7 @@ use Rattle.user_items.specs.declared.reading.UserItems.{UserItems}
 use Rattle.user_values.specs.declared.names_found.NamesFound.{NamesFound}
 use Rattle.user_values.specs.Limit.{name_limit, name_said, name_count, IsOverLimitAt, names_of, names_in, has_name, with_name, distinct_after}
 use Rattle.user_values.specs.Tables.{said_at, said_once}
-use Rattle.user_values.specs.inside.Counting.{AreFound, AreCounted}
+use Rattle.user_values.specs.inside.Counting.{AreFound}
 
 -- ---- one name
 

@@ -13,9 +13,8 @@ use Rattle.base_meaning.proofs.Owning.{nobody, somebody, owning}
 use Rattle.user_items.specs.Verdicts.{UserSaid, says, imports}
 use Rattle.user_items.specs.Reading.{ReadUserItem, UserBlock}
 use Rattle.user_items.specs.Parsing.{user_reading_of_text}
-use Rattle.user_values.specs.declared.table.UserTable.{UserTable}
 use Rattle.user_values.specs.Expansion.{UserMention, expand, expansion}
-use Rattle.user_values.specs.Tables.{HasUserTable}
+use Rattle.user_values.specs.Tables.{TableSeen, HasUserTable}
 use Rattle.user_values.specs.Uses.{used_block, edge_of, row_of, uses_of}
 use Rattle.user_values.specs.inside.Settling.{OwnerIsDone, OwnersAreDone}
 use Rattle.user_values.specs.inside.Walking.{AreLast, AreKept}
@@ -129,8 +128,29 @@ no_cycle texts (suc bound) depth u w l e edge back =
 
 -- ---- tables made along the closing order
 
+-- a block that resolves comes after each block that it uses
+pub used_before : (texts : List (List ℕ)) (component_of order : List ℕ) (i at used : ℕ) (text : List ℕ)
+    → AreComponents (uses_of texts) component_of → IsClosingOrder (uses_of texts) component_of order
+    → slice_get order i ≡ Some at → slice_get texts at ≡ Some text → IsSome (expansion texts text) → HasEdge (uses_of texts) at used
+    → (j : ℕ) × (j < i) × (slice_get order j ≡ Some used)
+used_before texts component_of order i at used text comps c o t some edge =
+    let whole = some_from (expansion texts text) some in
+    let within = graph_whole texts at used edge in
+    let below = c.nodes i at o in
+    let w = c.listed used within in
+    let first = item_at component_of at (omega (arith, comps.as_many, below)) in
+    let second = item_at component_of used (omega (arith, comps.as_many, within)) in
+    let before : w.0 < i = elim (c.before i w.0 at used first.0 second.0 o w.1 first.1 second.1 edge) [
+      | inl same ↦
+          let both = (comps.same at used first.0 second.0 first.1 second.1).0 same in
+          absurd (no_cycle texts (suc (suc (length texts))) (suc (length texts)) at used (omega arith)
+          (record { text = text; mentions = whole.0; stands = t; expands_to = whole.1 }) edge both.1)
+      | inr l ↦ l
+    ] in
+    (w.0, before, w.1)
+
 -- the owners of a block that resolves are made before it
-pub owners_made : (texts : List (List ℕ)) (component_of order last : List ℕ) (tables : List (Option UserTable)) (end node : ℕ) (text : List ℕ)
+pub owners_made : (texts : List (List ℕ)) (component_of order last : List ℕ) (tables : List (Option TableSeen)) (end node : ℕ) (text : List ℕ)
     → AreComponents (uses_of texts) component_of → IsClosingOrder (uses_of texts) component_of order → AreLast (uses_of texts) order last
     → AreKept texts order last tables end → slice_get order end ≡ Some node → slice_get texts node ≡ Some text → IsSome (expansion texts text)
     → OwnersAreDone texts tables text
@@ -140,24 +160,14 @@ owners_made texts component_of order last tables end node text comps c past h o 
     let edge = use_is_edge texts node u.at (record { text = text; k = k; item = item; name = name; stands = t; here = s; used = i; owned = u.owned }) in
     let n = graph_length texts in
     let within = slice_get_within texts u.at u.text u.stands in
-    let w = c.listed u.at (omega arith) in
-    let below = c.nodes end node o in
-    let first = item_at component_of node (omega (arith, comps.as_many)) in
-    let second = item_at component_of u.at (omega (arith, comps.as_many)) in
+    let w = used_before texts component_of order end node u.at text comps c o t some edge in
     let made = item_at tables u.at (omega (arith, h.as_many)) in
-    let before : w.0 < end = elim (c.before end w.0 node u.at first.0 second.0 o w.1 first.1 second.1 edge) [
-      | inl same ↦
-          let both = (comps.same node u.at first.0 second.0 first.1 second.1).0 same in
-          absurd (no_cycle texts (suc (suc (length texts))) (suc (length texts)) node u.at (omega arith)
-          (record { text = text; mentions = whole.0; stands = t; expands_to = whole.1 }) edge both.1)
-      | inr l ↦ l
-    ] in
     let l = item_at last u.at (omega (arith, past.as_many)) in
-    let right = h.done w.0 u.at l.0 u.text made.0 before w.1 l.1 (past.past end node u.at l.0 o edge l.1) u.stands made.1 in
+    let right = h.done w.0 u.at l.0 u.text made.0 w.1 w.2 l.1 (past.past end node u.at l.0 o edge l.1) u.stands made.1 in
     owner_done texts tables name u.at u.text made.0 u.owned u.stands made.1 (found texts u.at u.below u.text u.mentions u.stands u.expands_to) right
   where
-    owner_done : (texts : List (List ℕ)) (tables : List (Option UserTable)) (name : List ℕ) (at : ℕ) (text : List ℕ)
-        (table : Option UserTable) {ms : List UserMention} → owner (readings texts) name ≡ Some at
+    owner_done : (texts : List (List ℕ)) (tables : List (Option TableSeen)) (name : List ℕ) (at : ℕ) (text : List ℕ)
+        (table : Option TableSeen) {ms : List UserMention} → owner (readings texts) name ≡ Some at
         → slice_get texts at ≡ Some text → slice_get tables at ≡ Some table → expansion texts text ≡ Some ms → HasUserTable texts text table
         → OwnerIsDone texts tables name
     owner_done texts tables name at text None {ms} o t s e none = absurd (none-some ms (sym none ∙ e))

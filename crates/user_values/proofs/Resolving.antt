@@ -1,7 +1,7 @@
 -- A block has user-defined values exactly where it resolves.
-use Rattle.std.proofs.Common.{◌≡◌, ℕ, zero, suc, ◌+◌, ◌≤◌, Bool, true, false, cond, List, [], ◌∷◌, ◌++◌, map, length, Option, Some, None, is_some}
+use Rattle.std.proofs.Common.{◌≡◌, ℕ, zero, suc, ◌+◌, Bool, true, false, cond, List, [], ◌∷◌, map, length, Option, Some, None, is_some}
 use Rattle.std.proofs.Common.{option_and_then, slice_get, refl, sym, ap, ◌∙◌, inl, inr}
-use Rattle.std.specs.Prelude.{Result, Ok, Err}
+use Rattle.std.specs.Prelude.{Ok, Err}
 use Rattle.std.specs.Option.{option_map}
 use Rattle.std.proofs.lemmas.Bool.{false≢true, cases_Bool}
 use Rattle.std.proofs.lemmas.List.{length-map}
@@ -21,10 +21,10 @@ use Rattle.ti_source.specs.Judging.{items_at as items_at_there, items_from as it
 use Rattle.ti_source.specs.Verdicts.{ReadClaim, reads_flag, reads_number, reads_text, reads_cancel, is_import, fitting_verdict, named_verdict}
 use Rattle.ti_source.specs.Verdicts.{items_by as items_by_there, verdict_on as verdict_there}
 use Rattle.ti_source.specs.Parsing.{reading_of_text}
-use Rattle.ti_source.specs.Reading.{Reading, ReadItem}
+use Rattle.ti_source.specs.Reading.{Reading}
 use Rattle.ti_layout.specs.Values.{Mention}
-use Rattle.base_meaning.specs.Owner.{owner, owner_block, readings}
-use Rattle.base_meaning.specs.Expansion.{is_broken, resolves, expand_items as expand_items_there, expand as expand_there, expansion as expansion_there}
+use Rattle.base_meaning.specs.Owner.{owner_block, readings}
+use Rattle.base_meaning.specs.Expansion.{is_broken, resolves, expand_items as expand_items_there, expand as expand_there}
 use Rattle.base_meaning.proofs.MentionMerging.{expand_items-append as append_there}
 use Rattle.base_meaning.proofs.Owning.{nobody, somebody, owning}
 use Rattle.base_meaning.proofs.LawProofs.{found_expansions}
@@ -33,8 +33,8 @@ use Rattle.user_items.specs.Verdicts.{defining_verdict, verdict_on}
 use Rattle.user_items.specs.Reading.{items_at, items_from}
 use Rattle.user_items.specs.inside.Computed.{judged_with, judged_as, judged_of}
 use Rattle.user_items.specs.Parsing.{user_reading_of_text}
-use Rattle.user_values.specs.Expansion.{UserMention, expand_items, owner_text, expand, expansion}
-use Rattle.user_values.proofs.Depth.{Mentions, Names, names_at, expand_items-append, expand_same}
+use Rattle.user_values.specs.Expansion.{UserMention, expand_items, expand, expansion}
+use Rattle.user_values.proofs.Depth.{Names, names_at, expand_items-append, expand_same}
 
 abbrev There : Type 0
 There = List ℕ → Option (List Mention)

@@ -4,14 +4,13 @@ use Rattle.std.proofs.lemmas.Bool.{cases_eq}
 use Rattle.std.proofs.lemmas.List.{length-set}
 use Rattle.std.proofs.lemmas.Option.{same_Some, none-some, slice_get_within, slice_get-get_or}
 use Rattle.ti_text.proofs.Lists.{item_at, get-set_same, get-set_other, push_cases}
-use Rattle.base_components.specs.Graph.{Rows, HasEdge}
-use Rattle.base_components.specs.Components.{IsClosingOrder}
-use Rattle.user_values.specs.declared.table.UserTable.{UserTable}
-use Rattle.user_values.specs.Tables.{HasUserTable}
+use Rattle.base_components.specs.Graph.{Rows}
+use Rattle.base_components.specs.Components.{AreComponents, IsClosingOrder}
+use Rattle.user_values.specs.Tables.{TableSeen, HasUserTable}
 use Rattle.user_values.specs.Uses.{uses_of}
 use Rattle.user_values.specs.Walking.{TablesSeen, IsOrderOf, MakesNext, IsMadeLast, once_made}
 use Rattle.user_values.specs.inside.Walking.{NotesUses, AreLast, DropsUnused, AreKept, IsLatest}
-use Rattle.user_values.proofs.Ordering.{graph_length}
+use Rattle.user_values.proofs.Ordering.{graph_length, used_before}
 
 -- an element that was read by its place is there
 pub found_in : {X : Type 0} (xs : List X) (i : ℕ) (x : X) → x ≡ get_or xs i x → i < length xs → slice_get xs i ≡ Some x
@@ -31,12 +30,18 @@ made_last old at new here m e =
     }
 
 -- the order of closing has each position of the source
-pub order_of : (texts : List (List ℕ)) (component_of order : List ℕ) → IsClosingOrder (uses_of texts) component_of order → IsOrderOf texts order
-order_of texts component_of order c =
+pub order_of : (texts : List (List ℕ)) (component_of order : List ℕ) → AreComponents (uses_of texts) component_of
+    → IsClosingOrder (uses_of texts) component_of order → IsOrderOf texts order
+order_of texts component_of order comps c =
     let n = graph_length texts in
-    record { listed = λ at l. c.listed at (omega arith); below = λ i x e. let b = c.nodes i x e in omega arith; once = c.once }
+    record {
+      listed = λ at l. c.listed at (omega arith);
+      below = λ i x e. let b = c.nodes i x e in omega arith;
+      once = c.once;
+      after_used = λ i at used text o t some edge. used_before texts component_of order i at used text comps c o t some edge;
+    }
 
-pub none_kept : (texts : List (List ℕ)) (order last : List ℕ) (tables : List (Option UserTable)) → length tables ≡ length texts
+pub none_kept : (texts : List (List ℕ)) (order last : List ℕ) (tables : List (Option TableSeen)) → length tables ≡ length texts
     → AreKept texts order last tables 0
 none_kept texts order last tables n = record { as_many = n; done = λ j node l text table m. absurd (omega arith) }
 
@@ -48,7 +53,7 @@ earlier order end node j other o e apart m =
       | inr other_place ↦ omega arith
     ]
 
-module _ (texts : List (List ℕ)) (order last : List ℕ) (old dropped : List (Option UserTable)) (made at l : ℕ) (table : Option UserTable) where
+module _ (texts : List (List ℕ)) (order last : List ℕ) (old dropped : List (Option TableSeen)) (made at l : ℕ) (table : Option TableSeen) where
   -- the tables after one more is made, of a block that is to be used
   pub used_kept : AreKept texts order last old made → DropsUnused last (made + 1) old dropped → slice_get order made ≡ Some at → slice_get last at ≡ Some l
       → at < length texts → ((text : List ℕ) → slice_get texts at ≡ Some text → HasUserTable texts text table)
@@ -88,7 +93,7 @@ module _ (texts : List (List ℕ)) (order last : List ℕ) (old dropped : List (
       right text (ap (slice_get texts) same ∙ t)
 
   -- else there is none
-  pub latest_used : (latest : Option UserTable) → slice_get order made ≡ Some at → slice_get last at ≡ Some l → made + 1 ≤ l
+  pub latest_used : (latest : Option TableSeen) → slice_get order made ≡ Some at → slice_get last at ≡ Some l → made + 1 ≤ l
       → IsLatest texts order last latest (made + 1)
   latest_used latest o e needed = λ before node k text m oj ek past t.
       let place : made ≡ before = omega (arith, m) in
@@ -129,10 +134,10 @@ use_noted row place old new to n within = record {
 
 -- ---- tables are dropped
 
-pub none_dropped : (last : List ℕ) (made : ℕ) (tables : List (Option UserTable)) → DropsUnused last made tables tables
+pub none_dropped : (last : List ℕ) (made : ℕ) (tables : List (Option TableSeen)) → DropsUnused last made tables tables
 none_dropped last made tables = record { as_many = refl; kept = λ at l e needed. refl }
 
-pub one_dropped : (last : List ℕ) (made : ℕ) (old new : List (Option UserTable)) (at l : ℕ) → DropsUnused last made old new → slice_get last at ≡ Some l
+pub one_dropped : (last : List ℕ) (made : ℕ) (old new : List (Option TableSeen)) (at l : ℕ) → DropsUnused last made old new → slice_get last at ≡ Some l
     → l < made → DropsUnused last made old (set new at None)
 one_dropped last made old new at l d e past = record {
   as_many = length-set new at None ∙ d.as_many;

@@ -1,8 +1,7 @@
 -- Laws of user-defined values.
 use Rattle.std.specs.Prelude.{ℕ, ◌≡◌, List, is_some, Some, slice_get}
 use Rattle.ti_layout.specs.Laws.{without_cancel}
-use Rattle.user_values.specs.Tables.{said_at, IsTableAt}
-use Rattle.user_values.specs.declared.table.UserTable.{UserTable}
+use Rattle.user_values.specs.Tables.{TableSeen, said_at, IsTableAt}
 use Rattle.ti_source.specs.Parsing.{reading_of_text}
 use Rattle.base_meaning.specs.Owner.{readings}
 use Rattle.base_meaning.specs.Expansion.{resolves}
@@ -15,5 +14,5 @@ ValuesAreWhereResolved = (texts : List (List ℕ)) (text : List ℕ) → is_some
 -- the table of a block that resolves has the value of each name there
 abbrev pub TablesHaveValues : Type 0
 TablesHaveValues =
-    (texts : List (List ℕ)) (at : ℕ) (text : List ℕ) (table : UserTable) (name : List ℕ) → slice_get texts at ≡ Some text → IsTableAt texts at (Some table)
+    (texts : List (List ℕ)) (at : ℕ) (text : List ℕ) (table : TableSeen) (name : List ℕ) → slice_get texts at ≡ Some text → IsTableAt texts at (Some table)
     → without_cancel (said_at table name) ≡ user_value texts at name

@@ -1,6 +1,10 @@
 -- The tables of the blocks of a source, made one after another (own).
 use Rattle.std.specs.Prelude.{◌≡◌, ℕ, ◌+◌, ◌<◌, List, length, Option, Some, None, slice_get}
+use Rattle.std.specs.Option.{IsSome}
 use Rattle.ti_text.specs.Lists.{Has, AreBelow, AreDistinct}
+use Rattle.base_components.specs.Graph.{HasEdge}
+use Rattle.user_values.specs.Expansion.{expansion}
+use Rattle.user_values.specs.Uses.{uses_of}
 
 -- the texts of the source, the positions of its blocks in the order in which their tables are made,
 -- and how many are made
@@ -9,11 +13,14 @@ pub record TablesSeen : Type 0 where
   pub order : List ℕ
   pub made : ℕ
 
--- each position of the source is in the order, once, and no other number
+-- each position of the source is in the order, once, and no other number; a block that resolves
+-- comes after each block that it uses
 pub record IsOrderOf (texts : List (List ℕ)) (order : List ℕ) : Type 0 where
   pub listed : (at : ℕ) → at < length texts → Has order at
   pub below : AreBelow order (length texts)
   pub once : AreDistinct order
+  pub after_used : (i at used : ℕ) (text : List ℕ) → slice_get order i ≡ Some at → slice_get texts at ≡ Some text → IsSome (expansion texts text)
+      → HasEdge (uses_of texts) at used → (j : ℕ) × (j < i) × (slice_get order j ≡ Some used)
 
 -- no table of this source is made
 pub record IsStartOf (texts : List (List ℕ)) (tables : TablesSeen) : Type 0 where

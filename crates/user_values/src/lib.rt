@@ -13,13 +13,15 @@
 //!
 //! - `limit`: how many user-defined names a source has (`count_names`) and may have (`NAME_LIMIT`);
 //!   `names_found`: those that were found; `fault`: why it has no values (`ValuesError`)
-//! - `table`: what a block says of each name (`UserTable`)
+//! - `table`: what a block says of each name (`UserTable`); `entries`: in entries that tables share
+//!   (`UserEntry`)
 //! - `graph`: which blocks use each other
 //! - `values`: the table of one block; `walk`: the tables of all blocks (`UserTables`), each made
 //!   after those of the blocks that it uses, and kept until the last block that uses it is made
 //! - `laws`: a block has values exactly where it resolves, and its table has them
 #![tactic(auto)]
 
+mod entries;
 mod fault;
 mod graph;
 pub mod laws;
@@ -29,6 +31,7 @@ mod table;
 mod values;
 mod walk;
 
+pub use entries::UserEntry;
 pub use fault::ValuesError;
 pub use limit::{NAME_LIMIT, count_names};
 pub use table::UserTable;

@@ -1,9 +1,11 @@
 //! How many user-defined names a source has.
-ghost use Rattle.std.specs.Prelude.{◌≡◌, ◌<◌, ◌≤◌, ◌+◌, ℕ, [], List, length, map, take, IfOk, IsErrOf, OnOk};
+ghost use Rattle.std.specs.Prelude.{◌≡◌, ◌<◌, ◌≤◌, ◌+◌, ℕ, [], List, length, map, take, is_some, IfOk, IsErrOf, OnOk};
+ghost use Rattle.std.specs.Rc.{rc_slice_items};
 ghost use Rattle.user_items.specs.Reading.{user_item_of, user_reading_of};
 ghost use Rattle.user_items.specs.Parsing.{user_reading_of_text};
 ghost use Rattle.user_values.specs.Limit.{name_count, IsOverLimitAt};
 ghost use Rattle.user_values.specs.Limit.{name_limit, name_said, names_of, names_in, with_name, distinct_after};
+ghost use Rattle.user_values.specs.Tables.{said_at};
 ghost use Rattle.user_values.specs.inside.Counting.{AreFound, AreCounted};
 
 use crate::fault::ValuesError;
@@ -11,6 +13,7 @@ use crate::names_found::NamesFound;
 use crate::table::UserTable;
 use crate::values::read_all;
 use std::alloc::{AllocError, Global};
+use std::rc::RcSlice;
 use ti_base::Database;
 use ti_layout::Value;
 use user_items::{UserItem, UserItems, UserWhat};
@@ -18,11 +21,18 @@ use user_items::{UserItem, UserItems, UserWhat};
 /// The most distinct user-defined names of a source.
 pub const NAME_LIMIT: usize = 1024;
 
-// Finds a name, unless it is one too many.
-fn find_name(alloc: Global, name: &[u8], found: &mut NamesFound) -> Result<bool, AllocError>
-    ensures { IfOk result (λ fits. (names : List (List ℕ)) → AreFound names found.old → AreCounted fits (with_name names name.now) found.new) }
+// Whether a name was found.
+fn is_found(found: &NamesFound, name: &RcSlice<u8>) -> bool
+    ensures { result ≡ is_some (said_at found.now.table (rc_slice_items name.now)) }
 {
-    if found.table.get(name).is_some() {
+    found.table.get(name.as_slice()).is_some()
+}
+
+// Finds a name, unless it is one too many.
+fn find_name(alloc: Global, name: &RcSlice<u8>, found: &mut NamesFound) -> Result<bool, AllocError>
+    ensures { IfOk result (λ fits. (names : List (List ℕ)) → AreFound names found.old → AreCounted fits (with_name names (rc_slice_items name.now)) found.new) }
+{
+    if is_found(found, name) {
         return Ok(true);
     }
     if found.count >= NAME_LIMIT {
@@ -38,7 +48,7 @@ fn find_item(alloc: Global, item: &UserItem, found: &mut NamesFound) -> Result<b
     ensures { IfOk result (λ fits. (names : List (List ℕ)) → AreFound names found.old → AreCounted fits (distinct_after names (name_said (user_item_of item.now).said)) found.new) }
 {
     match &item.what {
-        UserWhat::Says(name, _) => find_name(alloc, name.as_slice(), found),
+        UserWhat::Says(name, _) => find_name(alloc, name, found),
         UserWhat::Import(_) => Ok(true),
     }
 }
@@ -64,7 +74,7 @@ pub(crate) fn check_names(alloc: Global, reads: &[UserItems]) -> Result<usize, V
         × (name_limit < length (distinct_after [] (names_in (map user_reading_of (take (at + 1) reads.now))))) }
 {
     let mut found = NamesFound {
-        table: UserTable::new(alloc),
+        table: UserTable::new(),
         count: 0,
     };
     for (at, read) in reads.iter().enumerate() {

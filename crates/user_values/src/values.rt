@@ -73,7 +73,7 @@ fn add_item(
     ensures { OnOk result (AddsSaid database.now (said_of what.now) (said_at table.old) (said_at table.new)) }
 {
     match what {
-        UserWhat::Says(name, value) => table.add(alloc, name.as_slice(), value),
+        UserWhat::Says(name, value) => table.add(alloc, name, value),
         UserWhat::Import(name) => merge_owner(alloc, database, tables, name.as_slice(), table),
     }
 }
@@ -92,7 +92,7 @@ fn make_table(
     requires owners { (text : List ℕ) → slice_get database.now at ≡ Some text → OwnersAreDone database.now tables.now text }
     ensures { IfOk result (λ table. (text : List ℕ) → slice_get database.now at ≡ Some text → IsUserTableOf database.now text (said_at table)) }
 {
-    let mut table = UserTable::new(alloc);
+    let mut table = UserTable::new();
     for item in &reads[at].items {
         add_item(alloc, database, tables, &item.what, &mut table)?;
     }

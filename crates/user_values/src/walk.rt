@@ -65,8 +65,9 @@ fn drop_unused(
     }
 }
 
-/// The tables of the blocks of a source, made one after another, each after those of the blocks
-/// that its block uses. A table is kept as long as a block that uses it is still to come.
+/// The tables of the blocks of a source, made one after another: that of a block that resolves after
+/// those of the blocks that it uses. A table is kept as long as a block that uses it is still to
+/// come.
 #[derive(Drop)]
 pub struct UserTables<'a> {
     alloc: Global,
@@ -124,7 +125,8 @@ impl<'a> UserTables<'a> {
     ghost use Rattle.user_values.specs.Tables.{IsTableAt};
     ghost use Rattle.user_values.specs.Walking.{IsMadeLast, IsStartOf, MakesNext};
 
-    /// Reads the blocks of a source, and makes no table yet.
+    /// Reads the blocks of a source, and chooses the order of their tables, but makes none yet: each
+    /// block is in the order once, and a block that resolves comes after each block that it uses.
     ///
     /// # Errors
     /// `TooManyNames` for a source of more than 1,024 distinct user-defined names, with the
@@ -141,8 +143,9 @@ impl<'a> UserTables<'a> {
         }
     }
 
-    /// Makes the next table, and returns the position of its block; `None` after the last. So each
-    /// block comes once, and after each block that it uses unless one of the two does not resolve.
+    /// Makes the next table of the order that `of` chose, and returns the position of its block;
+    /// `None` after the last. So each block comes once, and a block that resolves comes after each
+    /// block that it uses.
     ///
     /// # Errors
     /// Out of memory; then the next is still to be made.

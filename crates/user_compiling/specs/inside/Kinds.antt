@@ -1,12 +1,8 @@
 -- The user-defined capabilities of a table, kind by kind.
-use Rattle.std.specs.Prelude.{ℕ, Bool, true, false, if◌then◌else◌, List, [], ◌∷◌, map, filter, Option, Some, None}
-use Rattle.std.specs.BTreeMap.{BTreeMap}
-use Rattle.std.specs.declared.vec.Vec.{Vec}
-use Rattle.std.specs.declared.alloc.Global.{Global}
+use Rattle.std.specs.Prelude.{ℕ, Bool, true, false, if◌then◌else◌, List, [], ◌∷◌, filter, Option, Some, None}
 use Rattle.ti_caps.specs.declared.capability.Kind.{Kind}
 use Rattle.ti_caps.specs.declared.capability.Kind.TheVariants as kind
-use Rattle.ti_layout.specs.declared.values.Value.{Value}
-use Rattle.ti_layout.specs.Values.{Content, content_true, content_number, content_text, content_of}
+use Rattle.ti_layout.specs.Values.{Content, content_true, content_number, content_text}
 use Rattle.user_extension.specs.UserDefined.{Row}
 
 -- whether a content is of a kind; a cancel is of none
@@ -19,14 +15,6 @@ is_of_kind _ _ = false
 -- a content, if it is of this kind
 abbrev pub of_kind : Kind → Content → Option Content
 of_kind k content = if is_of_kind k content then Some content else None
-
--- a name, and what it is given, cancelled too
-abbrev pub row_of_entry : Vec ℕ Global × Value → Row
-row_of_entry e = (e.0.items, content_of e.1)
-
--- each name of a map with what it is given
-abbrev pub map_rows : BTreeMap (Vec ℕ Global) Value → List Row
-map_rows m = map row_of_entry m.entries
 
 -- those of a kind
 abbrev pub rows_of_kind : Kind → List Row → List Row

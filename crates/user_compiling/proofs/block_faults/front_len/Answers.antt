@@ -1,4 +1,4 @@
-use Rattle.std.proofs.Common.{◌≡◌, ◌∙◌, ◌-◌, length, arith}
+use Rattle.std.proofs.Common.{◌∙◌, arith}
 use Rattle.ti_source.specs.Parsing.{reading_of_text}
 use Rattle.base_meaning.specs.Owner.{readings}
 use Rattle.base_meaning.specs.Compiled.{state_of}

@@ -1,4 +1,4 @@
-use Rattle.std.proofs.Common.{◌≡◌, ◌∙◌, ◌∷◌, [], map, sym, ap, List, ℕ, slice_get}
+use Rattle.std.proofs.Common.{◌≡◌, ◌∙◌, map, sym, ap, List, ℕ, slice_get}
 use Rattle.std.specs.Rc.{rc_slice_items}
 use Rattle.std.specs.Option.{option_map}
 use Rattle.std.proofs.lemmas.List.{map-append}

@@ -1,6 +1,6 @@
-use Rattle.std.proofs.Common.{◌≡◌, ◌∙◌, ◌∷◌, [], ◌++◌, map, drop, refl, sym, ap}
+use Rattle.std.proofs.Common.{◌∙◌, ◌++◌, map, drop, refl, sym, ap}
 use Rattle.base_meaning.specs.Faults.{fault_seen as profile_fault_seen}
-use Rattle.user_compiling.specs.Faults.{fault_seen, of_profile}
+use Rattle.user_compiling.specs.Faults.{fault_seen}
 use Rattle.user_compiling.specs.inside.Pairs.{replaced}
 use Rattle.user_compiling.proofs.SourceFaults.{one_replaced, tail_of_drop}
 use Rattle.user_compiling.proofs.block_faults.replace_one.Goals as goal

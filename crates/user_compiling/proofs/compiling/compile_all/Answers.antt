@@ -1,4 +1,4 @@
-use Rattle.std.proofs.Common.{◌≡◌, ◌<◌, ◌∙◌, List, ℕ, Some, length, drop, set, refl, sym, ap, subst, arith, slice_get}
+use Rattle.std.proofs.Common.{◌≡◌, ◌<◌, ◌∙◌, Some, length, drop, set, sym, ap, subst, arith, slice_get}
 use Rattle.user_values.specs.Walking.{TablesSeen, IsOrderOf, once_made}
 use Rattle.user_compiling.proofs.OneByOne.{AreFoundBefore, one_found, all_found, end_of, fewer_left}
 use Rattle.user_compiling.proofs.compiling.compile_all.Goals as goal

@@ -1,9 +1,8 @@
-use Rattle.std.proofs.Common.{◌≡◌, ◌≢◌, ◌∙◌, ◌<◌, ◌≤◌, ℕ, List, [], length, false, refl, ap, sym, subst, arith}
+use Rattle.std.proofs.Common.{◌≡◌, ◌≢◌, ◌∙◌, ◌<◌, ◌≤◌, ℕ, List, [], length, refl, ap, sym, subst, arith}
 use Rattle.ti_text.specs.Limits.{names_max}
 use Rattle.ti_text.specs.Texts.{HasNoNul}
 use Rattle.ti_source.specs.Parsing.{reading_of_text}
 use Rattle.ti_layout.specs.Values.{contents}
-use Rattle.base_meaning.specs.Expansion.{is_broken}
 use Rattle.user_extension.specs.UserDefined.{rows_of}
 use Rattle.user_extension.specs.Extension.{entry, entry_limit}
 use Rattle.user_compiling.proofs.States.{state_written, state_refused}

@@ -1,4 +1,4 @@
-use Rattle.std.proofs.Common.{inl, inr, ◌≡◌, ◌∙◌, List, ℕ, [], ◌∷◌, length, map, refl, sym, ap, arith}
+use Rattle.std.proofs.Common.{inl, inr, ◌≡◌, ◌∙◌, List, [], ◌∷◌, length, map, refl, sym, ap, arith}
 use Rattle.ti_source.specs.Reading.{Reading, ReadFault, fault_of}
 use Rattle.ti_source.specs.Parsing.{reading_of_text}
 use Rattle.user_extension.proofs.Entry.{none}

@@ -1,10 +1,10 @@
-use Rattle.std.proofs.Common.{rules, ap, ◌∙◌, ◌+◌, ◌-◌, ◌<◌, ◌≤◌, ◌≡◌, ◌++◌, length, map, take, arith, subst, sym}
+use Rattle.std.proofs.Common.{ap, ◌∙◌, ◌+◌, ◌-◌, ◌<◌, ◌≤◌, ◌≡◌, ◌++◌, length, map, take, arith, subst}
 use Rattle.std.specs.List.{flat_map}
 use Rattle.std.proofs.lemmas.List.{take_all}
 use Rattle.base_meaning.specs.Report.{lines_before}
 use Rattle.ti_text.proofs.Lists.{map-take_item}
 use Rattle.ti_base.proofs.Counting.{start_read, length_starts}
-use Rattle.user_compiling.specs.Faults.{fault_seen, block_of, line_of}
+use Rattle.user_compiling.specs.Faults.{fault_seen, block_of}
 use Rattle.user_compiling.specs.Report.{extended_line, IsExtendedPlaced}
 use Rattle.user_compiling.specs.inside.Lines.{line_with_number}
 use Rattle.user_compiling.proofs.Lines.{All-map_item, placed_block, placed_line, one_more_line}

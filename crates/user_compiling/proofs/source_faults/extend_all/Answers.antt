@@ -1,4 +1,4 @@
-use Rattle.std.proofs.Common.{◌≡◌, ◌∙◌, ◌++◌, ◌+◌, ◌<◌, suc, map, take, drop, length, refl, sym, ap, subst, arith, slice_get, Some, All, List}
+use Rattle.std.proofs.Common.{◌≡◌, ◌∙◌, ◌++◌, ◌+◌, suc, map, take, drop, length, refl, sym, ap, subst, arith, slice_get, Some, All, List}
 use Rattle.std.specs.List.{take-map, drop-map}
 use Rattle.std.proofs.lemmas.List.Elements.{All-nil, All-take, All-drop}
 use Rattle.ti_text.proofs.Lists.{item_at}

@@ -60,5 +60,5 @@ loop-place-preserved c =
       rise = goes_on_rising c.args.second c.args.third names table place c.loop-place.previous.now c.text-name.result.now i.rise is i.last rises;
       ended = ended_here c.args.second c.args.third names table place c.word-offset.result c.text-name.result.now at is;
       last = last_here c.args.second c.args.third names table place c.text-name.result.now is;
-      key = c.key_at-key.ensures;
+      key = c.key_at-key.ensures.key;
     }

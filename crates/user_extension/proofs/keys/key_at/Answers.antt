@@ -6,8 +6,8 @@ use Rattle.user_extension.specs.inside.Keys.{key_of}
 use Rattle.user_extension.proofs.NameKeys.{AreBytes, key_of_front}
 use Rattle.user_extension.proofs.keys.key_at.Goals as goal
 
-pub returns : goal.returns
-returns c =
+pub returns-clause-key : goal.returns-clause-key
+returns-clause-key c =
     let table = c.args.table.now in
     let at = c.args.offset in
     let raw = drop at table in

@@ -1,4 +1,4 @@
-use Rattle.std.proofs.Common.{◌≡◌, ◌∙◌, ◌+◌, List, ℕ, [], ◌∷◌, Some, ap, map, refl, slice_get, subst, sym, take, true, arith}
+use Rattle.std.proofs.Common.{◌≡◌, ◌∙◌, List, ℕ, [], ◌∷◌, ap, map, refl, subst, sym, take, true, arith}
 use Rattle.std.specs.Option.{option_or}
 use Rattle.std.specs.Rc.{rc_slice_items}
 use Rattle.std.proofs.lemmas.Option.{same_Some}
@@ -48,4 +48,4 @@ pub add_item-returns-in_ok-add-in-Says : goal.add_item-returns-in_ok-add-in-Says
 add_item-returns-in_ok-add-in-Says t c = λ done.
     rw c.in-Says.is
     (added_one c.args.database.now (rc_slice_items c.in-Says.name) (content_of c.in-Says.value) (said_at c.args.table.now) (said_at c.add.new.self)
-    (rw (← c.as_slice.ensures.value) c.in_ok-add-in-Says.ensures))
+    c.in_ok-add-in-Says.ensures.said)

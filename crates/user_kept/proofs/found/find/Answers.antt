@@ -1,4 +1,4 @@
-use Rattle.std.proofs.Common.{List, ℕ, subst}
+use Rattle.std.proofs.Common.{subst}
 use Rattle.std.proofs.lemmas.Option.{same_Some}
 use Rattle.user_compiling.specs.Entries.{state_seen}
 use Rattle.user_compiling.specs.declared.finding.Finding.{Finding}

@@ -1,4 +1,4 @@
-use Rattle.std.proofs.Common.{List, ℕ, subst}
+use Rattle.std.proofs.Common.{subst}
 use Rattle.std.proofs.lemmas.Option.{same_Some}
 use Rattle.ti_source.specs.Parsing.{reading_of_text}
 use Rattle.user_values.proofs.Making.{resolved}

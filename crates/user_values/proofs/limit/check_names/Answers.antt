@@ -1,4 +1,4 @@
-use Rattle.std.proofs.Common.{◌≡◌, ℕ, ◌+◌, ◌<◌, ◌≤◌, Bool, true, false, List, [], map, length, take, sym, ap, subst, arith}
+use Rattle.std.proofs.Common.{◌≡◌, ℕ, ◌+◌, ◌<◌, ◌≤◌, true, false, List, [], map, length, take, sym, ap, subst, arith}
 use Rattle.user_items.specs.declared.reading.UserItem.{UserItem}
 use Rattle.user_items.specs.Reading.{user_item_of, user_reading_of}
 use Rattle.user_values.specs.Limit.{name_limit, names_of, names_in, distinct_after}

@@ -1,4 +1,4 @@
-use Rattle.std.proofs.Common.{◌≡◌, ℕ, ◌+◌, ◌<◌, Bool, true, false, List, map, length, take, sym, ap, subst, arith}
+use Rattle.std.proofs.Common.{◌≡◌, ℕ, ◌+◌, ◌<◌, true, false, List, map, length, take, sym, ap, subst, arith}
 use Rattle.user_items.specs.Reading.{user_item_of}
 use Rattle.user_values.specs.Limit.{name_limit, name_said, names_of, distinct_after}
 use Rattle.user_values.specs.inside.Counting.{AreFound, AreCounted}

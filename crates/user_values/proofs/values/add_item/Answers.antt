@@ -16,4 +16,4 @@ returns-in-Says c =
     rw c.in-Says.is
     (on_ok_weaker c.add.result (added_one c.args.database.now (rc_slice_items c.in-Says.name) (content_of c.in-Says.value) (said_at c.args.table.now)
     (said_at c.add.new.self))
-    (rw (← c.as_slice.ensures.value) c.add.ensures))
+    c.add.ensures.said)

@@ -1,9 +1,9 @@
-use Rattle.std.proofs.Common.{◌≡◌, ◌<◌, ◌≤◌, length, map, take, sym, ap, ◌∙◌, subst, List}
+use Rattle.std.proofs.Common.{map, take, sym, ap, ◌∙◌, subst, List}
 use Rattle.user_items.specs.declared.reading.UserItems.{UserItems}
 use Rattle.ti_text.proofs.Lists.{item_at, map-take_item}
 use Rattle.user_items.specs.Reading.{ReadUserItem, user_item_of}
 use Rattle.user_values.specs.Tables.{said_at}
-use Rattle.user_values.proofs.Making.{IsTableOfItems, read_at, item_read, item_here, items_whole, table_of_nothing, table_of_one_more, table_of_block}
+use Rattle.user_values.proofs.Making.{IsTableOfItems, read_at, item_read, item_here, items_whole, table_of_one_more, table_of_block}
 use Rattle.user_values.proofs.values.make_table.Goals as goal
 
 pub add_item-requires : goal.add_item-requires

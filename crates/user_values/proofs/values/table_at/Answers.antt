@@ -1,4 +1,3 @@
-use Rattle.std.proofs.Common.{sym}
 use Rattle.ti_source.specs.Parsing.{reading_of_text}
 use Rattle.user_values.proofs.Resolving.{read_text}
 use Rattle.user_values.proofs.Making.{unresolved, resolved}

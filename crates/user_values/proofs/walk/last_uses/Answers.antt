@@ -1,4 +1,4 @@
-use Rattle.std.proofs.Common.{◌≡◌, ◌≤◌, ◌+◌, ◌++◌, ◌∷◌, [], ◌∙◌, sym, ap, subst, arith, List, ℕ, Some, length, take, slice_get, slice_index_or}
+use Rattle.std.proofs.Common.{◌≡◌, ◌+◌, ◌++◌, ◌∷◌, [], sym, subst, arith, List, ℕ, Some, take, slice_get, slice_index_or}
 use Rattle.std.proofs.lemmas.Option.{slice_get-get_or, get_or_from_slice_get}
 use Rattle.ti_text.proofs.Lists.{take_item}
 use Rattle.user_values.specs.inside.Walking.{AreLast}

@@ -13,7 +13,7 @@ returns-then-not-are_flags-clause-none c = λ e. bad_flag c.args.format _ _ c.in
 pub returns-then-not-are_names-clause-none : goal.returns-then-not-are_names-clause-none
 returns-then-not-are_names-clause-none c =
     let s = c.in_ok-sections.sections in
-    let tail = tail_is s.table.now c.in_ok-size.size c.min.result c.min.ensures ∙ ap (λ (n : ℕ). drop n s.table.now) c.in_ok-size.ensures.size in
+    let tail = tail_is s.table.now _ c.in_ok-size.size c.in_ok-size.ensures.size in
     λ e.
     let names = names_of c.args.format _ s c.in_ok-sections.ensures.found _ _ refl
     (ap (λ (n : ℕ). length s.flags.now + length s.numbers.now / n) c.width.ensures.value) e in
@@ -24,7 +24,7 @@ returns-then-not-are_names-clause-none c =
 pub invariant_of-result : goal.invariant_of-result
 invariant_of-result c =
     let s = c.in_ok-sections.sections in
-    let tail = tail_is s.table.now c.in_ok-size.size c.min.result c.min.ensures ∙ ap (λ (n : ℕ). drop n s.table.now) c.in_ok-size.ensures.size in
+    let tail = tail_is s.table.now _ c.in_ok-size.size c.in_ok-size.ensures.size in
     let names = c.if-not-are_names.ensures.0 refl in
     let cut = c.in_ok-sections.ensures.found in
     let n = counts c.args.format _ (parts_cut s) (lengths_cut c.args.format _ s cut) in
@@ -35,7 +35,7 @@ invariant_of-result c =
       rest = tail;
       lead = λ k lt. leads _ _ (names.ended k lt);
       user_defined = names.user_defined;
-      rise = subst (λ (k : ℕ). RiseByKind (length s.flags.now) k s.names.now (take (length s.table.now - c.min.result) (drop c.min.result s.table.now)))
+      rise = subst (λ (k : ℕ). RiseByKind (length s.flags.now) k s.names.now (take (length s.table.now - c.in_ok-size.size) (drop c.in_ok-size.size s.table.now)))
           third names.rise;
       few = omega (arith, n.names_are, cut.few_names);
       named = omega (arith, n.names_are, n.flags_are, n.numbers_are, n.values_are);
@@ -44,7 +44,7 @@ invariant_of-result c =
 pub returns-clause-found : goal.returns-clause-found
 returns-clause-found c =
     let s = c.in_ok-sections.sections in
-    let tail = tail_is s.table.now c.in_ok-size.size c.min.result c.min.ensures ∙ ap (λ (n : ℕ). drop n s.table.now) c.in_ok-size.ensures.size in
+    let tail = tail_is s.table.now _ c.in_ok-size.size c.in_ok-size.ensures.size in
     is_extension c.args.format _ s c.in_ok-sections.ensures.found _ _ refl (ap (λ (n : ℕ). length s.flags.now + length s.numbers.now / n) c.width.ensures.value)
     c.if-not-are_flags.ensures c.if-not-are_numbers.ensures c.in_ok-size.ensures.sound
     (subst (λ t. AreNames (length s.flags.now) (length s.flags.now + length s.numbers.now / c.width.result) s.names.now t) tail

@@ -1,10 +1,8 @@
 use Rattle.std.proofs.Common.{◌≡◌, List, ℕ, map, subst, sym}
 use Rattle.base_meaning.specs.Compiled.{EntryState}
-use Rattle.user_compiling.specs.Entries.{AreStates}
 use Rattle.user_compiling.specs.Faults.{extended_faults, fault_seen}
 use Rattle.user_compiling.specs.Findings.{AreFindingsBy}
 use Rattle.user_compiling.specs.declared.finding.Finding.{Finding}
-use Rattle.user_kept.specs.inside.Kept.{AreRight}
 use Rattle.user_kept.proofs.Keeping.{states_of_right}
 use Rattle.user_kept.proofs.database.KeptDatabase.faults_by.Goals as goal
 

@@ -1,9 +1,14 @@
-use Rattle.user_values.proofs.Saying.{said_inserted_key, nothing_found}
+use Rattle.std.specs.Rc.{rc_slice_items}
+use Rattle.std.proofs.lemmas.Result.{on_ok_weaker}
 use Rattle.ti_layout.specs.Values.{content_of}
+use Rattle.user_values.specs.Tables.{entry_seen}
+use Rattle.user_values.specs.inside.Entries.{held_seen}
+use Rattle.user_values.proofs.Searching.{added_by}
 use Rattle.user_values.proofs.table.UserTable.add.Goals as goal
 
-pub returns : goal.returns
-returns c = λ q.
-    said_inserted_key c.in_ok-key.key.items c.args.name.now (content_of c.args.value.now) c.args.self.now.entries c.insert.new.self c.in_ok-copy.copy
-    c.in_ok-key.ensures.items c.in_ok-copy.ensures
-    (nothing_found c.get.result _ c.get.ensures.value c.if-is_some.ensures) c.in_ok-insert.ensures.updates q
+pub returns-clause-said : goal.returns-clause-said
+returns-clause-said c =
+    on_ok_weaker c.add_entry.result
+    (added_by (entry_seen c.in_ok-entry.entry.value) (rc_slice_items c.args.name.now) (content_of c.args.value.now) (held_seen c.self.inside.entries)
+    c.args.self.now (held_seen c.add_entry.new.held) c.in_ok-entry.ensures c.self.view_is)
+    c.add_entry.ensures.added

@@ -5,7 +5,7 @@ use Rattle.user_values.specs.inside.Walking.{DropsUnused}
 use Rattle.user_values.proofs.Ordering.{graph_length, graph_whole, owners_made}
 use Rattle.user_values.proofs.Walking.{found_at, found_in, used_kept, unused_kept, latest_made, latest_used, made_last}
 use Rattle.user_values.proofs.walk.UserTables.make_next.Goals as goal
-use Rattle.user_values.proofs.walk.UserTables.make_next.Goals.{in-Some-1, in-None-1, in-Some-2, in-None-2}
+use Rattle.user_values.proofs.walk.UserTables.make_next.Goals.{in-None-1, in-Some+in-None-1, in-Some+in-Some-self-table-2, in-None-2, in-Some+in-None-2, in-Some+in-Some-index_mut-table-2}
 
 pub table_at-requires-clause-owners : goal.table_at-requires-clause-owners
 table_at-requires-clause-owners c = λ text stands some.
@@ -97,6 +97,29 @@ invariant_of-self-then-index-self-2 c =
       is_latest = latest_made i.database.now order i.last.items i.tables.items new i.made at c.index.result.now table listed c.in_ok-table.ensures;
     }
 
+pub invariant_of-self-then-index-self-3 : goal.invariant_of-self-then-index-self-3
+invariant_of-self-then-index-self-3 c =
+    let i = c.self.inside in
+    let inv = c.self.invariant in
+    let at = c.in-Some.at.now in
+    let order = i.components.order.items in
+    let new = c.drop_unused.new.tables.items in
+    let table = c.in_ok-table.table in
+    let listed : slice_get order i.made ≡ Some at =
+    found_at i.components.order.items c.deref.result.now i.made c.in-Some.at.now c.deref.ensures.value c.in-Some.ensures.lookup.1 c.in-Some.ensures.lookup.3.0 in
+    let dropped = subst (λ (xs : List ℕ). DropsUnused xs (i.made + 1) i.tables.items new) c.deref-4.ensures.value c.drop_unused.ensures in
+    record {
+      read = inv.read;
+      graph = inv.graph;
+      components = inv.components;
+      closing = inv.closing;
+      are_last = inv.are_last;
+      are_kept = unused_kept i.database.now order i.last.items i.tables.items new i.made at c.index.result.now table inv.are_kept dropped listed
+          (found_in i.last.items at c.index.result.now c.index.ensures (omega (arith, inv.are_last.as_many, inv.closing.nodes i.made at listed)))
+          (omega (arith, c.if-index-self.true));
+      is_latest = latest_made i.database.now order i.last.items i.tables.items new i.made at c.index.result.now table listed c.in_ok-table.ensures;
+    }
+
 pub invariant_of-self-else-index-self : goal.invariant_of-self-else-index-self
 invariant_of-self-else-index-self c =
     let i = c.self.inside in
@@ -147,6 +170,31 @@ invariant_of-self-else-index-self-2 c =
           (omega (arith, c.if-index-self.false));
     }
 
+pub invariant_of-self-else-index-self-3 : goal.invariant_of-self-else-index-self-3
+invariant_of-self-else-index-self-3 c =
+    let i = c.self.inside in
+    let inv = c.self.invariant in
+    let at = c.in-Some.at.now in
+    let order = i.components.order.items in
+    let new = c.drop_unused.new.tables.items in
+    let table = c.in_ok-table.table in
+    let listed : slice_get order i.made ≡ Some at =
+    found_at i.components.order.items c.deref.result.now i.made c.in-Some.at.now c.deref.ensures.value c.in-Some.ensures.lookup.1 c.in-Some.ensures.lookup.3.0 in
+    let dropped = subst (λ (xs : List ℕ). DropsUnused xs (i.made + 1) i.tables.items new) c.deref-4.ensures.value c.drop_unused.ensures in
+    record {
+      read = inv.read;
+      graph = inv.graph;
+      components = inv.components;
+      closing = inv.closing;
+      are_last = inv.are_last;
+      are_kept = used_kept i.database.now order i.last.items i.tables.items new i.made at c.index.result.now table inv.are_kept dropped listed
+          (found_in i.last.items at c.index.result.now c.index.ensures (omega (arith, inv.are_last.as_many, inv.closing.nodes i.made at listed)))
+          (omega (arith, inv.closing.nodes i.made at listed, graph_length i.database.now)) c.in_ok-table.ensures;
+      is_latest = latest_used i.database.now order i.last.items i.tables.items new i.made at c.index.result.now table i.latest listed
+          (found_in i.last.items at c.index.result.now c.index.ensures (omega (arith, inv.are_last.as_many, inv.closing.nodes i.made at listed)))
+          (omega (arith, c.if-index-self.false));
+    }
+
 pub returns-then-index-self-clause-next : goal.returns-then-index-self-clause-next
 returns-then-index-self-clause-next c =
     let i = c.self.inside in
@@ -156,8 +204,9 @@ returns-then-index-self-clause-next c =
     sym listed ∙ ap (λ (s : TablesSeen). slice_get s.order s.made) c.self.view_is in
     let seen = ap (λ (s : TablesSeen). once_made s (Some c.in-Some.at.now)) c.self.view_is in
     elim c.match-self-table.branch [
-      | in-Some-1 w ↦ record { next = next; is = w.self-is ∙ seen }
       | in-None-1 w ↦ record { next = next; is = w.self-is ∙ seen }
+      | in-Some+in-None-1 w ↦ record { next = next; is = w.self-is ∙ seen }
+      | in-Some+in-Some-self-table-2 w ↦ record { next = next; is = w.self-is ∙ seen }
     ]
 
 pub returns-else-index-self-clause-next : goal.returns-else-index-self-clause-next
@@ -169,8 +218,9 @@ returns-else-index-self-clause-next c =
     sym listed ∙ ap (λ (s : TablesSeen). slice_get s.order s.made) c.self.view_is in
     let seen = ap (λ (s : TablesSeen). once_made s (Some c.in-Some.at.now)) c.self.view_is in
     elim c.match-index_mut-table.branch [
-      | in-Some-2 w ↦ record { next = next; is = w.self-is ∙ seen }
       | in-None-2 w ↦ record { next = next; is = w.self-is ∙ seen }
+      | in-Some+in-None-2 w ↦ record { next = next; is = w.self-is ∙ seen }
+      | in-Some+in-Some-index_mut-table-2 w ↦ record { next = next; is = w.self-is ∙ seen }
     ]
 
 pub returns-then-index-self-clause-last : goal.returns-then-index-self-clause-last

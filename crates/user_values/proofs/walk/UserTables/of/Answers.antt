@@ -1,4 +1,4 @@
-use Rattle.std.proofs.Common.{◌≡◌, ℕ, ◌+◌, ◌<◌, ◌≤◌, List, [], map, length, take, Err, ap, subst}
+use Rattle.std.proofs.Common.{◌≡◌, ◌+◌, ◌<◌, ◌≤◌, List, [], map, length, take, Err, ap, subst}
 use Rattle.user_items.specs.declared.reading.UserItems.{UserItems}
 use Rattle.user_items.specs.Reading.{user_reading_of}
 use Rattle.user_values.specs.declared.fault.ValuesError.TheVariants.{TooManyNames}

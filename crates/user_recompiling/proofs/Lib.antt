@@ -1,0 +1,5 @@
+pub mod UserBytes
+pub mod Sources
+pub mod SourceNames
+pub mod EntryLaws
+pub mod Names
