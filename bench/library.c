@@ -1,8 +1,9 @@
 /*
  * `library WHAT COUNT`: does one thing COUNT times, for bench/library.py, which counts
  * instructions. WHAT is the library (libti, ncurses or unibilium), `-` and the thing: setaf, cup,
- * find (the string of a name), get (the string of an index) or read (an entry from its bytes). The
- * entry is that of the file that TERMINFO_FILE names.
+ * find (the string of a name), get (the string of an index), read (an entry from its bytes) or send
+ * (the user-defined Ss by its name, to a function that counts bytes). The entry is that of the file
+ * that TERMINFO_FILE names.
  */
 #include "ti.h"
 
@@ -27,12 +28,37 @@ static bool read_file(const char *path) {
     return true;
 }
 
+static size_t sent;
+
+static size_t count_bytes(const uint8_t *given, size_t given_size, void *context) {
+    (void)given, (void)context;
+    sent += given_size;
+    return given_size;
+}
+
+static int count_byte(int byte) {
+    sent++;
+    return byte;
+}
+
+/* Sends the style of the cursor by the terminal of the entry. */
+static size_t send_with_libti(void) {
+    struct ti_entry *copy = NULL;
+    struct ti_terminal *terminal = NULL;
+    struct ti_output output = { count_bytes, NULL, NULL };
+    if (ti_entry_new(bytes, size, &copy) || ti_terminal_new(copy, 0, &output, &terminal)) return 0;
+    for (int i = 0; i < count; i++) ti_put_named(terminal, "Ss", i % 7);
+    ti_terminal_close(terminal);
+    return sent;
+}
+
 static size_t with_libti(const char *what, struct ti_entry *entry) {
     bool is_cup = !strcmp(what, "cup");
     size_t total = 0;
     struct ti_variables variables = { { 0 } };
     struct ti_parameter params[2] = { ti_number_given(0), ti_number_given(0) };
     struct ti_text text = TI_NOTHING;
+    if (!strcmp(what, "send")) return send_with_libti();
     if (is_cup || !strcmp(what, "setaf")) {
         ti_string_named(entry, what, &text);
         for (int i = 0; i < count; i++) {
@@ -58,6 +84,9 @@ static size_t with_ncurses(const char *what) {
         for (int i = 0; i < count; i++) total += strlen(tiparm(text, i % 256, i % 80));
     } else if (!strcmp(what, "setaf")) {
         for (int i = 0; i < count; i++) total += strlen(tiparm(text, i % 256));
+    } else if (!strcmp(what, "send")) {
+        for (int i = 0; i < count; i++) tputs(tiparm(tigetstr((char *)"Ss"), i % 7), 1, count_byte);
+        total = sent;
     } else {
         for (int i = 0; i < count; i++) {
             const char *found = tigetstr((char *)strnames[i % TI_STRINGS]);

@@ -19,8 +19,8 @@ sys.path.append(os.path.join(os.path.dirname(os.path.dirname(os.path.abspath(__f
 from repository import TOP, entry_file  # noqa: E402
 
 LIBRARY = os.path.join(TOP, "crates", "ti_c", "out", "lib", "libti.a")
-THINGS = ("setaf", "cup", "find", "get", "read")
-LACKING = {"ncurses-get", "ncurses-read", "unibilium-find"}
+THINGS = ("setaf", "cup", "find", "get", "read", "send")
+LACKING = {"ncurses-get", "ncurses-read", "unibilium-find", "unibilium-send"}
 COUNT = 10_000
 
 

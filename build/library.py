@@ -1,7 +1,7 @@
 #!/usr/bin/env python3
 """Makes the C library of the repository: `make library` runs it.
 
-    build/library.py [DIRECTORY]       puts libti.a and libti.so.1 there; crates/ti_c/out/lib, if
+    build/library.py [DIRECTORY]       puts libti.a and libti.so.2 there; crates/ti_c/out/lib, if
                                        none is named
 
 It proves and compiles the crate ti_c, unless nothing that it is made from has changed, and joins
@@ -16,11 +16,12 @@ import sys
 import tempfile
 
 import toolchain
+from border import compiler
 from build import build_if_changed, place_of, tell
 from crates import read_crates
 from repository import TOP
 
-SONAME = "libti.so.1"
+SONAME = "libti.so.2"
 FLAGS = [
     "-std=c99", "-O2", "-fPIC", "-fvisibility=default", "-Wall", "-Wextra", "-Wpedantic",
     "-fstack-protector-strong", "-fstack-clash-protection",
@@ -29,11 +30,6 @@ SHARED = [
     "-shared", f"-Wl,-soname,{SONAME}", f"-Wl,--version-script={TOP}/include/ti.map", "-Wl,-z,defs", "-Wl,-z,text",
     "-Wl,-z,relro", "-Wl,-z,now", "-Wl,-z,noexecstack",
 ]
-
-
-def compiler():
-    """The C compiler."""
-    return os.environ.get("CC") or "cc"
 
 
 def make(archive, directory, flags=(), names=("libti.a", SONAME)):

@@ -40,7 +40,8 @@ def constant(name):
 
 def taken():
     """The words of ti.h that no constant may be."""
-    return set(re.findall(r"\bTI_\w+", text_of("include", "ti.h"))) - {"TI_CUP"}
+    code = re.sub(r"/\*.*?\*/", "", text_of("include", "ti.h"), flags=re.S)
+    return set(re.findall(r"\bTI_\w+", code))
 
 
 def header():

@@ -1,7 +1,8 @@
 """The module for Python as a wheel, which `pip install` takes: a zip archive of the module and of
 what is said of it ("Binary distribution format" of packaging.python.org).
 
-It is of any platform, since it finds the shared library libti.so.1 where the system has it.
+It has the shared library libti.so.2 next to the module, which takes it from there, so it is of the
+platform that the library is built for. `make wheel` builds that first.
 """
 
 import base64
@@ -12,8 +13,12 @@ import time
 import tomllib
 import zipfile
 
+from library import SONAME
 from repository import TOP, text_of
 
+LIBRARY = os.path.join(TOP, "crates", "ti_c", "out", "lib", SONAME)
+# the toolchain compiles for this platform alone
+TAG = "py3-none-linux_x86_64"
 FILES = ("ti/__init__.py", "ti/py.typed")
 LICENCES = ("LICENSE-MIT", "LICENSE-APACHE")
 
@@ -25,7 +30,7 @@ def project():
 
 def wheel_name(about):
     """The name of the archive's file."""
-    return f"{about['name'].replace('-', '_')}-{about['version']}-py3-none-any.whl"
+    return f"{about['name'].replace('-', '_')}-{about['version']}-{TAG}.whl"
 
 
 def metadata(about):
@@ -48,14 +53,16 @@ def record_row(name, content):
     return f"{name},sha256={digest},{len(content)}\n"
 
 
-def wheel(when):
-    """The archive, all of whose files have one time, in seconds."""
+def wheel(when, shared=LIBRARY):
+    """The archive with a shared library, all of whose files have one time, in seconds."""
     about = project()
     place = f"{about['name'].replace('-', '_')}-{about['version']}.dist-info"
     files = {name: text_of("python", *name.split("/")).encode() for name in FILES}
     files |= {f"{place}/{name}": text_of(name).encode() for name in LICENCES}
     files[f"{place}/METADATA"] = metadata(about).encode()
-    files[f"{place}/WHEEL"] = b"Wheel-Version: 1.0\nGenerator: ti\nRoot-Is-Purelib: true\nTag: py3-none-any\n"
+    with open(shared, "rb") as library:
+        files[f"ti/{SONAME}"] = library.read()
+    files[f"{place}/WHEEL"] = f"Wheel-Version: 1.0\nGenerator: ti\nRoot-Is-Purelib: false\nTag: {TAG}\n".encode()
     rows = [record_row(name, content) for name, content in files.items()]
     files[f"{place}/RECORD"] = "".join([*rows, f"{place}/RECORD,,\n"]).encode()
     made = io.BytesIO()

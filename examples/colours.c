@@ -15,15 +15,20 @@ static size_t put(const uint8_t *bytes, size_t size, void *file) {
     return fwrite(bytes, 1, size, (FILE *)file);
 }
 
-/* Sends a string of the terminal with some numbers, if it has the string. */
-static void send(const char *name, const int32_t *numbers, size_t count) {
+/* Sends a string of the terminal with some parameters, if it has the string. */
+static void send(const char *name, const struct ti_parameter *params, size_t count) {
     struct ti_output output = { put, NULL, stdout };
-    ti_send(terminal, &variables, &line, name, numbers, count, 1, &output);
+    ti_send(terminal, &variables, &line, name, params, count, 1, &output);
+}
+
+static void move_to(int32_t row, int32_t column) {
+    struct ti_parameter place[2] = { ti_number_given(row), ti_number_given(column) };
+    send("cup", place, 2);
 }
 
 int main(void) {
-    uint32_t refusal = ti_open(NULL, &terminal);
-    if (refusal) return fprintf(stderr, "colours: %s\n", ti_strerror(refusal)), 1;
+    enum ti_status refusal = ti_open(NULL, &terminal);
+    if (refusal != TI_OK) return fprintf(stderr, "colours: %s\n", ti_strerror(refusal)), 1;
     int64_t colours = ti_number_named(terminal, "colors"); /* negative if there are none */
     if (colours > 256) colours = 256;
     if (colours < 8) {
@@ -31,17 +36,16 @@ int main(void) {
         ti_entry_free(terminal);
         return 1;
     }
-    ti_line(terminal, 38400, &line);
+    ti_line_of(terminal, 38400, &line);
     send("clear", NULL, 0);
     for (int32_t colour = 0; colour < colours; colour++) {
-        int32_t place[2] = { 1 + colour / 16, 2 + 4 * (colour % 16) };
-        send("cup", place, 2);
-        send("setaf", &colour, 1);
+        struct ti_parameter chosen = ti_number_given(colour);
+        move_to(1 + colour / 16, 2 + 4 * (colour % 16));
+        send("setaf", &chosen, 1);
         printf("%03d", (int)colour);
     }
     send("sgr0", NULL, 0);
-    int32_t below[2] = { 18, 0 };
-    send("cup", below, 2);
+    move_to(18, 0);
     ti_entry_free(terminal);
     return 0;
 }

@@ -1,7 +1,8 @@
-"""Writes in colour 200 of the terminal, by libti.so.1: python3 colours.py"""
+"""Writes in colour 200 of the terminal, by libti.so.2: python3 colours.py"""
 
 from ctypes import CDLL, Structure, byref, create_string_buffer
 from ctypes import c_char_p, c_int32, c_int64, c_size_t, c_uint32, c_void_p
+from typing import Optional
 
 
 class Text(Structure):
@@ -22,19 +23,11 @@ class Outcome(Structure):
     _fields_ = [("status", c_uint32), ("size", c_size_t)]
 
 
-Place = c_uint32 * 2  # struct ti_place: the kind and the index
 Variables = c_int32 * 26  # struct ti_variables
 ROOM = 256
 
 
-def index_of(ti, name):
-    """The index of a capability within its kind."""
-    place = Place()
-    ti.ti_capability(name, c_size_t(len(name)), place)
-    return place[1]
-
-
-def opened(ti):
+def opened(ti: CDLL) -> c_void_p:
     """The entry of the terminal that TERM names; the program ends if there is none."""
     entry = c_void_p()
     refusal = ti.ti_open(None, byref(entry))
@@ -43,12 +36,12 @@ def opened(ti):
     return entry
 
 
-def colour(ti, entry, number):
+def colour(ti: CDLL, entry: c_void_p, number: int) -> Optional[bytes]:
     """The bytes that choose a colour, or None if the terminal does not have it."""
     text = Text(b"", 0)
-    if ti.ti_number(entry, index_of(ti, b"colors")) <= number:
+    if ti.ti_number_named(entry, b"colors") <= number:
         return None
-    if ti.ti_string(entry, index_of(ti, b"setaf"), byref(text)) != 1:
+    if ti.ti_string_named(entry, b"setaf", byref(text)) != 1:
         return None
     given, out = Parameter(0, number, Text(b"", 0)), create_string_buffer(ROOM)
     sent = ti.ti_expand(
@@ -57,9 +50,9 @@ def colour(ti, entry, number):
     return None if sent.status else out.raw[: sent.size]
 
 
-library = CDLL("libti.so.1")
+library = CDLL("libti.so.2")
 library.ti_expand.restype = Outcome
-library.ti_number.restype = c_int64
+library.ti_number_named.restype = c_int64
 library.ti_strerror.restype = c_char_p
 terminal = opened(library)
 bytes_sent = colour(library, terminal, 200)

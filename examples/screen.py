@@ -6,16 +6,17 @@ import ti
 
 try:
     entry = ti.Entry.find()
-except ti.NoTerminal as name:
-    raise SystemExit(f"{name}: unknown terminal")
+except ti.NoTerminal as error:
+    raise SystemExit(f"screen.py: {error}")
 out = sys.stdout.buffer
-if "clear" in entry:
-    out.write(entry["clear"].padded())
-if "cup" in entry:
-    out.write(entry["cup"](2, 4))
-if entry.get("colors", 0) >= 8:
-    out.write(entry["setaf"](2))
-out.write(entry.names[-1].encode())
-if "sgr0" in entry:
-    out.write(entry["sgr0"].padded())
+clear, cup, setaf, sgr0 = (entry.string(name) for name in ("clear", "cup", "setaf", "sgr0"))
+if clear is not None:
+    out.write(clear.padded())
+if cup is not None:
+    out.write(cup(2, 4))
+if setaf is not None and (entry.number("colors") or 0) >= 8:
+    out.write(setaf(2))
+out.write(entry.long_name.encode())
+if sgr0 is not None:
+    out.write(sgr0.padded())
 out.write(b"\n")

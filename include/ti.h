@@ -1,14 +1,16 @@
 /*
- * libti: terminfo entries and parameter strings, for programs in C99 and C++17.
+ * libti: terminfo entries and parameter strings, for programs in C99 and C++98 or later.
  *
  * A program finds and reads the entry of its terminal (ti_open), looks up booleans, numbers and
- * strings (ti_capability, ti_flag, ti_number, ti_string), expands a string with its parameters
+ * strings (ti_flag_named, ti_number_named, ti_string_named), expands a string with its parameters
  * (ti_expand) and writes the bytes with their delays (ti_pad, ti_puts). ti_send looks up, expands
- * and writes one string. <ti_names.h> has a constant for each capability. See ti(3).
+ * and writes one string. A terminal that is opened once (ti_terminal_open) has all of this for the
+ * calls ti_put and ti_put_named. ti_entry_change gives an entry in memory other values.
+ * <ti_names.h> has a constant for each capability. See ti(3).
  *
  * The functions of the first part are written in Rattle and proved against their contracts, in
  * crates/ti_c of the sources; the definitions are in crates/ti_c/specs. Those of the last part,
- * "Files and output", are written in C on top of the first part, and are tested but not proved.
+ * from "Files" on, are written in C on top of the first part, and are tested but not proved.
  *
  * The library does not check the following, so callers must ensure it:
  *
@@ -34,28 +36,74 @@
 #include <string.h>
 
 /*
- * The version of this interface, as text and as a number that increases. Functions and structs, and
- * the name of the shared library, change only with the major version.
+ * The version of this interface, as text and as a number that increases. Functions, the numbers of
+ * statuses, the size and the fields of each struct, and the name of the shared library change only
+ * with the major version; a minor version adds functions and statuses.
  */
-#define TI_VERSION "1.0.0"
-#define TI_VERSION_MAJOR 1
+#define TI_VERSION "2.0.0"
+#define TI_VERSION_MAJOR 2
 #define TI_VERSION_MINOR 0
 #define TI_VERSION_PATCH 0
-#define TI_VERSION_NUMBER 10000
+#define TI_VERSION_NUMBER 20000
 
 #ifdef __cplusplus
 extern "C" {
+#define TI_EMPTY_BYTES reinterpret_cast<const uint8_t *>("")
+#else
+#define TI_EMPTY_BYTES (const uint8_t *)""
 #endif
+
+/*
+ * How a call ended. The numbers from 1 to 8 say why bytes are not an entry, in the order of the
+ * checks. ti_strerror has a sentence for each.
+ */
+enum ti_status {
+    TI_OK = 0,
+    TI_SHORT = 1,          /* fewer bytes than a header */
+    TI_MAGIC = 2,          /* the first number belongs to neither format */
+    TI_COUNTS = 3,         /* a size or a count is negative or too large */
+    TI_TRUNCATED = 4,      /* the bytes end before the string table does */
+    TI_BAD_NAMES = 5,      /* no names, or their only NUL is not their last byte; too long to write */
+    TI_BAD_FLAG = 6,       /* a boolean is not 0, 1, 0xFE or 0xFF */
+    TI_BAD_NUMBER = 7,     /* a number is below -2 */
+    TI_BAD_OFFSET = 8,     /* an offset is below -2, or no NUL follows it in the string table */
+    TI_NO_MEMORY = 9,      /* out of memory */
+    TI_NO_TERMINAL = 10,   /* no directory has an entry of the name */
+    TI_READ_FAILED = 11,   /* a file could not be read; errno says why */
+    TI_BAD_EXTENSION = 12, /* the user-defined capabilities after the entry are malformed */
+    TI_BAD_FORMAT = 13,    /* a `%` does not begin a valid code */
+    TI_STACK_FULL = 14,    /* a code pushes onto 20 values */
+    TI_NO_ROOM = 15,       /* the bytes are more than the room */
+    TI_TOO_MUCH = 16,      /* more than 65,536 pad bytes */
+    TI_BAD_NAME = 17,      /* not a valid name of a terminal */
+    TI_ABSENT = 18,        /* the terminal does not have the string */
+    TI_NOT_TAKEN = 19,     /* the caller's function accepted only a part of the bytes */
+    TI_BAD_PARAMETER = 20, /* a number where the string takes a string, or the other way round */
+    TI_TERM_UNSET = 21,    /* the variable TERM is not set */
+    TI_EMPTY_NAME = 22,    /* the name of the terminal, or TERM, is empty */
+    TI_PATH_NAME = 23,     /* the name of the terminal, or TERM, has a slash */
+    TI_UNFINISHED = 24,    /* the bytes may be the front of a longer key */
+    TI_BAD_CAPABILITY = 25, /* no capability can have the name */
+    TI_BAD_VALUE = 26,     /* the capability cannot have the value */
+    TI_TOO_LARGE = 27      /* the entry would have more bytes than its limit */
+};
+
+/* A status, and a number that the call describes. */
+struct ti_outcome {
+    enum ti_status status;
+    size_t size;
+};
 
 /* A string of bytes, not necessarily followed by a NUL. */
 struct ti_text {
     const uint8_t *bytes;
     size_t size;
 };
-#define TI_NOTHING { (const uint8_t *)"", 0 }
+#define TI_NOTHING { TI_EMPTY_BYTES, 0 }
 
 /* ---- capabilities: terminfo(5), "Predefined Capabilities" */
 
+/* The kinds of capabilities. */
 enum { TI_FLAG = 0, TI_NUMBER = 1, TI_STRING = 2 };
 /* The number of capabilities of each kind. */
 enum { TI_FLAGS = 44, TI_NUMBERS = 39, TI_STRINGS = 414 };
@@ -67,10 +115,12 @@ struct ti_place {
 };
 
 /* A place with this kind and index, as the constants of <ti_names.h> are. */
-#ifdef __cplusplus
+#ifndef __cplusplus
+#define TI_PLACE(kind, index) ((struct ti_place){ kind, index })
+#elif __cplusplus >= 201103L
 #define TI_PLACE(kind, index) (ti_place{ kind, index })
 #else
-#define TI_PLACE(kind, index) ((struct ti_place){ kind, index })
+#define TI_PLACE(kind, index) (ti_place_of(kind, index))
 #endif
 
 /*
@@ -123,40 +173,20 @@ struct ti_entry {
     { false, TI_NOTHING, TI_NOTHING, TI_NOTHING, TI_NOTHING, TI_NOTHING, TI_NOTHING }
 
 /*
- * Why bytes are not an entry, in the order of the checks. Only ti_entry_new and ti_open return
- * TI_ENTRY_MEMORY, only ti_open returns TI_NO_TERMINAL and TI_READ_FAILED, and only
- * ti_extension_read returns TI_BAD_EXTENSION.
- */
-enum {
-    TI_SHORT = 1,     /* fewer bytes than a header */
-    TI_MAGIC,         /* the first number belongs to neither format */
-    TI_COUNTS,        /* a size or a count is negative or too large */
-    TI_TRUNCATED,     /* the bytes end before the string table does */
-    TI_BAD_NAMES,     /* no names, or their only NUL is not their last byte */
-    TI_BAD_FLAG,      /* a boolean is not 0, 1, 0xFE or 0xFF */
-    TI_BAD_NUMBER,    /* a number is below -2 */
-    TI_BAD_OFFSET,    /* an offset is below -2, or no NUL follows it in the string table */
-    TI_ENTRY_MEMORY,  /* out of memory */
-    TI_NO_TERMINAL,   /* no terminal has the name */
-    TI_READ_FAILED,   /* a file could not be read; errno says why */
-    TI_BAD_EXTENSION  /* the user-defined capabilities after the entry are malformed */
-};
-
-/*
  * Reads a compiled entry in the legacy storage format or the extended number format, in place, in
- * one pass and without allocating memory. Returns 0; or the first of TI_SHORT to TI_BAD_OFFSET that
- * applies, and *entry is unchanged. Bytes after the string table, which the extended storage format
- * of ncurses has, are ignored: see ti_extension_read. The bytes must stay in place and unchanged as
- * long as the entry is in use.
+ * one pass and without allocating memory. Returns TI_OK; or the first of TI_SHORT to TI_BAD_OFFSET
+ * that applies, and *entry is unchanged. Bytes after the string table, which the extended storage
+ * format of ncurses has, are ignored: see ti_extension_read. The bytes must stay in place and
+ * unchanged as long as the entry is in use.
  */
-uint32_t ti_entry_read(const uint8_t *bytes, size_t size, struct ti_entry *entry);
+enum ti_status ti_entry_read(const uint8_t *bytes, size_t size, struct ti_entry *entry);
 
 /*
- * Reads an entry from a copy of the bytes, which the caller may then release. Returns 0, and *entry
- * must later be passed to ti_entry_free; or, with *entry unchanged, what ti_entry_read returns or
- * TI_ENTRY_MEMORY.
+ * Reads an entry from a copy of the bytes, which the caller may then release. Returns TI_OK, and
+ * *entry must later be passed to ti_entry_free; or, with *entry unchanged, what ti_entry_read
+ * returns or TI_NO_MEMORY.
  */
-uint32_t ti_entry_new(const uint8_t *bytes, size_t size, struct ti_entry **entry);
+enum ti_status ti_entry_new(const uint8_t *bytes, size_t size, struct ti_entry **entry);
 
 /*
  * The following functions use an entry from ti_entry_read, ti_entry_new or ti_open, or
@@ -213,11 +243,11 @@ struct ti_value {
 
 /*
  * Reads the user-defined capabilities of an entry in place, in one pass and without allocating
- * memory. Returns 0, also for an entry that has none; or, with *extension unchanged, what
+ * memory. Returns TI_OK, also for an entry that has none; or, with *extension unchanged, what
  * ti_entry_read returns or TI_BAD_EXTENSION. *extension and its texts are valid as long as the
  * entry is.
  */
-uint32_t ti_extension_read(const struct ti_entry *entry, struct ti_extension *extension);
+enum ti_status ti_extension_read(const struct ti_entry *entry, struct ti_extension *extension);
 
 /* Returns the number of user-defined capabilities. */
 size_t ti_user_defined_count(const struct ti_extension *extension);
@@ -237,6 +267,43 @@ bool ti_user_defined(const struct ti_extension *extension, size_t index, struct 
 bool ti_user_defined_named(const struct ti_extension *extension, const uint8_t *name, size_t size,
                            struct ti_value *value);
 
+/* ---- changed entries */
+
+/*
+ * A change of an entry: the name of a capability of terminfo(5), such as "smcup", or a user-defined
+ * name, which consists of letters, digits and `%&*!`; and the value that it is given. If the value
+ * is not present, what the capability has is taken away, whatever its kind. See ti_string_change.
+ */
+struct ti_change {
+    struct ti_text name;
+    struct ti_value value;
+};
+#define TI_CHANGE_EMPTY { TI_NOTHING, TI_VALUE_EMPTY }
+
+/* Stores the bytes of an entry, which include its user-defined capabilities, in *text. */
+void ti_entry_bytes(const struct ti_entry *entry, struct ti_text *text);
+
+/*
+ * Writes a compiled entry to `out`, which has room for `room` bytes: it has these names, without a
+ * NUL, and what `count` changes leave of an entry and its user-defined capabilities. The last
+ * change of a name decides; what is not named is as before, and what is cancelled is absent. With
+ * TI_ENTRY_EMPTY and TI_EXTENSION_EMPTY it has what the changes say alone. User-defined
+ * capabilities come in the order of ti_user_defined. Returns TI_OK and the number of bytes; or,
+ * with `out` unchanged,
+ *
+ * - TI_BAD_NAMES and 0: the names are empty, have a NUL or more than 127 bytes;
+ * - TI_BAD_CAPABILITY or TI_BAD_VALUE and the index of the first change that cannot be made: no
+ *   capability can have the name; or the value is of another kind than the capability, a number
+ *   over 2,147,483,647 or a string with a NUL;
+ * - TI_TOO_LARGE and 0: the entry would have more than 4,096 bytes, or more than 32,768 if a number
+ *   is over 32,767;
+ * - TI_NO_ROOM and the number of bytes needed; or TI_NO_MEMORY and 0.
+ */
+struct ti_outcome ti_entry_write(const struct ti_entry *entry, const struct ti_extension *extension,
+                                 const uint8_t *names, size_t names_size,
+                                 const struct ti_change *changes, size_t count, uint8_t *out,
+                                 size_t room);
+
 /* ---- parameters: terminfo(5), "Parameterized Strings" */
 
 /* A parameter: a number if `kind` is 0, otherwise a string. */
@@ -250,7 +317,7 @@ struct ti_parameter {
 struct ti_parameters {
     size_t named;    /* the greatest number of a `%p1` to `%p9`; 0 if there is none */
     size_t popped;   /* how many values, at most 9, are popped without having been pushed */
-    bool strings[9]; /* for each parameter, whether it is a string: see ti_parameters */
+    bool strings[9]; /* for each parameter, whether it is a string: see ti_parameters_of */
 };
 #define TI_PARAMETERS_EMPTY { 0, 0, { false } }
 
@@ -258,38 +325,25 @@ struct ti_parameters {
  * Stores which parameters a string takes in *taken. A parameter is a string if a `%s` or `%l` comes
  * after its `%p` and only bytes are written between them. A string of termcap has no `%p` and takes
  * its parameters from the stack: there are `popped` of them if all its parts are expanded in order.
- * Returns false and leaves *taken unchanged if the string is malformed.
+ * ti_expand does not put parameters there, and gives 0 for each; it takes them if the string has
+ * been through ti_named_format. Returns false and leaves *taken unchanged if the string is
+ * malformed.
  */
-bool ti_parameters(const uint8_t *format, size_t format_size, struct ti_parameters *taken);
+bool ti_parameters_of(const uint8_t *format, size_t format_size, struct ti_parameters *taken);
 
 /* The static variables `A` to `Z`, initially 0. They keep their values between expansions. */
 struct ti_variables {
     int32_t values[26];
 };
 
-/* The status of a call that writes bytes, and the meaning of `size`. */
-enum {
-    TI_OK = 0,      /* the number of bytes written */
-    TI_BAD_FORMAT,  /* the index of the first `%` that does not begin a valid code */
-    TI_STACK_FULL,  /* the index of the `%` of a code that pushes onto 20 values */
-    TI_NO_MEMORY,   /* 0: out of memory */
-    TI_NO_ROOM,     /* the number of bytes needed */
-    TI_TOO_MUCH,    /* 0: more than 65,536 pad bytes */
-    TI_BAD_NAME,    /* 0: not a valid name of a terminal */
-    TI_ABSENT,      /* 0: the terminal does not have the string */
-    TI_NOT_TAKEN    /* the number of bytes that were accepted; there were more */
-};
-struct ti_outcome {
-    uint32_t status;
-    size_t size;
-};
-
 /*
  * Expands a string: writes the bytes that the format produces for these parameters to `out`, which
  * has room for `room` bytes. Missing parameters are the number 0, and those after the ninth are
- * ignored. Padding `$<..>` is copied: see ti_pad. Returns TI_OK, TI_BAD_FORMAT, TI_STACK_FULL,
- * TI_NO_MEMORY or TI_NO_ROOM. After all but TI_OK, *variables and `out` are unchanged, so the call
- * can be repeated with enough room.
+ * ignored. Padding `$<..>` is copied: see ti_pad. Returns TI_OK and the number of bytes;
+ * TI_BAD_FORMAT and the index of the first `%` that does not begin a valid code; TI_STACK_FULL and
+ * the index of the `%` of the code that pushes onto 20 values; TI_NO_ROOM and the number of bytes
+ * needed; or TI_NO_MEMORY and 0. After all but TI_OK, *variables and `out` are unchanged, so the
+ * call can be repeated with enough room.
  */
 struct ti_outcome ti_expand(const uint8_t *format, size_t format_size,
                             const struct ti_parameter *params, size_t count,
@@ -308,14 +362,15 @@ struct ti_line {
 #define TI_LINE_EMPTY { 0, 0, false, false, 0 }
 
 /* Stores the line to a terminal with this entry and a rate in bits per second in *line. */
-void ti_line(const struct ti_entry *entry, uint32_t rate, struct ti_line *line);
+void ti_line_of(const struct ti_entry *entry, uint32_t rate, struct ti_line *line);
 
 /*
- * Writes a text that affects `lines` lines of the screen to `out`, which has room for `room` bytes,
- * with each padding `$<..>` replaced by pad bytes. Returns TI_OK; or TI_NO_MEMORY, TI_NO_ROOM or
- * TI_TOO_MUCH, and `out` is unchanged.
+ * Writes a text that affects so many lines of the screen to `out`, which has room for `room` bytes,
+ * with each padding `$<..>` replaced by pad bytes. Returns TI_OK and the number of bytes; or, with
+ * `out` unchanged, TI_NO_ROOM and the number of bytes needed, TI_TOO_MUCH and 0, or TI_NO_MEMORY
+ * and 0.
  */
-struct ti_outcome ti_pad(const uint8_t *text, size_t size, uint32_t lines,
+struct ti_outcome ti_pad(const uint8_t *text, size_t size, uint32_t affected,
                          const struct ti_line *line, uint8_t *out, size_t room);
 
 /* A text split at its first delay `$<..>`. */
@@ -327,21 +382,21 @@ struct ti_delay {
 #define TI_DELAY_EMPTY { TI_NOTHING, TI_NOTHING, 0 }
 
 /*
- * Splits a text that affects `lines` lines of the screen at its first delay and stores the parts,
+ * Splits a text that affects so many lines of the screen at its first delay and stores the parts,
  * which point into the text, in *delay. The time is 0 unless the delay is mandatory, or the
  * terminal does not control the flow and the rate is at least `pad_from`; the pad byte does not
  * matter. Returns false and leaves *delay unchanged if the text has no delay.
  */
-bool ti_first_delay(const uint8_t *text, size_t size, uint32_t lines, const struct ti_line *line,
-                    struct ti_delay *delay);
+bool ti_first_delay(const uint8_t *text, size_t size, uint32_t affected,
+                    const struct ti_line *line, struct ti_delay *delay);
 
 /* ---- where entries are: term(5), "Storage location" */
 
 /*
- * Stores the directory at an index of the search order in *found: the value of TERMINFO, if it is
- * not empty; the parts of TERMINFO_DIRS between colons, if that is set, an empty part meaning
- * /usr/share/terminfo; and /usr/share/terminfo. Returns false and leaves *found unchanged if the
- * index is too large. The text points into an argument or the library.
+ * Stores the directory at an index of the search order of `ti tput` in *found: the value of
+ * TERMINFO, if it is not empty; the parts of TERMINFO_DIRS between colons, if that is set, an empty
+ * part meaning /usr/share/terminfo; and /usr/share/terminfo. Returns false and leaves *found
+ * unchanged if the index is too large. The text points into an argument or the library.
  */
 bool ti_places(const uint8_t *terminfo, size_t terminfo_size, bool dirs_set, const uint8_t *dirs,
                size_t dirs_size, uint32_t index, struct ti_text *found);
@@ -355,41 +410,132 @@ bool ti_system_directories(uint32_t index, struct ti_text *found);
 
 /*
  * Writes the path of the entry with this name below a directory, with a NUL after it, to `out`,
- * which has room for `room` bytes; `size` counts the NUL. Returns TI_OK; or, with `out` unchanged,
- * TI_NO_MEMORY, TI_NO_ROOM or TI_BAD_NAME (the name is empty, `.` or `..`, or has a byte that is
- * not printable, a space, or one of `,/|`).
+ * which has room for `room` bytes. Returns TI_OK and the number of bytes, the NUL among them; or,
+ * with `out` unchanged, TI_NO_ROOM and the number of bytes needed, TI_NO_MEMORY and 0, or
+ * TI_BAD_NAME and 0: the name is empty, `.` or `..`, or has a byte that is not printable, a space,
+ * or one of `,/|`.
  */
 struct ti_outcome ti_path(const uint8_t *dir, size_t dir_size, const uint8_t *name,
                           size_t name_size, uint8_t *out, size_t room);
 
-/* ---- Files and output: in C on top of the functions above, tested but not proved */
+/* ---- Files: from here on in C on top of the functions above, tested but not proved */
 
 /*
- * Finds and reads the entry of a terminal: in the directories of ti_places, with the variables of
- * the environment; then in $HOME/.terminfo; then in those of ti_system_directories. The first
- * directory that has a file with this name counts; one that cannot be searched is skipped. If
- * `name` is NULL, TERM is used. Returns 0, and *entry must later be passed to ti_entry_free; or,
- * with *entry unchanged, what ti_entry_new returns, TI_NO_TERMINAL or TI_READ_FAILED. A file of
- * more than 65,536 bytes is refused, by its first 65,537 bytes or else as TI_COUNTS; anything but a
- * regular file as TI_READ_FAILED. The variables are trusted, so setuid programs must not call it.
+ * Finds and reads the entry of a terminal, as ncurses on Debian does: in the directory TERMINFO of
+ * the environment, if it is not empty; in $HOME/.terminfo; in the parts of TERMINFO_DIRS between
+ * colons, an empty part meaning /etc/terminfo; and in the directories of ti_system_directories.
+ * Below each of them the path is that of ti_path; if no directory has that file, it is looked for
+ * below the first byte in hexadecimal, such as 78/xterm. A file that is not an entry or
+ * cannot be read is skipped, as is a directory that cannot be searched. If `name` is NULL, TERM is
+ * used. Returns TI_OK, and *entry must later be passed to ti_entry_free; or, with *entry unchanged,
+ *
+ * - TI_TERM_UNSET, TI_EMPTY_NAME, TI_PATH_NAME or TI_BAD_NAME, if no entry can have the name;
+ * - if no directory has an entry of the name, the status of the first file that was skipped,
+ *   TI_SHORT to TI_BAD_OFFSET or TI_READ_FAILED; or TI_NO_TERMINAL, if there was none;
+ * - TI_NO_MEMORY.
+ *
+ * A file of more than 65,536 bytes is refused, by its first 65,537 bytes or else as TI_COUNTS;
+ * anything but a regular file as TI_READ_FAILED. TERMINFO is always the name of a directory: an
+ * entry in it, which ncurses reads after `hex:` or `b64:`, is not looked for. In a program with
+ * more rights than its user, the variables TERMINFO, TERMINFO_DIRS and HOME are ignored.
  */
-uint32_t ti_open(const char *name, struct ti_entry **entry);
+enum ti_status ti_open(const char *name, struct ti_entry **entry);
 
-/* Returns an English sentence for a result of ti_open or ti_extension_read; never NULL. */
-const char *ti_strerror(uint32_t answer);
+/*
+ * Does what ti_open does, and stores the path of the file in *path: of the entry, or of the first
+ * file that was skipped if the status is about that. It must later be passed to free. If there is
+ * neither, *path is NULL.
+ */
+enum ti_status ti_open_path(const char *name, struct ti_entry **entry, char **path);
 
-/* Returns the version of the library at run time: TI_VERSION of its header. */
-const char *ti_version(void);
+/*
+ * Finds and reads the entry of a terminal as `ti tput` does, in the directories of ti_places: the
+ * first file of the name counts, whatever it has. If `name` is NULL, TERM is used. Returns what
+ * ti_open returns.
+ */
+enum ti_status ti_open_profile(const char *name, struct ti_entry **entry);
+
+/*
+ * Reads the entry of a terminal below a directory, at the path of ti_path. Returns TI_OK; or, with
+ * *entry unchanged, TI_EMPTY_NAME, TI_PATH_NAME, TI_BAD_NAME, what ti_entry_new returns,
+ * TI_READ_FAILED, or TI_NO_TERMINAL if the directory has no such file or cannot be searched.
+ */
+enum ti_status ti_open_below(const char *directory, const char *name, struct ti_entry **entry);
 
 /* Frees an entry of ti_entry_new or ti_open, and its texts. NULL is a no-op. */
 void ti_entry_free(struct ti_entry *entry);
 
+/* Returns an English sentence for a status; never NULL. */
+const char *ti_strerror(enum ti_status status);
+
+/* Returns the version of the library at run time: TI_VERSION of its header. */
+const char *ti_version(void);
+
+/* ---- Values by a name or a constant */
+
+/* What the following functions return for a place of another kind. */
+enum { TI_WRONG_KIND = -3 };
+
+/* The boolean at a place, as ti_flag returns it; TI_WRONG_KIND. */
+int32_t ti_flag_at(const struct ti_entry *entry, struct ti_place place);
+
+/* The number at a place, as ti_number returns it; TI_WRONG_KIND. */
+int64_t ti_number_at(const struct ti_entry *entry, struct ti_place place);
+
+/* The string at a place, as ti_string returns it; TI_WRONG_KIND, and *found is unchanged. */
+int32_t ti_string_at(const struct ti_entry *entry, struct ti_place place, struct ti_text *found);
+
 /*
- * Passes the bytes that ti_pad writes to `put`, one at a time, until that returns a negative
- * number. Returns TI_OK with the number of bytes passed; or what ti_pad returns, after passing
- * none.
+ * The following functions take a name of a capability of their kind: that of terminfo(5), such as
+ * "cup"; else that of a user-defined capability of the entry, such as "Smulx"; else the variable,
+ * such as "cursor_address"; else the code in termcap, such as "cm".
  */
-struct ti_outcome ti_puts(const uint8_t *text, size_t size, uint32_t lines,
+
+/* The boolean with this name, as ti_flag returns it; -1 if no boolean has the name. */
+int32_t ti_flag_named(const struct ti_entry *entry, const char *name);
+
+/* The number with this name, as ti_number returns it; -2 if no number has the name. */
+int64_t ti_number_named(const struct ti_entry *entry, const char *name);
+
+/* The string with this name, as ti_string returns it; -1 if no string has the name. */
+int32_t ti_string_named(const struct ti_entry *entry, const char *name, struct ti_text *found);
+
+/* ---- Changed entries */
+
+/*
+ * Makes an entry of another one with `count` changes, as ti_entry_write does, with the same names.
+ * Returns TI_OK and 0, and *changed must later be passed to ti_entry_free; or, with *changed
+ * unchanged, TI_BAD_EXTENSION and 0, or what ti_entry_write returns. `changed` may be the pointer
+ * that holds the entry; that still has to be freed. ti_entry_bytes has its bytes.
+ */
+struct ti_outcome ti_entry_change(const struct ti_entry *entry, const struct ti_change *changes,
+                                  size_t count, struct ti_entry **changed);
+
+/* Changes that give a capability a value or take it away. They point to their arguments. */
+struct ti_change ti_flag_change(const char *name);
+struct ti_change ti_number_change(const char *name, uint32_t number);
+struct ti_change ti_string_change(const char *name, const char *string);
+struct ti_change ti_text_change(const char *name, const uint8_t *bytes, size_t size);
+struct ti_change ti_absent_change(const char *name);
+
+/* ---- Output */
+
+/*
+ * Writes the format with which ti_expand takes the parameters of a string to `out`, which has room
+ * for `room` bytes. It is the string itself, unless that takes parameters from the stack alone, as
+ * strings of termcap do: then a `%p` for each comes before it. Returns TI_OK and the number of
+ * bytes; or, with `out` unchanged, TI_NO_ROOM and the number of bytes needed, or TI_BAD_FORMAT and
+ * the index of the first `%` that does not begin a valid code.
+ */
+struct ti_outcome ti_named_format(const uint8_t *format, size_t format_size, uint8_t *out,
+                                  size_t room);
+
+/*
+ * Passes the bytes that ti_pad writes to `put`, one at a time. Returns TI_OK and the number of
+ * bytes; TI_NOT_TAKEN and the number of bytes before that for which `put` returned a negative
+ * number, after which nothing is passed; or what ti_pad returns, after passing none.
+ */
+struct ti_outcome ti_puts(const uint8_t *text, size_t size, uint32_t affected,
                           const struct ti_line *line, int (*put)(int));
 
 /*
@@ -406,22 +552,26 @@ struct ti_output {
 };
 
 /*
- * Sends a text that affects `lines` lines of the screen, with its delays as pad bytes or by `wait`.
- * Returns TI_OK or TI_NOT_TAKEN with the number of bytes accepted; or what ti_pad returns, after
+ * Sends a text that affects so many lines of the screen, with its delays as pad bytes or by `wait`.
+ * Returns TI_OK or TI_NOT_TAKEN and the number of bytes accepted; or what ti_pad returns, after
  * passing none.
  */
-struct ti_outcome ti_write(const uint8_t *text, size_t size, uint32_t lines,
+struct ti_outcome ti_write(const uint8_t *text, size_t size, uint32_t affected,
                            const struct ti_line *line, const struct ti_output *output);
 
 /*
- * Sends a string of the terminal, which may be user-defined, by its name: expands it with `count`
- * numbers and passes it to ti_write. A string without parameters is not expanded if `count` is 0: a
- * `%` in it is a plain byte. Returns what ti_write returns; or what ti_expand returns or TI_ABSENT,
- * after passing nothing. After all but TI_OK and TI_NOT_TAKEN *variables is unchanged.
+ * Sends a string of the terminal by a name that ti_string_named takes: expands it with `count`
+ * parameters and passes it to ti_write. A parameter that is not given is the number 0. A string
+ * without parameters is not expanded if `count` is 0: a `%` in it is a plain byte. Parameters of a
+ * string of termcap are put onto the stack. Returns what ti_write returns; or, after passing
+ * nothing, what ti_expand returns, TI_ABSENT and 0, or TI_BAD_PARAMETER and the number of the
+ * parameter, from 1: it is a number, or not given, where the string takes a string, or it is a
+ * string where a number is taken. After all but TI_OK and TI_NOT_TAKEN *variables is unchanged.
  */
 struct ti_outcome ti_send(const struct ti_entry *entry, struct ti_variables *variables,
-                          const struct ti_line *line, const char *name, const int32_t *numbers,
-                          size_t count, uint32_t lines, const struct ti_output *output);
+                          const struct ti_line *line, const char *name,
+                          const struct ti_parameter *params, size_t count, uint32_t affected,
+                          const struct ti_output *output);
 
 /*
  * Returns the rate in bits per second of a speed of termios(3), such as B9600, which cfgetospeed
@@ -429,74 +579,137 @@ struct ti_outcome ti_send(const struct ti_entry *entry, struct ti_variables *var
  */
 uint32_t ti_rate(uint32_t speed);
 
-/* ---- for C strings */
+/* ---- Terminals */
+
+/*
+ * A terminal that is opened once: its entry with its user-defined capabilities, its variables, the
+ * line to it, and where bytes go. Its size is not part of this interface. Threads may use several
+ * terminals at the same time, and one in turn.
+ */
+struct ti_terminal;
+
+/*
+ * Opens a terminal for a file that is open for writing, such as STDOUT_FILENO: finds its entry as
+ * ti_open does, by its name or TERM, and asks the file for the rate of the line. Returns TI_OK, and
+ * *terminal must later be passed to ti_terminal_close; or, with *terminal unchanged, what ti_open
+ * returns. The file stays open.
+ */
+enum ti_status ti_terminal_open(const char *name, int file, struct ti_terminal **terminal);
+
+/*
+ * Makes a terminal of an entry of ti_entry_new or ti_open, at a rate in bits per second, or 0, from
+ * which bytes go to `output`. Returns TI_OK, and the entry is then freed by ti_terminal_close; or
+ * TI_NO_MEMORY, and *terminal and the entry are unchanged.
+ */
+enum ti_status ti_terminal_new(struct ti_entry *entry, uint32_t rate,
+                               const struct ti_output *output, struct ti_terminal **terminal);
+
+/* Frees a terminal and its entry. NULL is a no-op. */
+void ti_terminal_close(struct ti_terminal *terminal);
+
+/* Returns the entry of a terminal, which is valid until that is closed. */
+const struct ti_entry *ti_terminal_entry(const struct ti_terminal *terminal);
+
+/* Returns the path of the file of the entry; NULL if ti_terminal_new made the terminal. */
+const char *ti_terminal_path(const struct ti_terminal *terminal);
+
+/*
+ * Changes the entry of a terminal, as ti_entry_change does, for all that is sent to it later.
+ * Returns what that returns. The entry of ti_terminal_entry from before, and its texts, are freed;
+ * after all but TI_OK they are as before.
+ */
+struct ti_outcome ti_terminal_change(struct ti_terminal *terminal, const struct ti_change *changes,
+                                     size_t count);
+
+/* The size of a screen, in characters; 0 if it is not known. */
+struct ti_size {
+    uint32_t height;
+    uint32_t width;
+};
+
+/*
+ * Returns the size of the screen: LINES and COLUMNS of the environment, each if it is a decimal
+ * number over 0; else that of the window of the terminal's file; else that of the entry.
+ */
+struct ti_size ti_terminal_size(const struct ti_terminal *terminal);
+
+/*
+ * Sends the string at a place, such as TI_SETAF, to the terminal, as ti_send does, for one line of
+ * the screen. Returns what ti_send returns; TI_ABSENT if the place is of another kind. Bytes are
+ * written at once, so bytes of stdio have to be flushed before. At a delay of a line without a pad
+ * byte or without a rate, it sleeps.
+ */
+struct ti_outcome ti_put_values(struct ti_terminal *terminal, struct ti_place place,
+                                const struct ti_parameter *params, size_t count);
+
+/* Does the same for a name that ti_string_named takes, such as "Smulx" or "cursor_address". */
+struct ti_outcome ti_put_named_values(struct ti_terminal *terminal, const char *name,
+                                      const struct ti_parameter *params, size_t count);
+
+/* The same, with parameters that are numbers; those after the ninth are ignored. */
+struct ti_outcome ti_put_numbers(struct ti_terminal *terminal, struct ti_place place,
+                                 const int32_t *numbers, size_t count);
+struct ti_outcome ti_put_named_numbers(struct ti_terminal *terminal, const char *name,
+                                       const int32_t *numbers, size_t count);
+
+/*
+ * Finds the key that bytes from the terminal begin with: the longest of its strings whose name
+ * begins with a `k`, such as kcuu1 and the user-defined kUP5. Returns TI_OK and the size of the
+ * key's string, and stores its name in *name; TI_ABSENT and 0, with *name unchanged, if no key is
+ * there; or TI_UNFINISHED if a longer key has all of the bytes at its front, with the size and the
+ * name of the key that is there, or 0 and *name unchanged. A program then waits some time for more.
+ */
+struct ti_outcome ti_terminal_key(const struct ti_terminal *terminal, const uint8_t *bytes,
+                                  size_t size, struct ti_text *name);
+
+/* Sends bytes as they are. Returns TI_OK or TI_NOT_TAKEN and the number of bytes accepted. */
+struct ti_outcome ti_put_text(struct ti_terminal *terminal, const uint8_t *bytes, size_t size);
+
+/* ---- Values to pass */
 
 /* The bytes of a C string, without its NUL. */
-static inline struct ti_text ti_text_of(const char *text) {
-    struct ti_text given = { (const uint8_t *)text, strlen(text) };
-    return given;
-}
+struct ti_text ti_text_of(const char *text);
+
+/* A place with this kind and index, for C++98, where TI_PLACE calls it. */
+struct ti_place ti_place_of(uint32_t kind, uint32_t index);
 
 /* A parameter that is a number. */
-static inline struct ti_parameter ti_number_given(int32_t number) {
-    struct ti_parameter given = { 0, number, TI_NOTHING };
-    return given;
-}
+struct ti_parameter ti_number_given(int32_t number);
 
 /* A parameter that is a string. */
-static inline struct ti_parameter ti_text_given(const uint8_t *bytes, size_t size) {
-    struct ti_parameter given = { 1, 0, { bytes, size } };
-    return given;
-}
+struct ti_parameter ti_text_given(const uint8_t *bytes, size_t size);
 
-/* The functions below return this for a place of another kind. */
-enum { TI_WRONG_KIND = -3 };
-
-/* The boolean at a place, as ti_flag returns it; TI_WRONG_KIND. */
-static inline int32_t ti_flag_at(const struct ti_entry *entry, struct ti_place place) {
-    if (place.kind != TI_FLAG) return TI_WRONG_KIND;
-    return ti_flag(entry, place.index);
-}
-
-/* The number at a place, as ti_number returns it; TI_WRONG_KIND. */
-static inline int64_t ti_number_at(const struct ti_entry *entry, struct ti_place place) {
-    if (place.kind != TI_NUMBER) return TI_WRONG_KIND;
-    return ti_number(entry, place.index);
-}
-
-/* The string at a place, as ti_string returns it; TI_WRONG_KIND, and *found is unchanged. */
-static inline int32_t ti_string_at(const struct ti_entry *entry, struct ti_place place,
-                                   struct ti_text *found) {
-    if (place.kind != TI_STRING) return TI_WRONG_KIND;
-    return ti_string(entry, place.index, found);
-}
-
-/* The boolean with this name, as ti_flag returns it; -1 if no boolean has the name. */
-static inline int32_t ti_flag_named(const struct ti_entry *entry, const char *name) {
-    struct ti_text text = ti_text_of(name);
-    struct ti_place place = { 0, 0 };
-    bool is_flag = ti_capability(text.bytes, text.size, &place) && place.kind == TI_FLAG;
-    return is_flag ? ti_flag(entry, place.index) : -1;
-}
-
-/* The number with this name, as ti_number returns it; -2 if no number has the name. */
-static inline int64_t ti_number_named(const struct ti_entry *entry, const char *name) {
-    struct ti_text text = ti_text_of(name);
-    struct ti_place place = { 0, 0 };
-    bool is_number = ti_capability(text.bytes, text.size, &place) && place.kind == TI_NUMBER;
-    return is_number ? ti_number(entry, place.index) : -2;
-}
-
-/* The string with this name, as ti_string returns it; -1 if no string has the name. */
-static inline int32_t ti_string_named(const struct ti_entry *entry, const char *name,
-                                      struct ti_text *found) {
-    struct ti_text text = ti_text_of(name);
-    struct ti_place place = { 0, 0 };
-    bool is_string = ti_capability(text.bytes, text.size, &place) && place.kind == TI_STRING;
-    return is_string ? ti_string(entry, place.index, found) : -1;
-}
+/* A parameter that is a C string. */
+struct ti_parameter ti_string_given(const char *text);
 
 #ifdef __cplusplus
+}
+#endif
+
+/*
+ * ti_put(terminal, TI_SETAF, 2) and ti_put_named(terminal, "Smulx", 3) are ti_put_numbers and
+ * ti_put_named_numbers with the numbers that come after the string, which are evaluated once.
+ * Compilers reject anything but numbers. C++98 does not have them.
+ */
+#ifndef __cplusplus
+#define ti_put(terminal, ...) \
+    ti_put_numbers(terminal, TI_FIRST_(__VA_ARGS__, 0), TI_NUMBERS_(__VA_ARGS__, 0))
+#define ti_put_named(terminal, ...) \
+    ti_put_named_numbers(terminal, TI_FIRST_(__VA_ARGS__, 0), TI_NUMBERS_(__VA_ARGS__, 0))
+#define TI_FIRST_(first, ...) first
+/* a 0 comes after the numbers, so that there is one if there are none */
+#define TI_NUMBERS_(first, ...) \
+    (const int32_t[]){ __VA_ARGS__ }, sizeof((const int32_t[]){ __VA_ARGS__ }) / sizeof(int32_t) - 1
+#elif __cplusplus >= 201103L
+template <typename... Numbers>
+inline ti_outcome ti_put(ti_terminal *terminal, ti_place place, Numbers... numbers) {
+    const int32_t given[] = { numbers..., 0 };
+    return ti_put_numbers(terminal, place, given, sizeof...(numbers));
+}
+template <typename... Numbers>
+inline ti_outcome ti_put_named(ti_terminal *terminal, const char *name, Numbers... numbers) {
+    const int32_t given[] = { numbers..., 0 };
+    return ti_put_named_numbers(terminal, name, given, sizeof...(numbers));
 }
 #endif
 #endif

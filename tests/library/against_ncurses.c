@@ -69,7 +69,7 @@ static bool is_apart(const char *format) {
 /* Compares the parameters that are strings with those that are by the capability's name. */
 static void compare_parameters(const char *name, struct ti_text text) {
     struct ti_parameters taken = TI_PARAMETERS_EMPTY;
-    if (!ti_parameters(text.bytes, text.size, &taken) || taken.named == 0) return;
+    if (!ti_parameters_of(text.bytes, text.size, &taken) || taken.named == 0) return;
     unsigned found = 0, wanted = texts_of(name) & ((1u << taken.named) - 1);
     for (int i = 0; i < 9; i++) found |= (unsigned)taken.strings[i] << i;
     compared++;

@@ -94,7 +94,7 @@ static void compare_entry(const struct ti_entry *entry) {
             struct ti_line line = TI_LINE_EMPTY;
             ospeed = (NCURSES_OSPEED)speeds[speed].code;
             PC = (char)PAD;
-            ti_line(entry, speeds[speed].rate, &line);
+            ti_line_of(entry, speeds[speed].rate, &line);
             line.pad_byte = PAD;
             /* without a screen tputs pads whatever `pb` and `xon` say */
             line.pad_from = 0, line.xon = false;

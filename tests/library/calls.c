@@ -99,13 +99,13 @@ static void other_names(void) {
 
 static uint8_t bytes[8192];
 
-static uint32_t refusal_of(size_t size) {
+static enum ti_status refusal_of(size_t size) {
     /* a block of just that size, so that a read past it is seen */
     uint8_t *block = (uint8_t *)malloc(size ? size : 1);
     struct ti_entry entry = TI_ENTRY_EMPTY, before = TI_ENTRY_EMPTY, *copy = NULL;
     if (!block) abort();
     memcpy(block, bytes, size);
-    uint32_t refusal = ti_entry_read(block, size, &entry);
+    enum ti_status refusal = ti_entry_read(block, size, &entry);
     if (refusal) CHECK(entry.names.size == 0 && entry.bytes.bytes == before.bytes.bytes);
     CHECK(ti_entry_new(block, size, &copy) == refusal && (copy == NULL) == (refusal != 0));
     ti_entry_free(copy);
@@ -114,7 +114,7 @@ static uint32_t refusal_of(size_t size) {
 }
 
 /* The refusal of the entry of these parts with one byte changed. */
-static uint32_t refusal_with(struct parts parts, size_t at, uint8_t byte) {
+static enum ti_status refusal_with(struct parts parts, size_t at, uint8_t byte) {
     size_t size = put_entry(bytes, &parts);
     bytes[at] = byte;
     return refusal_of(size);
@@ -182,7 +182,14 @@ static void values_of(const struct ti_entry *entry) {
     CHECK(ti_flag_named(entry, "am") == 1 && ti_flag_named(entry, "cols") == -1);
     CHECK(ti_number_named(entry, "cols") == 80 && ti_number_named(entry, "am") == -2);
     CHECK(ti_string_named(entry, "cud1", &text) == 1 && is_text(text, "\n", 1));
-    CHECK(ti_string_named(entry, "nosuch", &text) == -1);
+    CHECK(ti_string_named(entry, "nosuch", &text) == -1 && ti_string_named(entry, "", &text) == -1);
+    /* by the variables and the codes of termcap, of the kind that is asked for */
+    CHECK(ti_flag_named(entry, "auto_right_margin") == 1 && ti_flag_named(entry, "auto_left_margin") == 0);
+    CHECK(ti_number_named(entry, "columns") == 80 && ti_number_named(entry, "co") == 80);
+    CHECK(ti_number_named(entry, "li") == -1 && ti_number_named(entry, "cursor_address") == -2);
+    CHECK(ti_string_named(entry, "cursor_down", &text) == 1 && is_text(text, "\n", 1));
+    CHECK(ti_string_named(entry, "bl", &text) == 1 && is_text(text, "\a", 1));
+    CHECK(ti_string_named(entry, "columns", &text) == -1 && is_text(text, "\a", 1));
 }
 
 static void values(void) {
@@ -248,7 +255,7 @@ static bool gives_of(const char *format, int32_t first, int32_t second, const ch
 }
 
 /* Whether a format is refused with this status at this place, and changes nothing. */
-static bool refuses(const char *format, size_t size, uint32_t status, size_t place) {
+static bool refuses(const char *format, size_t size, enum ti_status status, size_t place) {
     struct ti_variables before = variables;
     struct ti_parameter none = ti_number_given(0);
     struct ti_outcome outcome = expand(format, size, &none, 0, sizeof out);
@@ -302,7 +309,7 @@ static void expansion(void) {
 /* Whether a string takes these parameters; `strings` has a bit for each that is a string. */
 static bool takes(const char *format, size_t named, unsigned strings, size_t popped) {
     struct ti_parameters taken = { 77, 77, { false } };
-    if (!ti_parameters((const uint8_t *)format, strlen(format), &taken)) return false;
+    if (!ti_parameters_of((const uint8_t *)format, strlen(format), &taken)) return false;
     unsigned found = 0;
     for (int i = 0; i < 9; i++) found |= (unsigned)taken.strings[i] << i;
     return taken.named == named && found == strings && taken.popped == popped;
@@ -316,8 +323,34 @@ static void parameters(void) {
     CHECK(takes("%i%d;%d", 0, 0, 2) && takes("%{32}%+%c", 0, 0, 1) && takes("%s", 0, 0, 1));
     CHECK(takes("%+%+%+%+%+%+%+%+%+%c", 0, 0, 9));
     struct ti_parameters taken = { 5, 6, { true } }, kept = taken;
-    CHECK(!ti_parameters((const uint8_t *)"%p1%d%", 6, &taken) && !memcmp(&taken, &kept, sizeof kept));
-    CHECK(ti_parameters(NULL, 0, &taken) && taken.named == 0 && taken.popped == 0 && !taken.strings[0]);
+    CHECK(!ti_parameters_of((const uint8_t *)"%p1%d%", 6, &taken) && !memcmp(&taken, &kept, sizeof kept));
+    CHECK(ti_parameters_of(NULL, 0, &taken) && taken.named == 0 && taken.popped == 0 && !taken.strings[0]);
+}
+
+/* Whether a string is this one with its parameters named: without room at first, then with it. */
+static bool names(const char *format, const char *wanted) {
+    const uint8_t *given = (const uint8_t *)format;
+    size_t size = strlen(wanted);
+    clear_out();
+    struct ti_outcome outcome = ti_named_format(given, strlen(format), out, size ? size - 1 : 0);
+    if (outcome.status != (size ? TI_NO_ROOM : TI_OK) || outcome.size != size || !wrote("", 0)) return false;
+    outcome = ti_named_format(given, strlen(format), out, size);
+    return outcome.status == TI_OK && outcome.size == size && wrote(wanted, size);
+}
+
+/* A string of termcap takes its parameters from the stack, the first one from its top. */
+static void named_formats(void) {
+    struct ti_parameter two[2] = { ti_number_given(4), ti_number_given(9) };
+    CHECK(names("", "") && names("plain", "plain") && names("%p1%d%d", "%p1%d%d"));
+    CHECK(names("\033[%d;%dH", "%p2%p1\033[%d;%dH") && gives("%p2%p1\033[%d;%dH", two, 2, "\033[4;9H"));
+    CHECK(names("\033[%i%d;%dH", "%i%p2%p1\033[%i%d;%dH"));
+    CHECK(gives("%i%p2%p1\033[%i%d;%dH", two, 2, "\033[5;10H"));
+    CHECK(names("%%i%d", "%p1%%i%d") && names("%'%'%i%c%d", "%i%p1%'%'%i%c%d"));
+    clear_out();
+    struct ti_outcome outcome = ti_named_format((const uint8_t *)"%d%z", 4, out, sizeof out);
+    CHECK(outcome.status == TI_BAD_FORMAT && outcome.size == 2 && wrote("", 0));
+    outcome = ti_named_format(NULL, 0, NULL, 0);
+    CHECK(outcome.status == TI_OK && outcome.size == 0);
 }
 
 /* ---- padding */
@@ -374,7 +407,7 @@ static struct ti_line line_with(size_t flag, int pad_from, const char *pad_text)
     struct ti_entry entry = TI_ENTRY_EMPTY;
     struct ti_line line = TI_LINE_EMPTY;
     CHECK(ti_entry_read(bytes, put_entry(bytes, &parts), &entry) == 0);
-    ti_line(&entry, 38400, &line);
+    ti_line_of(&entry, 38400, &line);
     CHECK(line.rate == 38400);
     return line;
 }
@@ -514,10 +547,16 @@ static void user_defined(void) {
 /* ---- errors and versions */
 
 static void sentences(void) {
-    for (uint32_t i = 0; i <= TI_BAD_EXTENSION; i++)
-        for (uint32_t j = 0; j < i; j++) CHECK(strcmp(ti_strerror(i), ti_strerror(j)) != 0);
+    enum { COUNT = TI_TOO_LARGE + 1 };
+    for (int i = 0; i < COUNT; i++)
+        for (int j = 0; j < i; j++)
+            CHECK(strcmp(ti_strerror((enum ti_status)i), ti_strerror((enum ti_status)j)) != 0);
+    CHECK(!strcmp(ti_strerror(TI_OK), "Success"));
     CHECK(!strcmp(ti_strerror(TI_NO_TERMINAL), "No terminal has the name"));
-    CHECK(!strcmp(ti_strerror(TI_BAD_EXTENSION + 1), ti_strerror(UINT32_MAX)));
+    CHECK(!strcmp(ti_strerror(TI_NO_ROOM), "The bytes are more than the room for them"));
+    CHECK(!strcmp(ti_strerror(TI_TERM_UNSET), "The variable TERM is not set"));
+    CHECK(!strcmp(ti_strerror((enum ti_status)COUNT), "Unknown status"));
+    CHECK(!strcmp(ti_strerror((enum ti_status)UINT32_MAX), "Unknown status"));
     CHECK(!strcmp(ti_version(), TI_VERSION));
 }
 
@@ -545,7 +584,9 @@ static void output(void) {
     CHECK(outcome.status == TI_OK && outcome.size == 4802 && written_size == 4802);
     CHECK(written[0] == 'a' && written[4800] == '.' && written[4801] == 'b');
     outcome = put_text("a$<5000>b", 100);
-    CHECK(outcome.status == TI_OK && outcome.size == 100);
+    CHECK(outcome.status == TI_NOT_TAKEN && outcome.size == 100 && written_size == 100);
+    outcome = put_text("ab", 0);
+    CHECK(outcome.status == TI_NOT_TAKEN && outcome.size == 0);
     outcome = put_text("a$<99999>$<99999>b", sizeof written);
     CHECK(outcome.status == TI_TOO_MUCH && written_size == 0);
     outcome = put_text("", 0);
@@ -599,6 +640,7 @@ int main(void) {
     values();
     expansion();
     parameters();
+    named_formats();
     padding();
     lines();
     places();

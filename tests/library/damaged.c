@@ -1,7 +1,7 @@
 /*
  * Damaged entries: each byte of an entry set to other values, and the entry cut at each size. Each
  * is read in a block of just its size, and whatever it says is looked at, its user-defined
- * capabilities too. Run it under a sanitizer.
+ * capabilities too; some are changed. Run it under a sanitizer.
  *
  *     damaged FILE..    also damages these compiled entries, which have user-defined capabilities
  */
@@ -22,7 +22,7 @@ static bool look_through(const struct ti_entry *entry) {
     ti_names(entry, &text), look_at(text);
     ti_first_name(entry, &text), look_at(text);
     ti_long_name(entry, &text), look_at(text);
-    ti_line(entry, 9600, &line);
+    ti_line_of(entry, 9600, &line);
     for (uint32_t i = 0; i <= TI_FLAGS; i++) seen += (size_t)ti_flag(entry, i);
     for (uint32_t i = 0; i <= TI_NUMBERS; i++) seen += (size_t)ti_number(entry, i);
     for (uint32_t i = 0; i <= TI_STRINGS; i++) {
@@ -34,10 +34,25 @@ static bool look_through(const struct ti_entry *entry) {
     return true;
 }
 
+/* Changes an entry, if it can be written. What is written has the changes. */
+static void change(const struct ti_entry *entry) {
+    const struct ti_change changes[2] = { ti_string_change("cup", "x"), ti_string_change("Smulx", "y") };
+    struct ti_entry *changed = NULL;
+    struct ti_extension extension = TI_EXTENSION_EMPTY;
+    struct ti_text text = TI_NOTHING;
+    enum ti_status status = ti_entry_change(entry, changes, 2, &changed).status;
+    CHECK(status == TI_OK || status == TI_BAD_NAMES || status == TI_TOO_LARGE);
+    if (status != TI_OK) return;
+    CHECK(ti_extension_read(changed, &extension) == TI_OK);
+    CHECK(ti_string_named(changed, "cup", &text) == 1 && is_text(text, "x", 1));
+    CHECK(ti_string_named(changed, "Smulx", &text) == 1 && is_text(text, "y", 1));
+    ti_entry_free(changed);
+}
+
 /* Looks at each user-defined capability, by index and by name. Gives whether they can be read. */
 static bool look_beyond(const struct ti_entry *entry) {
     struct ti_extension extension = TI_EXTENSION_EMPTY;
-    uint32_t refusal = ti_extension_read(entry, &extension);
+    enum ti_status refusal = ti_extension_read(entry, &extension);
     CHECK(refusal == 0 || refusal == TI_BAD_EXTENSION);
     size_t count = ti_user_defined_count(&extension);
     CHECK(refusal == 0 || count == 0);
@@ -50,6 +65,9 @@ static bool look_beyond(const struct ti_entry *entry) {
         bool is_found = ti_user_defined_named(&extension, name.bytes, name.size, &named);
         CHECK(is_found || !value.is_present);
     }
+    /* one in seven, since that takes longer */
+    static size_t turn;
+    if (refusal == 0 && turn++ % 7 == 0) change(entry);
     return refusal == 0;
 }
 
@@ -59,7 +77,7 @@ static bool looks_through(const uint8_t *bytes, size_t size, bool (*look)(const 
     struct ti_entry entry = TI_ENTRY_EMPTY;
     if (!block) abort();
     memcpy(block, bytes, size);
-    uint32_t refusal = ti_entry_read(block, size, &entry);
+    enum ti_status refusal = ti_entry_read(block, size, &entry);
     CHECK(refusal <= TI_BAD_OFFSET);
     bool is_read = !refusal && look(&entry);
     free(block);

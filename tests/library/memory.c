@@ -39,18 +39,38 @@ typedef bool call(void);
 
 static bool copies(void) {
     struct ti_entry *entry = NULL;
-    uint32_t answer = ti_entry_new(bytes, size, &entry);
-    CHECK(answer == 0 || (answer == TI_ENTRY_MEMORY && !entry));
+    enum ti_status answer = ti_entry_new(bytes, size, &entry);
+    CHECK(answer == 0 || (answer == TI_NO_MEMORY && !entry));
     ti_entry_free(entry);
     return answer != 0;
 }
 
 static bool opens(void) {
     struct ti_entry *entry = NULL;
-    uint32_t answer = ti_open("dumb", &entry);
-    CHECK(answer == 0 || (answer == TI_ENTRY_MEMORY && !entry));
+    enum ti_status answer = ti_open("dumb", &entry);
+    CHECK(answer == 0 || (answer == TI_NO_MEMORY && !entry));
     ti_entry_free(entry);
     return answer != 0;
+}
+
+static bool opens_terminal(void) {
+    struct ti_terminal *terminal = NULL;
+    enum ti_status status = ti_terminal_open("dumb", 1, &terminal);
+    CHECK(status == TI_OK || (status == TI_NO_MEMORY && !terminal));
+    ti_terminal_close(terminal);
+    return status != TI_OK;
+}
+
+static bool opens_otherwise(void) {
+    struct ti_entry *entry = NULL;
+    enum ti_status status = ti_open_profile("dumb", &entry);
+    CHECK(status == TI_OK || (status == TI_NO_MEMORY && !entry));
+    ti_entry_free(entry);
+    if (status != TI_OK) return true;
+    status = ti_open_below(getenv("TERMINFO"), "dumb", &entry);
+    CHECK(status == TI_OK || status == TI_NO_MEMORY);
+    if (status == TI_OK) ti_entry_free(entry);
+    return status != TI_OK;
 }
 
 static bool expands(void) {
@@ -103,7 +123,7 @@ static size_t take(const uint8_t *given, size_t count, void *context) {
 
 /* A string whose bytes are more than what ti_send has room for without memory of its own. */
 static bool sends(void) {
-    static const int32_t numbers[] = { 4, 9 };
+    struct ti_parameter numbers[] = { ti_number_given(4), ti_number_given(9) };
     static uint8_t long_entry[ROOM];
     static char table[8 + 12 * 300];
     static int16_t offsets[1] = { 0 };
@@ -125,6 +145,27 @@ static bool sends(void) {
     return outcome.status != TI_OK;
 }
 
+/* A terminal whose entry is changed: it has what it had if that is refused. */
+static bool changes(void) {
+    const struct ti_output output = { take, NULL, NULL };
+    const struct ti_change given[] = { ti_string_change("cup", "ab"), ti_string_change("XX", "abc"),
+                                       ti_flag_change("AX"), ti_number_change("cols", 70000) };
+    struct ti_entry *own = NULL;
+    struct ti_terminal *terminal = NULL;
+    struct ti_outcome changed = { TI_NO_MEMORY, 0 };
+    if (ti_entry_new(bytes, size, &own) != TI_OK) return true;
+    if (ti_terminal_new(own, 0, &output, &terminal) == TI_OK) {
+        changed = ti_terminal_change(terminal, given, sizeof given / sizeof *given);
+        handed = 0;
+        ti_put_named(terminal, "XX");
+        CHECK(changed.status == TI_OK ? handed == 3 : changed.status == TI_NO_MEMORY && !handed);
+        ti_terminal_close(terminal);
+    } else {
+        ti_entry_free(own);
+    }
+    return changed.status != TI_OK;
+}
+
 /* Makes a call with each of its allocations refused, until none is. Gives how many it has. */
 static long refuse_each(call *made) {
     for (allowed = 0; allowed < MOST; allowed++) {
@@ -141,9 +182,11 @@ int main(void) {
     struct parts parts = dumb();
     size = put_entry(bytes, &parts);
     /* run.py has put the same entry into the directory of TERMINFO */
-    long counts[] = { refuse_each(copies), refuse_each(opens), refuse_each(expands), refuse_each(pads),
-                      refuse_each(finds_paths), refuse_each(puts_bytes), refuse_each(sends) };
-    for (int i = 0; i < 7; i++) {
+    long counts[] = { refuse_each(copies), refuse_each(opens), refuse_each(opens_terminal),
+                      refuse_each(opens_otherwise), refuse_each(expands), refuse_each(pads),
+                      refuse_each(finds_paths), refuse_each(puts_bytes), refuse_each(sends),
+                      refuse_each(changes) };
+    for (size_t i = 0; i < sizeof counts / sizeof *counts; i++) {
         CHECK(counts[i] >= 1);
         printf("%ld allocations refused\n", counts[i]);
     }

@@ -5,15 +5,24 @@
 
 The archive of crates/ti_c is built already, by the gate or by `make library`. The cases:
 
-header        ti.h and ti_names.h are C99 and C++17 without a warning
-symbols       both libraries export what ti.h declares, and nothing else; the shared one with a version
+header        ti.h and ti_names.h compile in C99 to C23 and C++98 to C++23 without a warning, before and
+              after curses.h and term.h; a status of another enum gets a warning
+symbols       both libraries export what ti.h declares, and nothing else; the shared one with a
+              version, as debian/libti2.symbols lists them
 names         ti_names.h follows from the tables of ti_caps, and its constants are the places of the
               names
 calls         every call and every refusal (calls.c), from each library and under sanitizers
 sending       strings sent by name, delays, look-ups by place, rates (sending.c), likewise
+changed       entries that are changed in memory (changed.c), and those of the system compared, byte by
+              byte, with what tic of ncurses makes of their changed sources
+wrapper       ti.hpp compiles in C++17 to C++23 without a warning, and does what it says (wrapper.cpp)
+rust          bindings/rust is compiled by rustc without a warning, and its tests pass
+go            bindings/go is compiled by go and cgo, without a network, and its tests pass
+terminal      a terminal that is opened once (terminal.c), on an entry with user-defined strings too
 memory        each allocation refused in turn (memory.c), also under sanitizers
 damaged       damaged entries (damaged.c), under sanitizers
-open          ti_open finds entries by the environment, and refuses what `ti tput` refuses
+open          ti_open finds what ncurses finds in each environment, and passes over what is damaged;
+              ti_open_profile finds and refuses what `ti tput` does
 tput          a program in C and `ti tput` write the same bytes
 ncurses       every entry of the system, compared with ncurses (against_ncurses.c)
 tputs         its padding, compared with tputs (against_tputs.c)
@@ -22,6 +31,9 @@ page          the example of ti(3) is compiled, and writes what the page says
 commands      the commands of docs/LIBRARY.md work on the installed library
 examples      the programs of README and docs/LIBRARY.md, and those of examples/, in C and Python
 python        the module of python/ti, compared with `curses` on every entry of the system
+garbage       no call of the module touches freed memory, whatever it is given (python_garbage.py)
+wheel         `pip install` of the wheel in a new virtual environment gives a module that runs
+types         mypy --strict accepts the module, the program of docs/LIBRARY.md and those of examples/
 install       `make install-library` puts what a program needs into the directories that it is given
 
 What is not installed is skipped, and said to be. The last line is
@@ -48,6 +60,7 @@ from common import (  # noqa: E402
 )
 import library  # noqa: E402
 import transcript  # noqa: E402
+import wheel  # noqa: E402
 
 ARCHIVE = os.path.join(TOP, "crates", "ti_c", "out", "libti_c.a")
 INCLUDE = os.path.join(TOP, "include")
@@ -96,7 +109,7 @@ class Room:
     def compile(self, source, *words, libraries=(), shared=False):
         """Compiles a source of this directory. Gives the program."""
         name = f"{os.path.basename(source).partition('.')[0]}-{len(os.listdir(self.directory))}"
-        linked = ["-L", self.directory, "-l:libti.so.1", f"-Wl,-rpath,{self.directory}"]
+        linked = ["-L", self.directory, "-l:libti.so.2", f"-Wl,-rpath,{self.directory}"]
         status, said = run([
             self.compiler, "-std=c99", "-D_DEFAULT_SOURCE", "-O1", *WARN, "-I", INCLUDE, *words,
             os.path.join(HERE, source), *(linked if shared else [self.archive(words)]), *libraries,
@@ -120,51 +133,117 @@ def has_header(room, header):
         raise Skipped(f"{header} is not installed")
 
 
+# what a program may have a compiler warn of
+WARN_MORE = ["-Wshadow", "-Wconversion", "-Wcast-qual", "-Wcast-align", "-Wundef", "-Wredundant-decls", "-Wswitch-enum"]
+OF_C = ["-Wstrict-prototypes", "-Wmissing-prototypes", "-Wold-style-definition", "-Wwrite-strings", "-Wc++-compat"]
+OF_CXX = ["-Wold-style-cast", "-Wzero-as-null-pointer-constant", "-Weffc++", "-Wsign-promo", "-Wmissing-declarations"]
+# each compiler, its language, and its standards
+COMPILERS = [
+    ("gcc", "c", ["c99", "c11", "c17", "c2x"], OF_C), ("clang", "c", ["c99", "c11", "c17", "c2x"], OF_C),
+    ("g++", "c++", ["c++98", "c++11", "c++14", "c++17", "c++20", "c++2b"], OF_CXX),
+    ("clang++", "c++", ["c++98", "c++11", "c++14", "c++17", "c++20", "c++2b"], OF_CXX),
+]
+# in C++ each struct is named without its `struct`, in C it cannot be
+USES = """#ifdef __cplusplus
+#define OF(name) name
+#else
+#define OF(name) struct name
+#endif
+#if defined __cplusplus && __cplusplus >= 201103L
+#define NONE nullptr
+#else
+#define NONE NULL
+#endif
+int main(void) {
+    OF(ti_text) text = TI_NOTHING;
+    OF(ti_place) place = TI_CUP;
+    OF(ti_entry) entry = TI_ENTRY_EMPTY;
+    OF(ti_extension) extension = TI_EXTENSION_EMPTY;
+    OF(ti_value) value = TI_VALUE_EMPTY;
+    OF(ti_parameter) parameter = ti_number_given(2);
+    OF(ti_parameters) taken = TI_PARAMETERS_EMPTY;
+    OF(ti_variables) variables = { { 0 } };
+    OF(ti_line) line = TI_LINE_EMPTY;
+    OF(ti_delay) delay = TI_DELAY_EMPTY;
+    OF(ti_output) output = { NONE, NONE, NONE };
+    OF(ti_change) change = TI_CHANGE_EMPTY;
+    OF(ti_terminal) *terminal = NONE;
+    if (ti_terminal_change(terminal, &change, 1).status != TI_OK) return 1;
+    if (ti_terminal_open("xterm", 1, &terminal) != TI_OK) return 1;
+    OF(ti_size) size = ti_terminal_size(terminal);
+#if !defined __cplusplus || __cplusplus >= 201103L
+    if (ti_put(terminal, TI_CLEAR).status != TI_OK || ti_put(terminal, TI_CUP, 1, 2).status != TI_OK) return 1;
+    if (ti_put_named(terminal, "Smulx", 3).status != TI_OK || ti_put_named(terminal, "sgr0").status != TI_OK) return 1;
+#endif
+    OF(ti_outcome) sent = ti_send(&entry, &variables, &line, "cup", &parameter, 1, 1, &output);
+    enum ti_status status = ti_extension_read(&entry, &extension);
+    bool is = ti_parameters_of(text.bytes, text.size, &taken) && value.is_present && delay.tenths;
+    is = is || size.width || status != TI_OK || sent.status == TI_OK;
+    return is || place.kind != TI_STRING || TI_VERSION_MAJOR != 2;
+}
+"""
+OURS = '#include "ti.h"\n#include "ti_names.h"\n#include "ti.h"\n#include "ti_names.h"\n'
+THEIRS = "#include <curses.h>\n#include <term.h>\n"
+
+
+def syntax(compiler, language, standard, warnings, source):
+    """What a compiler says of a source."""
+    words = [compiler, "-x", language, f"-std={standard}", *WARN, *warnings, "-I", INCLUDE, "-fsyntax-only", source]
+    status, said = run(words)
+    return said.splitlines()[:5] if status or said else []
+
+
 def check_header(room):
-    faults = []
-    source = room.path("uses.c")
-    with open(source, "w", encoding="utf-8") as file:
-        file.write(
-            '#include "ti.h"\n#include "ti_names.h"\n#include "ti.h"\n#include "ti_names.h"\n'
-            "int main(void) { return TI_VERSION_MAJOR != 1 || TI_CUP.kind != TI_STRING; }\n"
-        )
-    compilers = [("gcc", "g++"), ("clang", "clang++")]
-    for pair in compilers:
-        for name, words in zip(pair, (["-std=c99", "-x", "c"], ["-std=c++17", "-x", "c++"])):
-            if not shutil.which(name):
-                print(f"    not tried with {name}, which is not installed")
-            else:
-                status, said = run([name, *words, *WARN, "-I", INCLUDE, "-fsyntax-only", source])
-                status2, said2 = run([name, *words, *WARN, "-I", INCLUDE, "-fsyntax-only", f"{INCLUDE}/ti.c"])
-                faults += said.splitlines() + said2.splitlines() if status or status2 else []
+    sources = [room.write("uses.c", OURS + USES)]
+    if run([room.compiler, "-E", "-x", "c", "-"], input=THEIRS.encode())[0]:
+        print("    not tried with curses.h and term.h, which are not installed")
+    else:
+        sources += [room.write("uses-after.c", THEIRS + OURS + USES), room.write("uses-before.c", OURS + THEIRS + USES)]
+    faults, tried = [], 0
+    for compiler, language, standards, warnings in COMPILERS:
+        if not shutil.which(compiler):
+            print(f"    not tried with {compiler}, which is not installed")
+            continue
+        for standard in standards:
+            for source in sources:
+                tried += 1
+                said = syntax(compiler, language, standard, [*WARN_MORE, *warnings], source)
+                faults += [f"{compiler} {standard}: {line}" for line in said]
+            faults += syntax(compiler, language, standard, [], f"{INCLUDE}/ti.c")
+    other = 'enum other { ANOTHER = 1 };\nint main(void) { return ti_strerror(TI_OK) && TI_SHORT == ANOTHER; }\n'
+    if not syntax(room.compiler, "c", "c99", [], room.write("other.c", OURS + other)):
+        faults.append("a status compared with another enum gets no warning")
+    print(f"    {tried} programs")
     return faults
 
 
 def declared():
-    """The functions that ti.h declares and does not define itself."""
-    text = re.sub(r"/\*.*?\*/", "", text_of("include", "ti.h"), flags=re.S)
-    text = re.sub(r"static inline.*?\n}", "", text, flags=re.S)
+    """The functions that ti.h declares."""
+    text = re.sub(r"/\*.*?\*/|^#[^\n]*", "", text_of("include", "ti.h"), flags=re.S | re.M)
     return sorted(set(re.findall(r"\b(ti_\w+)\([^;{}]*\);", text)))
 
 
-def defined():
-    """The functions that ti.h defines itself."""
-    return re.findall(r"^static inline .*?\b(ti_\w+)\(", text_of("include", "ti.h"), re.M)
+def called():
+    """The functions and the macros that a program calls."""
+    return sorted({*declared(), *re.findall(r"^#define (ti_\w+)\(", text_of("include", "ti.h"), re.M)})
 
 
 def check_symbols(room):
     wanted, faults = declared(), []
-    for option, name in (("-g", "libti.a"), ("-D", "libti.so.1")):
+    for option, name in (("-g", "libti.a"), ("-D", "libti.so.2")):
         _, said = run(["nm", option, "--defined-only", room.path(name)])
         # the name of a version is there too, as a number
         found = sorted(line.split()[2] for line in said.splitlines() if re.search(" [^A] ", line))
-        ending = "@@LIBTI_1" if name == "libti.so.1" else ""
+        ending = "@@LIBTI_2" if name == "libti.so.2" else ""
         if found != [f"{symbol}{ending}" for symbol in wanted]:
             faults.append(f"{name}: {found}")
-    _, said = run(["readelf", "-d", room.path("libti.so.1")])
+    listed = re.findall(r"^ (ti_\w+)@LIBTI_2 ", text_of("debian", "libti2.symbols"), re.M)
+    if listed != wanted:
+        faults.append(f"debian/libti2.symbols: {set(listed) ^ set(wanted)}")
+    _, said = run(["readelf", "-d", room.path("libti.so.2")])
     needed = re.findall(r"NEEDED.*\[(.*)\]", said)
-    if needed != ["libc.so.6"] or "[libti.so.1]" not in said or "TEXTREL" in said or "BIND_NOW" not in said:
-        faults.append(f"libti.so.1: {said}")
+    if needed != ["libc.so.6"] or "[libti.so.2]" not in said or "TEXTREL" in said or "BIND_NOW" not in said:
+        faults.append(f"libti.so.2: {said}")
     return faults
 
 
@@ -225,6 +304,132 @@ def clean_environment(**more):
     return {**kept, **more}
 
 
+def check_terminal(room):
+    directory, _ = dumb_entry(room)
+    programs = [room.compile("terminal.c"), room.compile("terminal.c", *SANITIZE)]
+    environment = clean_environment(TERMINFO=directory, HOME="")
+    faults = [fault for program in programs for fault in room.faults([program], env=environment)]
+    # its entry has Smulx, Ms and parameters
+    if not entry_file("tmux-256color"):
+        print("    not tried with tmux-256color, which the system does not have")
+        return faults
+    environment = clean_environment(TERMINFO_DIRS=":".join(ENTRY_DIRECTORIES), HOME="")
+    for program in programs:
+        faults += room.faults([program, "tmux-256color"], env=environment)
+    return faults
+
+
+# changes of an entry, as words of changed.c and as items of a source, in which a `@` takes away
+CHANGES = [
+    ("S:setaf:\033[3%p1%dm", "setaf=\\E[3%p1%dm"), ("S:Smulx:\033[4:%p1%dm", "Smulx=\\E[4:%p1%dm"),
+    ("S:AX2:", "AX2="), ("S:cup:$<5>%%", "cup=$<5>%%"), ("N:cols:132", "cols#132"), ("N:U8:1", "U8#1"), ("N:pairs:32767", "pairs#32767"),
+    ("F:Tc", "Tc"), ("F:hs", "hs"), ("A:smcup", "smcup@"), ("A:bce", "bce@"), ("A:it", "it@"), ("A:XM", "XM@"), ("A:nosuch", "nosuch@"),
+]
+WIDER = [*CHANGES, ("N:colors:16777216", "colors#0x1000000")]
+
+
+def changed_source(path, items):
+    """The source of an entry, as infocmp of ncurses lists it, with changes."""
+    status, said = run(["infocmp", "-1", "-x", "-A", os.path.dirname(os.path.dirname(path)), os.path.basename(path)])
+    if status:
+        raise AssertionError(said)
+    names, *rest = [line for line in said.splitlines() if not line.startswith("#")]
+    named = {re.match(r"\w+", item)[0] for item in items}
+    kept = [line for line in rest if re.match(r"\s*(\w+)", line)[1] not in named]
+    return "\n".join([names, *kept, *(f"\t{item}," for item in items if not item.endswith("@")), ""])
+
+
+def changed_faults(room, program, path, changes):
+    """Whether a changed entry has the bytes that tic of ncurses gives its changed source."""
+    directory = room.path(f"changed-{len(os.listdir(room.directory))}")
+    source = room.write("changed.ti", changed_source(path, [item for _, item in changes]))
+    status, said = run(["tic", "-x", "-o", directory, source])
+    made = subprocess.run([program, path, *(word for word, _ in changes)], stdout=subprocess.PIPE, check=False)
+    files = files_below(directory) if os.path.isdir(directory) else []
+    if status or not files:
+        return [f"tic refuses the source of {path}: {said}"]
+    with open(os.path.join(directory, files[0]), "rb") as file:
+        wanted = file.read()
+    return [] if made.stdout == wanted else [f"{path}: status {made.returncode}, {made.stdout!r}, not {wanted!r}"]
+
+
+def check_changed(room):
+    faults = check_all_ways(room, "changed.c")
+    if not shutil.which("tic") or not shutil.which("infocmp"):
+        print("    not compared with ncurses, whose tic and infocmp are not installed")
+        return faults
+    program, tried = room.compile("changed.c", *SANITIZE), 0
+    for name in (*KNOWN_ENTRIES, "vt100", "linux"):
+        path = entry_file(name)
+        for changes in (CHANGES, WIDER) if path else ():
+            tried += 1
+            faults += changed_faults(room, program, path, changes)
+    print(f"    {tried} changed entries compared with ncurses")
+    return faults
+
+
+def check_wrapper(room):
+    if not entry_file("tmux-256color"):
+        raise Skipped("the system has no entry of tmux-256color")
+    environment = clean_environment(TERMINFO_DIRS=":".join(ENTRY_DIRECTORIES))
+    source, faults = os.path.join(HERE, "wrapper.cpp"), []
+    for compiler, language, standards, warnings in COMPILERS:
+        for standard in ("c++17", "c++20", "c++2b") if language == "c++" and shutil.which(compiler) else ():
+            faults += syntax(compiler, language, standard, [*WARN_MORE, *warnings], source)
+        if language == "c++" and shutil.which(compiler):
+            program = room.path(f"wrapper-{compiler}")
+            words = [compiler, "-std=c++17", *SANITIZE, "-I", INCLUDE, source, room.archive(SANITIZE), "-o", program]
+            status, said = run(words)
+            faults += said.splitlines() if status else room.faults([program], env=environment)
+            page = re.search(r"^```cpp\n(.*?)^```", text_of("docs", "LIBRARY.md"), re.S | re.M)[1]
+            faults += syntax(compiler, language, "c++17", [], room.write("page.cpp", page))
+    return faults
+
+
+def check_rust(room):
+    if not shutil.which("rustc"):
+        raise Skipped("rustc is not installed")
+    if not entry_file("tmux-256color"):
+        raise Skipped("the system has no entry of tmux-256color")
+    directory = room.path("rust")
+    os.makedirs(directory, exist_ok=True)
+    # the name that the linker looks for
+    shutil.copy(room.path("libti.so.2"), f"{directory}/libti.so")
+    source, made = os.path.join(TOP, "bindings", "rust"), f"{directory}/libti_rust.rlib"
+    words = ["rustc", "--edition", "2021", "-D", "warnings", "-L", directory]
+    status, said = run([*words, "--crate-type", "rlib", "--crate-name", "ti", f"{source}/src/lib.rs", "-o", made])
+    if status or said:
+        return said.splitlines()
+    program = f"{directory}/terminal"
+    status, said = run([*words, "--test", f"{source}/tests/terminal.rs", "--extern", f"ti={made}", "-o", program])
+    if status or said:
+        return said.splitlines()
+    places = ":".join(ENTRY_DIRECTORIES)
+    return room.faults([program], env=clean_environment(TERMINFO_DIRS=places, LD_LIBRARY_PATH=room.directory))
+
+
+def check_go(room):
+    if not shutil.which("go"):
+        raise Skipped("go is not installed")
+    if not entry_file("tmux-256color"):
+        raise Skipped("the system has no entry of tmux-256color")
+    source, libraries = room.path("go"), room.path("go-library")
+    shutil.copytree(os.path.join(TOP, "bindings", "go"), source)
+    os.makedirs(libraries)
+    shutil.copy(room.path("libti.so.2"), f"{libraries}/libti.so")
+    environment = clean_environment(
+        CGO_CFLAGS=f"-I{INCLUDE}", CGO_LDFLAGS=f"-L{libraries}", LD_LIBRARY_PATH=room.directory, CGO_ENABLED="1",
+        GOPROXY="off", GOFLAGS="-mod=mod", GOCACHE=room.path("go-cache"), GOPATH=room.path("go-path"),
+        TERMINFO_DIRS=":".join(ENTRY_DIRECTORIES),
+    )
+    faults = []
+    for words in (["go", "vet", "./..."], ["go", "test", "./..."]):
+        status, said = run(words, cwd=source, env=environment)
+        faults += said.splitlines() if status else []
+    _, said = run(["gofmt", "-l", "."], cwd=source) if shutil.which("gofmt") else (0, "")
+    return faults + [f"not as gofmt lays it out: {line}" for line in said.splitlines()]
+
+
 def check_memory(room):
     directory, _ = dumb_entry(room)
     wraps = [f"-Wl,--wrap={name}" for name in ("malloc", "realloc", "free")]
@@ -262,13 +467,13 @@ def check_damaged(room):
     return room.faults([room.compile("damaged.c", *SANITIZE), *extended_entries(5)])
 
 
-# What `ti tput` says on standard error of each refusal, and the answer of ti_open.
+# What `ti tput` says on standard error of each refusal, and the status of ti_open_profile.
 REFUSALS = ["Short", "Magic", "Counts", "Truncated", "BadNames", "BadFlag", "BadNumber", "BadOffset"]
+NO_TERMINAL, READ_FAILED, BAD_NAME, TERM_UNSET, EMPTY_NAME, PATH_NAME = 10, 11, 17, 21, 22, 23
 
 
 def files_to_open(entry):
-    """What is at the path of an entry (bytes, a directory, a pipe), by name, and ti_open's
-    answer."""
+    """What is at the path of an entry (bytes, a directory, a pipe), by name, and its status."""
     flags = 12 + len(b"dumb|tty|80-column dumb tty\0")
     put = lambda at, byte: entry[:at] + bytes([byte]) + entry[at + 1:]
     return {
@@ -277,60 +482,150 @@ def files_to_open(entry):
         "truncated": (entry[:-1], 4), "names": (put(14, 0), 5), "flag": (put(flags, 9), 6),
         "number": (put(flags + 3, 0x80), 7), "offset": (put(flags + 4, 0xF0), 8),
         "too-long": (entry + b"x" * (65537 - len(entry)), 3),
-        "too-long-and-bad": (put(flags, 9) + b"x" * 70000, 6), "directory": (os.mkdir, 11),
-        "pipe": (os.mkfifo, 11),
+        "too-long-and-bad": (put(flags, 9) + b"x" * 70000, 6), "directory": (os.mkdir, READ_FAILED),
+        "pipe": (os.mkfifo, READ_FAILED),
     }
 
 
-def check_open(room):
-    """Also whether `ti tput` refuses what ti_open refuses, if the program is built."""
-    directory, entry = dumb_entry(room)
-    program = room.compile("open.c", *SANITIZE)
-    faults, tried = [], 0
-    environment = clean_environment(TERMINFO=directory)
+def put_file(directory, name, content):
+    """Puts a file where an entry of the name is below a directory. Gives its path."""
+    path = os.path.join(directory, name[0], name)
+    os.makedirs(os.path.dirname(path), exist_ok=True)
+    if callable(content):
+        content(path)
+    else:
+        with open(path, "wb") as file:
+            file.write(content)
+    return path
 
-    def expect(name, wanted, **variables):
-        nonlocal tried
-        tried += 1
-        used = clean_environment(**{"TERMINFO": directory, **variables})
-        status, said = run([program, *name], env=used)
-        if status or said.split("\n")[0] != str(wanted):
-            faults.append(f"{name}, {variables}: {said!r}, not {wanted}")
 
+def opened(program, words, **variables):
+    """The status, the description and the path that a program prints of an entry that it opens."""
+    status, said = run([program, *words], env=clean_environment(**variables))
+    number, description, path = (said.split("\n") + [""] * 3)[:3]
+    return (int(number) if status == 0 and number.isdigit() else said), description, path
+
+
+def profile_faults(program, directory, entry):
+    """Whether ti_open_profile finds and refuses what `ti tput` does, and ti_open the same files."""
     for name, (content, wanted) in files_to_open(entry).items():
-        path = os.path.join(directory, name[0], name)
-        os.makedirs(os.path.dirname(path), exist_ok=True)
-        if callable(content):
-            content(path)
-        else:
-            with open(path, "wb") as file:
-                file.write(content)
-        expect([name], wanted)
+        path = put_file(directory, name, content)
+        here = {"TERMINFO": directory, "HOME": ""}
+        found = opened(program, ["profile", name], **here)
+        if found[0] != wanted:
+            yield f"ti_open_profile of {name}: {found}, not {wanted}"
+        found = opened(program, [name], **here)
+        if found[0] != wanted or found[2] != path:
+            yield f"ti_open of {name}: {found}, not {wanted}"
         if os.access(PROGRAM, os.X_OK):
-            status, said = run([PROGRAM, "tput", "-T", name, "cols"], env=environment)
-            refused = next((at + 1 for at, word in enumerate(REFUSALS) if word in said), 11)
+            status, said = run([PROGRAM, "tput", "-T", name, "cols"], env=clean_environment(TERMINFO=directory))
+            refused = next((at + 1 for at, word in enumerate(REFUSALS) if word in said), READ_FAILED)
             if (refused if status else 0) != wanted:
-                faults.append(f"ti tput -T {name}: {status}, {said!r}, and ti_open {wanted}")
-    for name in ("no-such", "", ".", "..", "a/b", "a b", "\u00e9"):
-        expect([name], 10)
-    expect(["dumb"], 0, TERMINFO="", TERMINFO_DIRS=f"/no-such:{directory}")
-    expect(["dumb"], 0, TERMINFO="/no-such", TERMINFO_DIRS=f"::{directory}::")
-    expect(["good"], 10, TERMINFO="/no-such", TERMINFO_DIRS=f"{directory}/d")
-    expect([], 0, TERM="dumb")
-    expect([], 10)
-    expect([], 10, TERM="")
-    # after the places of the profile comes the directory of the user
-    os.makedirs(room.path("home"), exist_ok=True)
-    os.symlink(directory, room.path("home/.terminfo"))
-    expect(["good"], 0, TERMINFO="/no-such", HOME=room.path("home"))
-    expect(["good"], 10, TERMINFO="/no-such", HOME=room.path("no-home"))
-    expect(["good"], 10, TERMINFO="/no-such", HOME="")
-    # the first directory with a file of the name decides
-    os.makedirs(room.path("first/d"), exist_ok=True)
-    with open(room.path("first/d/dumb"), "wb") as file:
-        file.write(b"no entry")
-    expect(["dumb"], 1, TERMINFO=room.path("first"), TERMINFO_DIRS=directory)
-    print(f"    {tried} tried")
+                yield f"ti tput -T {name}: {status}, {said!r}, and ti_open_profile {wanted}"
+    system = {"TERMINFO": "/no-such", "TERMINFO_DIRS": f"::{directory}::"}
+    if opened(program, ["profile", "good"], **system)[0] != 0:
+        yield "ti_open_profile does not find an entry by TERMINFO_DIRS"
+
+
+def name_faults(program, below, directory):
+    """Whether each name that no entry can have gets a status of its own."""
+    names = {"no-such": NO_TERMINAL, "": EMPTY_NAME, ".": BAD_NAME, "..": BAD_NAME, "a b": BAD_NAME, "\u00e9": BAD_NAME,
+             "a/b": PATH_NAME, "/etc/passwd": PATH_NAME}
+    for name, wanted in names.items():
+        for words, variables in (([name], {}), (["profile", name], {}), ([], {"TERM": name})):
+            found = opened(program, words, TERMINFO=directory, **variables)
+            if found != (wanted, "", ""):
+                yield f"{words}, {variables}: {found}, not {wanted}"
+        found = opened(below, [directory, name])[0]
+        if found != wanted:
+            yield f"ti_open_below of {name!r}: {found}, not {wanted}"
+    for words in ([], ["profile"]):
+        if opened(program, words, TERMINFO=directory)[0] != TERM_UNSET:
+            yield "TERM that is not set has another status"
+    for place, name, wanted in ((directory, "good", 0), (directory, "flag", 6), ("/no-such", "good", NO_TERMINAL)):
+        if opened(below, [place, name])[0] != wanted:
+            yield f"ti_open_below of {place}, {name} is not {wanted}"
+
+
+# what may be at the path of an entry below a directory, and whether ncurses takes it
+STATES = ["good", "damaged", "absent", "no directory"]
+
+
+def environments(room, entry):
+    """Environments with directories of each state in TERMINFO, HOME and TERMINFO_DIRS."""
+    places = {}
+    for state in STATES:
+        for place in ("own", "home/.terminfo", "first", "second"):
+            directory = room.path(f"search/{state.replace(' ', '-')}/{place}")
+            os.makedirs(os.path.dirname(directory), exist_ok=True)
+            places[state, place] = directory
+            described = entry.replace(b"80-column dumb tty", f"{place[:5]:18}".encode())
+            if state in ("good", "damaged"):
+                put_file(directory, "probe", described if state == "good" else described[:-1])
+            elif state == "absent":
+                os.makedirs(directory)
+            else:
+                # a file in the place of a directory cannot be searched, even by root
+                with open(directory, "wb"):
+                    pass
+    for own, home, first, second in itertools.product([*STATES, None], [*STATES, None], STATES, STATES):
+        given = {}
+        if own:
+            given["TERMINFO"] = places[own, "own"]
+        given["HOME"] = os.path.dirname(places[home, "home/.terminfo"]) if home else ""
+        given["TERMINFO_DIRS"] = f"{places[first, 'first']}::{places[second, 'second']}"
+        yield given
+
+
+def order_faults(program, room, entry):
+    """Whether ti_open finds the entry that ncurses's tput finds, in each environment."""
+    tried = 0
+    for given in environments(room, entry):
+        tried += 1
+        status, said = run(["tput", "-T", "probe", "longname"], env=clean_environment(**given))
+        found = opened(program, ["probe"], **given)
+        if (found[1] if found[0] == 0 else "") != (said if status == 0 else ""):
+            yield f"{given}: ti_open {found}, tput {status}, {said!r}"
+    print(f"    {tried} environments compared with ncurses")
+
+
+def search_faults(program, room, entry):
+    """What of the search ncurses does not show: status and path, long variables, hexadecimal."""
+    good, bad = room.path("search/good"), room.path("search/damaged")
+    tried = [
+        # the status and the path of the first file that was passed over, if there is no entry
+        ({"TERMINFO": f"{bad}/own", "HOME": bad}, (4, "", f"{bad}/own/p/probe")),
+        ({"TERMINFO": "/no-such", "HOME": f"{bad}/home"}, (4, "", f"{bad}/home/.terminfo/p/probe")),
+        ({"TERMINFO": f"{bad}/own", "TERMINFO_DIRS": f"{good}/first"}, (0, f"{'first':18}", f"{good}/first/p/probe")),
+        ({"TERMINFO": "/no-such", "HOME": "/no-such"}, (NO_TERMINAL, "", "")),
+        # a TERMINFO that is longer than any path
+        ({"TERMINFO": "/x" * 9000, "TERMINFO_DIRS": f"{good}/first"}, (0, f"{'first':18}", f"{good}/first/p/probe")),
+        ({"TERMINFO": "", "HOME": "", "TERMINFO_DIRS": ""}, (NO_TERMINAL, "", "")),
+    ]
+    for given, wanted in tried:
+        found = opened(program, ["probe"], **{"HOME": "", **given})
+        if found != wanted:
+            yield f"{given}: {found}, not {wanted}"
+    os.makedirs(room.path("hexadecimal/68"))
+    with open(room.path("hexadecimal/68/hex"), "wb") as file:
+        file.write(entry)
+    found = opened(program, ["hex"], TERMINFO=room.path("hexadecimal"))
+    if found != (0, "80-column dumb tty", room.path("hexadecimal/68/hex")):
+        yield f"an entry by its first byte in hexadecimal: {found}"
+
+
+def check_open(room):
+    directory, entry = dumb_entry(room)
+    program, below = room.compile("open.c", *SANITIZE), room.compile("below.c", *SANITIZE)
+    faults = list(profile_faults(program, directory, entry))
+    faults += name_faults(program, below, directory)
+    if shutil.which("tput"):
+        faults += order_faults(program, room, entry)
+        faults += search_faults(program, room, entry)
+    else:
+        print("    not compared with ncurses, whose tput is not installed")
+    if opened(program, [], TERM="dumb", TERMINFO=directory)[0] != 0:
+        faults.append("TERM is not used")
     return faults
 
 
@@ -454,13 +749,18 @@ def check_page(room):
     page = text_of("man", "ti.3")
     section = re.search(r"^\.Sh EXAMPLES\n(.*?)^\.Sh ", page, re.S | re.M)[1]
     section = section.replace("\\e", "\\").replace("\\(aq", "'").replace("\\&", "")
-    first, second = re.findall(r"^\.Bd -literal[^\n]*\n(.*?)^\.Ed", section, re.S | re.M)
+    section = section.replace("\\(dq", '"')
+    first, green, second = re.findall(r"^\.Bd -literal[^\n]*\n(.*?)^\.Ed", section, re.S | re.M)
     directory, _ = dumb_entry(room)
     program = room.compile(room.write("page.c", first), *SANITIZE)
     status, said = run([program], env=clean_environment(TERMINFO=directory, TERM="dumb"))
     faults = [] if (status, said) == (0, "dumb: 80 columns\n") else [f"{status}, {said!r}"]
+    program = room.compile(room.write("green.c", green), *SANITIZE)
+    if entry_file("xterm"):
+        status, said = run([program], env=clean_environment(TERMINFO_DIRS=":".join(ENTRY_DIRECTORIES), TERM="xterm"))
+        faults += [] if (status, said) == (0, "\033[32mgreen\033(B\033[m") else [f"green: {status}, {said!r}"]
     faults += drawing_faults(room, second)
-    faults += [f"the page says nothing of {name}" for name in [*declared(), *defined()] if name not in page]
+    faults += [f"the page says nothing of {name}" for name in called() if name not in page]
     if shutil.which("mandoc"):
         status, said = run(["mandoc", "-T", "lint", "-W", "warning", os.path.join(TOP, "man", "ti.3")])
         faults += said.splitlines() if status or said else []
@@ -472,15 +772,21 @@ AROUND = """#include <stdio.h>
 #include <ti.h>
 %s
 %s
+%s
 int main(void) {
+    struct ti_terminal *terminal;
+    struct ti_text smcup = TI_NOTHING;
     struct ti_entry *entry;
     struct ti_line line = TI_LINE_EMPTY;
-    if (ti_open(NULL, &entry)) return 1;
-    ti_line(entry, 38400, &line);
+    if (ti_open(NULL, &entry) != TI_OK) return 1;
+    ti_line_of(entry, 38400, &line);
     bool moved = move(entry, &line, 4, 9);
-    uint32_t refusal = print_names(entry);
+    enum ti_status refusal = print_names(entry);
     ti_entry_free(entry);
-    return moved && !refusal ? 0 : 2;
+    if (ti_terminal_open(NULL, 1, &terminal) != TI_OK) return 1;
+    bool patched = patch(terminal) == TI_OK && ti_string_named(ti_terminal_entry(terminal), "smcup", &smcup) == 0;
+    ti_terminal_close(terminal);
+    return moved && patched && refusal == TI_OK ? 0 : 2;
 }
 """
 
@@ -488,9 +794,10 @@ int main(void) {
 def library_page_faults(room, environment):
     """What is wrong with the programs of docs/LIBRARY.md, on the terminal of the environment."""
     page = text_of("docs", "LIBRARY.md")
-    first, *functions = re.findall(r"^```c\n(.*?)^```", page, re.S | re.M)
+    first, curly, *functions = re.findall(r"^```c\n(.*?)^```", page, re.S | re.M)
     programs = (
         ("first", first, r"80 columns\n"),
+        ("curly", curly, r"\033\[5;10H(\033\[4:3m)?curly\033\(B\033\[m"),
         ("functions", AROUND % tuple(functions), r"\033\[5;10H(.*\n)?XT\n.*"),
     )
     for name, source, wanted in programs:
@@ -500,7 +807,7 @@ def library_page_faults(room, environment):
         if status or not re.fullmatch(wanted, said, re.S):
             yield f"LIBRARY.md, {name}: {status}, {said!r}"
     script = re.search(r"^```python\n(.*?)^```", page, re.S | re.M)[1]
-    given = {**environment, "LIBTI": room.path("libti.so.1"), "PYTHONPATH": os.path.join(TOP, "python")}
+    given = {**environment, "LIBTI": room.path("libti.so.2"), "PYTHONPATH": os.path.join(TOP, "python")}
     status, said = run([sys.executable, "-c", script], env={**given, "PYTHONDONTWRITEBYTECODE": "1"})
     if (status, said) != (0, "\033[32m"):
         yield f"LIBRARY.md, the script: {status}, {said!r}"
@@ -522,6 +829,10 @@ def check_examples(room):
     status, said = run([program], env=environment)
     if status or "\033[38;5;200m" not in said or "\033[2;3H" not in said:
         faults.append(f"colours.c: {status}, {said!r}")
+    styles = room.compile(os.path.join(TOP, "examples", "styles.c"), *SANITIZE)
+    status, said = run([styles], env=environment, input=b"\033OAx\033[1;5Aq")
+    if status or not said.startswith("\033[33morange\r\n\033(B\033[m") or "kcuu1\r\nkUP5\r\n" not in said:
+        faults.append(f"styles.c: {status}, {said!r}")
     script = [sys.executable, os.path.join(TOP, "examples", "colours.py")]
     status, said = run(script, env=environment)
     if status or said != "\033[38;5;200mcolour 200\n":
@@ -538,9 +849,7 @@ def check_examples(room):
 
 
 def check_python(room):
-    environment = clean_environment(
-        LIBTI=room.path("libti.so.1"), PYTHONPATH=os.path.join(TOP, "python"), PYTHONDONTWRITEBYTECODE="1"
-    )
+    environment = python_environment(room)
     words = [sys.executable, os.path.join(HERE, "python_entries.py")]
     with ThreadPoolExecutor(AT_ONCE) as pool:
         directories = [found for found in ENTRY_DIRECTORIES if glob.glob(os.path.join(found, "?", "*"))]
@@ -552,6 +861,51 @@ def check_python(room):
         script = "import doctest, sys, ti; sys.exit(doctest.testmod(ti).failed)"
         environment["TERMINFO_DIRS"] = ":".join(ENTRY_DIRECTORIES)
         faults += room.faults([sys.executable, "-c", script], env=environment)
+    return faults
+
+
+def python_environment(room):
+    return clean_environment(
+        LIBTI=room.path("libti.so.2"), PYTHONPATH=os.path.join(TOP, "python"), PYTHONDONTWRITEBYTECODE="1"
+    )
+
+
+def check_garbage(room):
+    directory, _ = dumb_entry(room)
+    # a block that is freed twice ends the process, and one that is freed is filled
+    watched = {"MALLOC_CHECK_": "3", "MALLOC_PERTURB_": "165", "TERMINFO": directory}
+    environment = {**python_environment(room), **watched}
+    return room.faults([sys.executable, os.path.join(HERE, "python_garbage.py")], env=environment)
+
+
+def check_wheel(room):
+    place, shared = room.path("venv"), room.path("libti.so.2")
+    if run([sys.executable, "-m", "venv", place])[0]:
+        raise Skipped("python3 -m venv does not make an environment with pip")
+    path = room.path(wheel.wheel_name(wheel.project()))
+    with open(path, "wb") as file:
+        file.write(wheel.wheel(0x60000000, shared))
+    status, said = run([f"{place}/bin/pip", "install", "--no-index", path])
+    if status:
+        return [said]
+    directory, _ = dumb_entry(room)
+    script = "import ti; entry = ti.Entry.find('dumb'); print(entry.number('cols'), entry.path, ti._library_name())"
+    environment = clean_environment(TERMINFO=directory)
+    status, said = run([f"{place}/bin/python", "-c", script], cwd=room.directory, env=environment)
+    pattern = rf"80 {re.escape(directory)}/d/dumb {re.escape(place)}/\S*/site-packages/ti/libti\.so\.2\n"
+    return [] if status == 0 and re.fullmatch(pattern, said) else [f"{status}, {said!r}"]
+
+
+def check_types(room):
+    if not shutil.which("mypy"):
+        raise Skipped("mypy is not installed")
+    script = re.search(r"^```python\n(.*?)^```", text_of("docs", "LIBRARY.md"), re.S | re.M)[1]
+    faults = []
+    for path in (os.path.join(TOP, "python", "ti", "__init__.py"), room.write("green.py", script),
+                 *glob.glob(os.path.join(TOP, "examples", "*.py"))):
+        words = ["mypy", "--strict", "--no-incremental", "--cache-dir", os.devnull, path]
+        status, said = run(words, env={**os.environ, "MYPYPATH": os.path.join(TOP, "python")})
+        faults += said.splitlines() if status else []
     return faults
 
 
@@ -584,16 +938,16 @@ def check_install(room):
     target = room.path("target")
     built = room.path("built")
     os.makedirs(built, exist_ok=True)
-    for name in ("libti.a", "libti.so.1"):
+    for name in ("libti.a", "libti.so.2"):
         shutil.copy(room.path(name), built)
     words = ["make", "-s", "-C", TOP, f"DESTDIR={target}", "PREFIX=/opt/ti", "LIBDIR=/opt/ti/lib64", f"LIBRARY={built}"]
     status, said = run([*words, "install-library"])
     if status:
         return [said]
-    wanted = ["include/ti.h", "include/ti_names.h", "lib64/libti.a", "lib64/libti.so", "lib64/libti.so.1",
+    wanted = ["include/ti.h", "include/ti.hpp", "include/ti_names.h", "lib64/libti.a", "lib64/libti.so", "lib64/libti.so.2",
               "lib64/pkgconfig/ti.pc", "share/man/man3/ti.3"]
     # the page is found under the name of each call
-    wanted += [f"share/man/man3/{name}.3" for name in [*declared(), *defined()]]
+    wanted += [f"share/man/man3/{name}.3" for name in called()]
     wanted = sorted(f"opt/ti/{name}" for name in wanted)
     faults = [] if files_below(target) == wanted else [f"installed: {set(files_below(target)) ^ set(wanted)}"]
     if shutil.which("pkg-config"):
@@ -617,10 +971,12 @@ def check_install(room):
 
 CASES = {
     "header": check_header, "symbols": check_symbols, "names": check_names, "calls": check_calls,
-    "sending": check_sending, "memory": check_memory, "damaged": check_damaged, "open": check_open,
-    "tput": check_tput, "ncurses": check_ncurses, "tputs": check_tputs, "unibilium": check_unibilium,
-    "page": check_page, "examples": check_examples, "python": check_python, "commands": check_commands,
-    "install": check_install,
+    "sending": check_sending, "terminal": check_terminal, "changed": check_changed, "wrapper": check_wrapper,
+    "rust": check_rust, "go": check_go,
+    "memory": check_memory, "damaged": check_damaged, "open": check_open, "tput": check_tput,
+    "ncurses": check_ncurses, "tputs": check_tputs, "unibilium": check_unibilium,
+    "page": check_page, "examples": check_examples, "python": check_python, "garbage": check_garbage,
+    "wheel": check_wheel, "types": check_types, "commands": check_commands, "install": check_install,
 }
 
 

@@ -145,8 +145,10 @@ static struct ti_variables variables;
 
 static struct ti_outcome send(const char *name, const int32_t *numbers, size_t count,
                               const struct ti_line *line, size_t limit) {
+    struct ti_parameter params[10];
     clear_taken(limit);
-    return ti_send(&entry, &variables, line, name, numbers, count, 1, &waiting);
+    for (size_t i = 0; i < count; i++) params[i] = ti_number_given(numbers[i]);
+    return ti_send(&entry, &variables, line, name, params, count, 1, &waiting);
 }
 
 static bool sends(const char *name, const int32_t *numbers, size_t count, const char *wanted) {
@@ -155,7 +157,7 @@ static bool sends(const char *name, const int32_t *numbers, size_t count, const 
 }
 
 /* Whether nothing is sent, for this reason, and no variable is changed. */
-static bool refuses(const char *name, const int32_t *numbers, size_t count, uint32_t status,
+static bool refuses(const char *name, const int32_t *numbers, size_t count, enum ti_status status,
                     size_t size) {
     struct ti_variables before = variables;
     struct ti_outcome outcome = send(name, numbers, count, &padded, sizeof taken.bytes);
@@ -205,7 +207,55 @@ static void sending(void) {
     CHECK(outcome.status == TI_NOT_TAKEN && outcome.size == 3 && took("\033[5"));
 }
 
-/* ---- look-ups by place */
+/* ---- sending strings: Ms of user_caps(5) and pfkey of terminfo(5) take one */
+
+/* What a string of an entry that has only this one gives for some parameters. */
+static struct ti_outcome send_alone(const char *text, const struct ti_parameter *params,
+                                    size_t count) {
+    static uint8_t bytes[200];
+    static const uint8_t flags[] = { 0 };
+    static const int32_t none[] = { -1 };
+    static const int16_t offsets[] = { 0 };
+    struct ti_entry alone = TI_ENTRY_EMPTY;
+    struct parts parts = { false, "t", 1, 1, 1, strlen(text) + 1, flags, none, offsets, text };
+    CHECK(ti_entry_read(bytes, put_entry(bytes, &parts), &alone) == TI_OK);
+    clear_taken(sizeof taken.bytes);
+    return ti_send(&alone, &variables, &padded, "cbt", params, count, 1, &sink);
+}
+
+static bool sends_alone(const char *text, const struct ti_parameter *params, size_t count,
+                        const char *wanted) {
+    struct ti_outcome outcome = send_alone(text, params, count);
+    return outcome.status == TI_OK && outcome.size == strlen(wanted) && took(wanted);
+}
+
+/* Whether a parameter is refused, and nothing is sent. */
+static bool refuses_alone(const char *text, const struct ti_parameter *params, size_t count,
+                          size_t number) {
+    struct ti_outcome outcome = send_alone(text, params, count);
+    return outcome.status == TI_BAD_PARAMETER && outcome.size == number && took("");
+}
+
+static void sending_strings(void) {
+    const char *ms = "\033]52;%p1%s;%p2%s\a", *pfkey = "\033[%p1%d;%p2%5.3sp";
+    struct ti_parameter texts[2] = { ti_string_given("c"), ti_string_given("aGk=") };
+    struct ti_parameter mixed[2] = { ti_number_given(4), ti_text_given((const uint8_t *)"ls", 2) };
+    struct ti_parameter empty[2] = { ti_string_given(""), ti_string_given("") };
+    CHECK(sends_alone(ms, texts, 2, "\033]52;c;aGk=\a") && sends_alone(ms, empty, 2, "\033]52;;\a"));
+    CHECK(refuses_alone(ms, NULL, 0, 1) && refuses_alone(ms, texts, 1, 2));
+    CHECK(refuses_alone(ms, mixed, 2, 1) && refuses_alone(pfkey, texts, 2, 1));
+    CHECK(sends_alone(pfkey, mixed, 2, "\033[4;   lsp") && refuses_alone(pfkey, mixed, 1, 2));
+    CHECK(refuses_alone("%p1%d", texts, 1, 1) && refuses_alone("plain", texts, 1, 1));
+    /* the length of a string, and a string that a `%p` before it does not give */
+    CHECK(sends_alone("%p1%l%d", texts + 1, 1, "4") && refuses_alone("%p1%l%d", mixed, 1, 1));
+    /* parameters of termcap */
+    CHECK(sends_alone("%s", texts, 1, "c") && refuses_alone("%s", mixed, 1, 1));
+    struct ti_parameter numbers[2] = { ti_number_given(4), ti_number_given(9) };
+    CHECK(sends_alone("\033[%i%d;%dH", numbers, 2, "\033[5;10H"));
+    CHECK(sends_alone("\033[%d;%dH", NULL, 0, "\033[%d;%dH"));
+}
+
+/* ---- look-ups by place and by name */
 
 static void look_ups(void) {
     struct ti_text text = TI_NOTHING;
@@ -220,6 +270,10 @@ static void look_ups(void) {
     CHECK(ti_flag_at(&entry, TI_PLACE(TI_FLAG, TI_FLAGS)) == -1);
     CHECK(ti_number_at(&entry, TI_PLACE(TI_NUMBER, TI_NUMBERS)) == -2);
     CHECK(ti_string_at(&entry, TI_PLACE(TI_STRING, TI_STRINGS), &text) == -1);
+    /* user-defined ones by name, of their kind */
+    CHECK(ti_flag_named(&entry, "XM") == 1 && ti_number_named(&entry, "XM") == -2);
+    CHECK(ti_string_named(&entry, "Se", &text) == 1 && is_text(text, "\033[2 q", 5));
+    CHECK(ti_string_named(&entry, "XM", &text) == -1 && ti_flag_named(&entry, "Se") == -1);
 }
 
 /* A NUL follows each string of an entry, and each user-defined name. */
@@ -249,6 +303,7 @@ int main(void) {
     delays();
     writing();
     sending();
+    sending_strings();
     look_ups();
     ends();
     rates();

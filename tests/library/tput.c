@@ -15,13 +15,13 @@ int main(int argc, char **argv) {
     struct ti_text text = TI_NOTHING;
     struct ti_line line = TI_LINE_EMPTY;
     struct ti_variables variables = { { 0 } };
-    int32_t numbers[9];
+    struct ti_parameter numbers[9];
     if (argc < 3 || argc > 12) return 2;
-    if (ti_open(argv[1], &entry)) return 3;
+    if (ti_open_profile(argv[1], &entry)) return 3;
     int32_t is = ti_string_named(entry, argv[2], &text);
     size_t count = (size_t)argc - 3;
-    for (size_t i = 0; i < count; i++) numbers[i] = atoi(argv[i + 3]);
-    ti_line(entry, 0, &line);
+    for (size_t i = 0; i < count; i++) numbers[i] = ti_number_given(atoi(argv[i + 3]));
+    ti_line_of(entry, 0, &line);
     struct ti_outcome sent =
         ti_send(entry, &variables, &line, argv[2], numbers, count, 1, &output);
     if (sent.status != (is == 1 ? TI_OK : TI_ABSENT)) return 5;

@@ -1,5 +1,6 @@
 pub mod Answers
 pub mod Capabilities
+pub mod Changing
 pub mod Delays
 pub mod Ends
 pub mod Entries

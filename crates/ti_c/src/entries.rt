@@ -9,15 +9,12 @@ ghost use Rattle.tools_tput.specs.Results.{long_name};
 ghost use Rattle.ti_c.specs.Entries as spec;
 ghost use Rattle.ti_c.specs.Entries.{entry_names, entry_contents, IsEntryOf, ReadAnswer, IsRefusal, CopyAnswer, flag_answer, number_answer, string_at, string_answer};
 
-use crate::answers::Text;
+use crate::answers::{NO_MEMORY, Text};
 use crate::entry::Entry;
 use memchr::memrchr;
 use std::alloc::{AllocError, Global};
 use ti_caps::{Cap, Kind};
 use ti_layout::{Format, ReadError, View, ViewParts};
-
-// The answer of a call that was refused memory for an entry.
-const NO_MEMORY: u32 = 9;
 
 /// The format of an entry.
 pub(crate) fn format_of(wide: bool) -> Format

@@ -1,5 +1,5 @@
 //! A string with parameters as the bytes for the terminal.
-ghost use Rattle.std.specs.Prelude.{◌≡◌, ◌≢◌, ◌<◌, ◌≤◌, [], ℕ, map};
+ghost use Rattle.std.specs.Prelude.{◌≡◌, ◌≢◌, ◌<◌, ◌⊎◌, [], ℕ, map};
 ghost use Rattle.ti_param.specs.Expansion.{Overflows};
 ghost use Rattle.ti_formats.specs.Formats.{FormatTree, IsTree, IsStuck};
 ghost use Rattle.ti_param.specs.Meaning.{argument_of};
@@ -60,7 +60,7 @@ pub extern "C" fn ti_expand(
     variables: &mut Variables,
     out: &mut [u8],
 ) -> Outcome
-    ensures known { result.status ≤ NO_ROOM }
+    ensures known { (result.status ≡ OK) ⊎ (result.status ≡ BAD_FORMAT) ⊎ (result.status ≡ STACK_FULL) ⊎ (result.status ≡ NO_MEMORY) ⊎ (result.status ≡ NO_ROOM) }
     ensures ok { result.status ≡ OK → IsExpanded format.now (arguments_of params.now) variables.old.values variables.new.values out.old out.new result.size }
     ensures bad_format { result.status ≡ BAD_FORMAT → IsStuck format.now result.size }
     ensures stuck { (place : ℕ) → IsStuck format.now place → (result.status ≡ BAD_FORMAT) × (result.size ≡ place) }

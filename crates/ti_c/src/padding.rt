@@ -84,7 +84,7 @@ pub extern "C" fn ti_pad(
 /// The line to the terminal of an entry, at a rate in bits per second: by `xon`, `pb`, `npc` and
 /// `pad`.
 #[unsafe(no_mangle)]
-pub extern "C" fn ti_line(entry: &Entry<'_>, rate: u32, line: &mut TerminalLine)
+pub extern "C" fn ti_line_of(entry: &Entry<'_>, rate: u32, line: &mut TerminalLine)
     ensures { line_of line.new ≡ line_at_rate (entry_of entry.now) rate }
 {
     let found = terminal_line(&view_of(entry), rate);

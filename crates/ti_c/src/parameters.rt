@@ -19,7 +19,7 @@ pub struct FormatParameters {
 /// Stores which parameters a string takes. False if the string is malformed, and `taken` is then as
 /// it was.
 #[unsafe(no_mangle)]
-pub extern "C" fn ti_parameters(format: &[u8], taken: &mut FormatParameters) -> bool
+pub extern "C" fn ti_parameters_of(format: &[u8], taken: &mut FormatParameters) -> bool
     ensures { ParametersAnswer format.now taken.old taken.new result }
 {
     match parameters(format) {

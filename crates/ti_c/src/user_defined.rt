@@ -8,15 +8,12 @@ ghost use Rattle.user_extension.specs.Reading.{ReadRow, said};
 ghost use Rattle.user_extension.specs.View.{read_rows};
 ghost use Rattle.ti_c.specs.UserDefined.{ExtensionAnswer, kind_at, kind_of, refusal_number, rows_held, seen_as, value_seen};
 
-use crate::answers::Text;
+use crate::answers::{BAD_EXTENSION, Text};
 use crate::entries::{format_of, is_wide, rank};
 use crate::entry::Entry;
 use crate::extension::EntryExtension;
 use ti_layout::Content;
 use user_extension::{Extension, ExtensionError, ExtensionParts, read};
-
-// What follows the entry is not an extension.
-const BAD_EXTENSION: u32 = 12;
 
 /// The value of a user-defined capability: its kind, which is 0 of a boolean, 1 of a number and 2 of
 /// a string; whether it is present, and neither absent nor cancelled; the number, which is 1 of a
@@ -30,9 +27,9 @@ pub struct FoundValue<'a> {
     pub text: &'a [u8],
 }
 
-// The extension that C holds, as one of the library.
+/// The extension that C holds, as one of the library.
 #[tactic(auto, unfolding(crate::specs::UserDefined::rows_held))]
-fn extension_of<'a>(held: &EntryExtension<'a>) -> Extension<'a>
+pub(crate) fn extension_of<'a>(held: &EntryExtension<'a>) -> Extension<'a>
     ensures { read_rows result ≡ rows_held held.now }
 {
     Extension::of_parts(ExtensionParts {

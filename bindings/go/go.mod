@@ -1,0 +1,3 @@
+module ti-terminfo/ti
+
+go 1.19
