@@ -1,14 +1,16 @@
 #!/usr/bin/env python3
 """Makes libtinfo.so.6 over libti from tinfo/: `make tinfo` runs it.
 
-    build/tinfo.py [DIRECTORY]         puts it there; crates/ti_c/out/lib/ti, if none is named. The
-                                       directory above has libti.so.1, from `make library`
-    build/tinfo.py --names FILE        writes only the tables of names, names.h
+    build/tinfo.py [DIRECTORY]         puts it there, with the ti-run.so of ti-run;
+                                       crates/ti_c/out/lib/ti, if none is named. The directory above
+                                       has libti.so.2, from `make library`
+    build/tinfo.py --names DIRECTORY   writes only the tables of names, names.h and names.c
 
 The names of capabilities are those of crates/ti_caps, and their variables and codes of termcap
 those of crates/ti_names. It uses the C compiler that CC names, or cc.
 """
 
+import glob
 import os
 import re
 import shutil
@@ -16,22 +18,18 @@ import subprocess
 import sys
 import tempfile
 
+from border import FLAGS, compiler
 from build import tell
-from library import compiler
 from repository import TOP, text_of
 
 SONAME = "libtinfo.so.6"
-FLAGS = [
-    "-std=gnu99", "-O2", "-fPIC", "-fvisibility=hidden", "-Wall", "-Wextra", "-Wpedantic", "-Wshadow",
-    "-Wformat=2", "-Werror=format-security", "-fstack-protector-strong", "-fstack-clash-protection",
-    "-D_FORTIFY_SOURCE=2",
+PRELOADED = "ti-run.so"
+SHARED = [
+    "-shared", "-Wl,-z,defs", "-Wl,-z,text", "-Wl,-z,relro", "-Wl,-z,now", "-Wl,-z,noexecstack",
 ]
-# libti.so.1 is found in the directory above, wherever both are installed
-LINKED = [
-    "-shared", f"-Wl,-soname,{SONAME}", f"-Wl,--version-script={TOP}/tinfo/tinfo.map", "-Wl,-z,defs",
-    "-Wl,-z,text", "-Wl,-z,relro", "-Wl,-z,now", "-Wl,-z,noexecstack", "-Wl,--enable-new-dtags",
-    "-Wl,-rpath,$ORIGIN/..",
-]
+# libti.so.2 is found in the directory above, wherever both are installed
+LINKED = [*SHARED, f"-Wl,-soname,{SONAME}", "-Wl,--enable-new-dtags", "-Wl,-rpath,$ORIGIN/.."]
+EXPORTS = f"{TOP}/tinfo/tinfo.map"
 # the prefix of a kind's tables, and its word in the tables of the crates
 KINDS = {"bool": "FLAG", "num": "NUMBER", "str": "TEXT"}
 WIDTH = 100
@@ -68,44 +66,68 @@ def table(name, words):
     return f"EXPORTED const char *const {name}[] = {{\n" + "\n".join([*lines, line]) + "\n};\n"
 
 
-HEAD = """/* Written by build/tinfo.py. */
+WRITTEN = "/* Written by build/tinfo.py. */\n"
+HEAD = WRITTEN + """#ifndef NAMES_H
+#define NAMES_H
 #define EXPORTED __attribute__((visibility("default")))
 """
 
 
 def names_header():
-    """The text of names.h: the tables, and an index for each name."""
+    """The text of names.h: an index for each name, and the tables that names.c has."""
     parts = [HEAD]
+    for kind in KINDS:
+        parts += [f"extern const char *const {kind}{suffix}[];" for suffix in ("names", "codes", "fnames")]
+        indexes = "".join(f"    {kind.upper()}_{name} = {index},\n" for index, name in enumerate(names_of(kind)))
+        parts.append(f"enum {{\n{indexes}}};\n")
+    return "\n".join([*parts, "#endif\n"])
+
+
+def names_tables():
+    """The text of names.c."""
+    parts = [WRITTEN + '#include <stddef.h>\n\n#include "names.h"\n']
     for kind in KINDS:
         names = names_of(kind)
         for suffix, words in ("names", names), ("codes", codes_of(kind)), ("fnames", variables_of(kind)):
             if len(words) != len(names):
                 raise ValueError(f"{kind}{suffix} does not have the same capabilities")
             parts.append(table(f"{kind}{suffix}", words))
-        indexes = "".join(f"    {kind.upper()}_{name} = {index},\n" for index, name in enumerate(names))
-        parts.append(f"enum {{\n{indexes}}};\n")
     return "\n".join(parts)
 
 
-def make(libraries, directory, flags=()):
-    """Makes the library in a directory, from libti.so.1 in another one."""
+def write_names(directory):
+    """Writes names.h and names.c."""
+    for name, text in ("names.h", names_header()), ("names.c", names_tables()):
+        with open(f"{directory}/{name}", "w", encoding="utf-8") as file:
+            file.write(text)
+
+
+def sources():
+    """The files of C of the library."""
+    return sorted(path for path in glob.glob(f"{TOP}/tinfo/*.c") if not path.endswith("ti-run.c"))
+
+
+def make(libraries, directory, flags=(), exports=EXPORTS):
+    """Makes the library in a directory, from libti.so.2 in another one; and ti-run.so. What it exports
+    is in a file."""
     os.makedirs(directory, exist_ok=True)
     with tempfile.TemporaryDirectory() as room:
-        with open(f"{room}/names.h", "w", encoding="utf-8") as file:
-            file.write(names_header())
-        words = [compiler(), *FLAGS, *flags, "-I", room, "-I", f"{TOP}/include"]
-        words += [f"{TOP}/tinfo/tinfo.c", *LINKED, "-L", libraries, "-l:libti.so.1", "-o", f"{room}/{SONAME}"]
+        write_names(room)
+        words = [compiler(), *FLAGS, *flags, "-I", room, "-I", f"{TOP}/include", "-I", f"{TOP}/tinfo"]
+        words += [*sources(), f"{room}/names.c", *LINKED, f"-Wl,--version-script={exports}", "-L", libraries, "-l:libti.so.2", "-o", f"{room}/{SONAME}"]
         subprocess.run(words, cwd=room, check=True)
-        shutil.copy(f"{room}/{SONAME}", f"{directory}/{SONAME}.new")
-        os.replace(f"{directory}/{SONAME}.new", f"{directory}/{SONAME}")
+        words = [compiler(), *FLAGS, f"{TOP}/tinfo/ti-run.c", *SHARED, "-o", f"{room}/{PRELOADED}"]
+        subprocess.run(words, cwd=room, check=True)
+        for name in (SONAME, PRELOADED):
+            shutil.copy(f"{room}/{name}", f"{directory}/{name}.new")
+            os.replace(f"{directory}/{name}.new", f"{directory}/{name}")
 
 
 def main():
     words = sys.argv[1:]
     try:
         if words[:1] == ["--names"]:
-            with open(words[1], "w", encoding="utf-8") as file:
-                file.write(names_header())
+            write_names(words[1])
             return 0
         libraries = f"{TOP}/crates/ti_c/out/lib"
         make(libraries, os.path.abspath(words[0]) if words else f"{libraries}/ti")

@@ -110,7 +110,7 @@ static void answer_with_numbers(const char *asked, char *text, const int *p) {
     answer("tparm", asked, tparm(text, first, second, third, fourth, (long)p[4], (long)p[5],
                                  (long)p[6], (long)p[7], (long)p[8]));
     answer("tiparm", asked, tiparm(text, p[0], p[1], p[2], p[3], p[4], p[5], p[6], p[7], p[8]));
-    if (strstr(text, "%p")) answer("tgoto", asked, tgoto(text, p[1], p[0]));
+    answer("tgoto", asked, tgoto(text, p[1], p[0]));
 }
 
 static void answer_expansions(const char *name, char *text) {

@@ -44,6 +44,37 @@ static bool puts_right(const char *text) {
     return status == OK ? strcmp(written, text) == 0 : count == 0;
 }
 
+/* As ncurses declares them since version 6.0. */
+struct tries {
+    struct tries *child, *sibling;
+    unsigned char byte;
+    unsigned short code;
+};
+extern int _nc_add_to_try(struct tries **, const char *, unsigned);
+extern void *_nc_doalloc(void *, size_t);
+
+/* Whether a key is added whole, or what is there of it is the code of no key. */
+static bool adds_right(bool may_fail) {
+    struct tries *tree = NULL;
+    bool is_added = _nc_add_to_try(&tree, "\033OA", 7) == OK;
+    unsigned short code = 0;
+    for (struct tries *node = tree, *next; node; node = next) {
+        next = node->child;
+        code = node->code;
+        free(node);
+    }
+    return is_added ? code == 7 : may_fail && code == 0;
+}
+
+/* Whether a block grows with what is in it; or else it is freed. */
+static bool grows_right(bool may_fail) {
+    char *block = (char *)_nc_doalloc(NULL, 5);
+    if (block) block = (char *)_nc_doalloc(strcpy(block, "kept"), 5000);
+    bool right = block ? strcmp(block, "kept") == 0 : may_fail;
+    free(block);
+    return right;
+}
+
 /* Calls all of it. Gives whether each answer is right, or is a failure if that is allowed. */
 static bool call_all(const char *name, const char *wanted, bool may_fail) {
     static char long_text[3000];
@@ -57,6 +88,7 @@ static bool call_all(const char *name, const char *wanted, bool may_fail) {
     char *termcap = tgoto("%d;%d", 8, 4);
     right = right && (termcap ? strcmp(termcap, "4;8") == 0 : may_fail);
     right = right && puts_right("abc") && puts_right(long_text);
+    right = right && adds_right(may_fail) && grows_right(may_fail);
     if (tgetent(NULL, name) == 1) right = right && tgetstr("me", NULL) && tgetnum("co") > 0;
     else right = right && may_fail;
     if (cur_term != first) del_curterm(first);

@@ -2,6 +2,7 @@
 """Tests libtinfo.so.6 over libti: its answers next to those of ncurses, and programs that take it.
 
     tests/tinfo/run.py [CASE..]        the cases named, or all of them
+    tests/tinfo/run.py --table         writes the tables of docs/TINFO.md
 
 The archive of crates/ti_c is built already, by the gate or by `make library`. The cases:
 
@@ -11,18 +12,27 @@ answers      every call on every entry of the system (answers.c), run with each 
 sanitizers   the same calls under sanitizers, on a part of the entries
 errors       what setupterm and tgetent say of a terminal that they do not take (errors.c)
 directories  which of several entries of a name is taken
+modes        the line to the terminal, keys and screens (modes.c), on a terminal of its own
+formats      strings that tgoto expands as termcap has them (formats.c)
+internals    what only ncurses's other libraries call (internals.c)
 damaged      damaged entries (damaged.c), under sanitizers
 memory       each allocation refused in turn (memory.c)
-bash, less, vim, tmux, zsh, fish, more, emacs
+bash, less, vim, tmux, zsh, fish, more, emacs, minicom, w3m, mg, tcsh, joe
              the program in a terminal, with each of the two libraries (screens.py)
-curses       a program of curses itself does not begin
-install      `make install-tinfo` puts everything into its place, and ti-run runs programs
+curses       a program of curses itself, or of libtic, does not begin
+reached      which internal functions of ncurses such programs reach, and which one would end each,
+             as docs/TINFO.md says (reached.py)
+objects      which objects of Debian start, as docs/TINFO.md says (objects.py)
+tools        clear, tput, tset, reset and tabs on a terminal, with each of the two libraries (tools.py)
+install      `make install-tinfo` puts everything into its place, and ti-run runs programs and leaves
+             those that they start alone
 
 What is not installed is skipped, and said to be. The last line is
 `tinfo: N passed, M failed[, K skipped]`.
 """
 
 import collections
+import itertools
 import os
 import re
 import shutil
@@ -35,9 +45,13 @@ from concurrent.futures import ThreadPoolExecutor
 HERE = os.path.dirname(os.path.abspath(__file__))
 sys.path.insert(0, os.path.dirname(HERE))
 from common import ENTRY_DIRECTORIES, TOP, Skipped, Tally, entry_file, files_below, need, text_of  # noqa: E402
+from terminals import on_terminal  # noqa: E402
 import library  # noqa: E402
+import objects  # noqa: E402
+import reached  # noqa: E402
 import screens  # noqa: E402
 import tinfo  # noqa: E402
+import tools  # noqa: E402
 
 ARCHIVE = os.path.join(TOP, "crates", "ti_c", "out", "libti_c.a")
 WARN = ["-Wall", "-Wextra", "-Wpedantic", "-Werror"]
@@ -150,24 +164,33 @@ def system_library():
     return found[1]
 
 
+def is_compared_version():
+    """Whether the system's library is of the version of ncurses that the pages compare with."""
+    return os.path.realpath(system_library()).endswith(".so.6.4")
+
+
 def check_symbols(room):
     need("objdump")
     ours, theirs = symbols(f"{room.libraries}/libtinfo.so.6"), symbols(system_library())
-    wanted = set(re.findall(r"([A-Za-z]\w*);", text_of("tinfo", "tinfo.map")))
+    wanted = set(re.findall(r"([A-Za-z_]\w*);", text_of("tinfo", "tinfo.map")))
     faults = [f"{name} is not exported, or is not to be" for name in wanted ^ set(ours)]
     for name, what in ours.items():
         # ncurses has restartterm in another library
         if theirs.get(name, what) != what or (name not in theirs and name != "restartterm"):
             faults.append(f"{name} is {what}, and ncurses's {theirs.get(name)}")
+    # a manual page describes all but these
+    public = {name for name in theirs if not name.startswith("_nc_") and name != "SP"}
+    if is_compared_version():
+        faults += [f"{name} of ncurses's is not exported" for name in public - set(ours)]
     _, said = run(["readelf", "-d", "-W", f"{room.libraries}/libtinfo.so.6"])
     needed = re.findall(r"NEEDED.*\[(.*)\]", said)
-    if sorted(needed) != ["libc.so.6", "libti.so.1"] or "[libtinfo.so.6]" not in said:
+    if sorted(needed) != ["libc.so.6", "libti.so.2"] or "[libtinfo.so.6]" not in said:
         faults.append(f"libtinfo.so.6: {said}")
     _, more = run(["readelf", "-l", "--dyn-syms", "-W", f"{room.libraries}/libtinfo.so.6"])
     for part in ("BIND_NOW", "GNU_RELRO", "__stack_chk_fail", "_chk@"):
         if part not in said + more:
             faults.append(f"libtinfo.so.6 is not hardened by {part}")
-    print(f"    {len(ours)} symbols")
+    print(f"    {len(ours)} symbols, with all {len(public)} public ones of ncurses's")
     return faults
 
 
@@ -206,7 +229,7 @@ class Entry:
 TPUTS = re.compile(r"tputs (\S+)@\d+@(\d+) (\S+) waited (\d+) pads (\d+) (.*)$")
 # the bytes that a line takes in a millisecond, by the code of its speed
 BYTES = {"0": 0, "9": 0.24, "15": 3.84}
-EXPANSION = re.compile(r"(?:tparm|tiparm|tgoto) (\S+)@\d+ (.*)$")
+EXPANSION = re.compile(r"(tparm|tiparm|tgoto) (\S+)@\d+ (.*)$")
 # what ncurses takes for a delay and libti for text, and the other way round
 ODD_DELAY = re.compile(r"\$<\.|\$\$<|\$<[0-9]*\.[0-9]{2}|\*\*")
 
@@ -229,10 +252,10 @@ def padding_class(ours, theirs, entry):
 def expansion_class(ours, theirs, entry):
     """The class of a difference of tparm, tiparm or tgoto, or None."""
     one, other = EXPANSION.match(ours), EXPANSION.match(theirs)
-    if not one or not other or one[1] != other[1]:
+    if not one or not other or one.group(1, 2) != other.group(1, 2):
         return None
-    text = entry.strings[one[1]]
-    if one[2] == (text if "%p" not in text else '""'):
+    text = entry.strings[one[2]]
+    if one[3] == (text if "%p" not in text else '""') and one[1] != "tgoto":
         return "malformed formats"
     if "%p" not in text and "%i" in text:
         return "formats of termcap with %i"
@@ -410,19 +433,153 @@ def check_directories(room):
     return faults
 
 
+# The line to the terminal
+
+
+# the calls that fail in ncurses for a screen that newterm has not made, and are here as
+# curs_kernel(3x) says: what they leave the line as is compared by itself
+RESET = re.compile(r"reset_(?:prog|shell)_mode_sp |does not 0: ")
+
+
+def modes_answers(room, program, libraries, term):
+    """The lines that modes.c answers, and what it wrote to the terminal."""
+    status, written, said = on_terminal([program, term], environment(libraries))
+    if status != 7:
+        raise AssertionError(f"{os.path.basename(program)} {term}: status {status}, {said[-2000:]}")
+    return said.splitlines(), written
+
+
+def reset_faults(term, lines):
+    """The modes after the two calls are those that were remembered, which those of raw differ from."""
+    modes = [(line.split()[0], line.split(": ")[1]) for line in lines if re.match(r"\w+_sp 0: ", line)]
+    faults = []
+    for at, (call, found) in enumerate(modes):
+        wanted = {"reset_prog_mode_sp": "halfdelay_sp", "reset_shell_mode_sp": "savetty_sp"}.get(call)
+        if wanted and found != [what for name, what in modes[:at] if name == wanted][-1]:
+            faults.append(f"{term}, {call}: {found}")
+    return faults if "reset_shell_mode_sp" in dict(modes) else [f"{term}: reset_shell_mode_sp fails"]
+
+
+# what modes.c answers alone, by curs_util(3x) and curs_extend(3x)
+ALONE = [
+    "delay_output 0", "delay_output 0", "define_key_sp 0", "has_key_sp 1 0", "define_key_sp 0", "has_key_sp 0",
+    "define_key_sp -1", "delay_output -1",
+]
+
+
+def alone_faults(room, program):
+    """What is answered of what cannot be compared: the pads of so many milliseconds on a line of
+    38,400 bits a second with ten bits a byte, each tenth of a second rounded up."""
+    faults = []
+    for milliseconds, pads in ((1, 4), (5, 20), (100, 384), (250, 960)):
+        words = [program, "vt100", str(milliseconds)]
+        status, written, said = on_terminal(words, environment(room.sanitized_library()))
+        if (status, written, said.splitlines()) != (7, "\0" * pads, ALONE):
+            faults.append(f"delay_output({milliseconds}): status {status}, {written!r}, {said[-2000:]}")
+    return faults
+
+
+def check_modes(room):
+    program, sanitized = room.compile("modes"), room.compile("modes", *SANITIZE)
+    terms = [name for name in ("xterm-256color", "linux", "vt100", "dumb", "hp2621") if entry_file(name)]
+    faults, compared = alone_faults(room, sanitized) if "vt100" in terms else [], 0
+    for term in terms:
+        ours, theirs = (modes_answers(room, program, where, term) for where in (room.libraries, None))
+        faults += reset_faults(term, ours[0])
+        for one, other in zip(ours[0], theirs[0]):
+            compared += 1
+            if one != other and not RESET.match(one):
+                faults.append(f"{term}: {one}, and ncurses's {other}")
+        if len(ours[0]) != len(theirs[0]):
+            faults.append(f"{term}: {len(ours[0])} lines, and ncurses's {len(theirs[0])}")
+        if ours[1] != theirs[1]:
+            faults.append(f"{term}: {ours[1]!r} is written, and by ncurses's {theirs[1]!r}")
+        checked = modes_answers(room, sanitized, room.sanitized_library(), term)
+        if checked != ours:
+            faults.append(f"{term}: other answers under sanitizers")
+    print(f"    {compared} answers on {', '.join(terms)}")
+    return faults
+
+
+def check_formats(room):
+    """Every answer is ncurses's, but those with `%i`, and the same under sanitizers."""
+    program, sanitized = room.compile("formats"), room.compile("formats", *SANITIZE)
+    ours, theirs = both(room, [program])
+    lines = list(zip(ours[1].splitlines(), theirs[1].splitlines()))
+    counts, faults = collections.Counter(), []
+    for one, other in lines:
+        found = "alike" if one == other else "with %i" if "%i" in one else "unexplained"
+        counts[found] += 1
+        faults += [f"{one}, and ncurses's {other}"] if found == "unexplained" else []
+    if ours[0] or theirs[0] or ours[1].count("\n") != theirs[1].count("\n"):
+        faults.append(f"status {ours[0]} and {theirs[0]}")
+    checked = run([sanitized], env=environment(room.sanitized_library()))
+    if checked != ours:
+        faults.append(f"under sanitizers: {checked[1][-2000:]}")
+    print("    " + ", ".join(f"{counts[what]:,} {what}" for what in sorted(counts)))
+    return faults[:40]
+
+
+# what the sanitizer says of a size that is refused
+REFUSED = re.compile(r"==\d+==WARNING: AddressSanitizer failed to allocate .*\n")
+
+
+def internals_faults(programs, term, locale):
+    """How what internals.c prints differs from what it prints with ncurses's library, and how much it
+    prints."""
+    told = []
+    for program, where in programs:
+        with tempfile.TemporaryDirectory(prefix="ti-tinfo-") as directory:
+            more = {"LC_ALL": locale, "ASAN_OPTIONS": "allocator_may_return_null=1"}
+            status, said = run([program, term, directory], env=environment(where, **more))
+        told.append([f"status {status}", *REFUSED.sub("", said).splitlines()])
+    theirs, *others = told
+    faults = [] if theirs[0] == "status 7" else [f"{term}, {locale}, with ncurses's: {theirs}"]
+    for ours in others:
+        pairs = itertools.zip_longest(ours, theirs)
+        faults += [f"{term}, {locale}: {one}, and ncurses's {other}" for one, other in pairs if one != other]
+    return faults[:10], len(theirs)
+
+
+def check_internals(room):
+    """The same is also asked of the library under sanitizers; and of a message that ends a program."""
+    program, sanitized = room.compile("internals"), room.compile("internals", *SANITIZE)
+    programs = ((program, None), (program, room.libraries), (sanitized, room.sanitized_library()))
+    faults, lines = [], 0
+    for term in (name for name in ("xterm-256color", "linux", "screen") if entry_file(name)):
+        for locale in ("C", "C.UTF-8"):
+            found, count = internals_faults(programs, term, locale)
+            faults += found
+            lines += count
+    ours, theirs = both(room, [program, "-abort"])
+    faults += [] if ours == theirs and ours[0] == 1 else [f"_nc_err_abort: {ours}, and ncurses's {theirs}"]
+    print(f"    {lines:,} lines")
+    return faults
+
+
 # Programs
+
+
+def check_objects(room):
+    theirs, ours = symbols(system_library()), symbols(f"{room.libraries}/libtinfo.so.6")
+    return objects.faults(room, set(theirs), set(ours), is_compared_version(), "--table" in sys.argv)
+
+
+def check_reached(room):
+    theirs, ours = symbols(system_library()), symbols(f"{room.libraries}/libtinfo.so.6")
+    return reached.faults(room, theirs, ours, is_compared_version(), "--table" in sys.argv)
 
 
 def check_curses(room):
     """Programs that need more than the library has: the loader says so, and nothing is run."""
-    programs = [name for name in ("tput", "infocmp", "nano", "dialog") if shutil.which(name)]
+    programs = [name for name in ("nano", "dialog", "htop", "mutt", "infocmp", "tic", "toe") if shutil.which(name)]
     if not programs:
         raise Skipped("no program of curses is installed")
     faults = []
     for name in programs:
-        status, said = run([room.ti_run, name, "-V"], env=environment())
-        if status != 1 and status != 127 or "libtinfo.so.6" not in said or "ncurses 6" in said:
-            faults.append(f"{name} -V: status {status}, {said!r}")
+        status, said = run([room.ti_run, name, "-v"], env=environment())
+        if status != 1 and status != 127 or "libtinfo.so.6" not in said or "ersion" not in said.split("libtinfo", 1)[1]:
+            faults.append(f"{name} -v: status {status}, {said!r}")
     return faults
 
 
@@ -436,8 +593,12 @@ def check_install(room):
         return [f"installed: {files_below(target)}"]
     moved = room.path("moved")
     os.rename(os.path.join(target, "opt", "ti"), moved)
-    faults = run_faults(moved)
-    os.rename(moved, os.path.join(target, "opt", "ti"))
+    faults = run_faults(moved) + preload_faults(moved, f"{moved}/lib/x/ti/ti-run.so")
+    # the loader takes a space for the end of a path
+    spaced = room.path("moved to here")
+    os.rename(moved, spaced)
+    faults += run_faults(spaced) + preload_faults(spaced, "ti-run.so")
+    os.rename(spaced, os.path.join(target, "opt", "ti"))
     room.install("uninstall-tinfo", "uninstall-library", *words)
     return faults + [f"left over: {name}" for name in files_below(target)]
 
@@ -446,7 +607,7 @@ def run_faults(installed):
     """What is wrong with the ti-run of a directory."""
     ti_run, faults = os.path.join(installed, "bin", "ti-run"), []
     status, said = run([ti_run, "bash", "-c", "cat /proc/$$/maps; exit 7"], env=environment())
-    libraries = ["lib/x/ti/libtinfo.so.6", "lib/x/libti.so.1"]
+    libraries = ["lib/x/ti/libtinfo.so.6", "lib/x/libti.so.2"]
     if status != 7 or not all(f" {installed}/{name}\n" in said for name in libraries):
         faults.append(f"ti-run: status {status}, {said}")
     # what a program on the library starts has the environment as it was
@@ -455,6 +616,7 @@ def run_faults(installed):
         status, said = run([ti_run, *words], env=environment(None, **more))
         if said != "".join(f"{name}={value}\n" for name, value in more.items()) or status != (0 if more else 1):
             faults.append(f"ti-run bash with {more}: status {status}, {said!r}")
+    faults += script_faults(installed, ti_run)
     for given, wanted in (([], 2), (["--help"], 0), (["--no-such"], 2), (["no-such-program"], 127)):
         status, said = run([ti_run, *given])
         if status != wanted or not said:
@@ -462,10 +624,55 @@ def run_faults(installed):
     return faults
 
 
+PRELOADED = b"""#include <stdio.h>
+#include <stdlib.h>
+int main(void) { return puts(getenv("LD_PRELOAD")) < 0; }
+"""
+
+
+def preload_faults(installed, wanted):
+    """What a program without shared libraries, which loads nothing, is told to load."""
+    program = os.path.join(installed, "preloaded")
+    status, _ = run([library.compiler(), "-static", "-x", "c", "-", "-o", program], input=PRELOADED)
+    if status:
+        return []
+    status, said = run([os.path.join(installed, "bin", "ti-run"), program], env=environment())
+    os.remove(program)
+    return [] if said == f"{wanted}\n" else [f"ti-run has {said!r} loaded, status {status}, and not {wanted}"]
+
+
+SCRIPT = """#!/bin/sh
+echo "preloaded ${LD_PRELOAD-no} ${LD_LIBRARY_PATH-no} ${LD_BIND_NOW-no} ${TI_RUN-no}"
+bash -c 'grep -o "[^ ]*/libtinfo.so.6.*" /proc/$$/maps | sort -u'
+for program in clear tput nano dialog htop; do command -v $program >/dev/null && $program -V >/dev/null 2>&1; done
+tput setaf 3 && clear
+"""
+
+
+def script_faults(installed, ti_run):
+    """A script of sh on ti-run: its programs are as without it."""
+    if not shutil.which("tput"):
+        return []
+    script, faults = os.path.join(installed, "script.sh"), []
+    with open(script, "w", encoding="utf-8") as file:
+        file.write(SCRIPT)
+    os.chmod(script, 0o755)
+    plain = environment(None, TERM="xterm-256color")
+    # a library that is there already, as fakeroot's is, stays
+    for more in ({}, {"LD_PRELOAD": "libm.so.6", "LD_LIBRARY_PATH": "/none"}):
+        for words in ([script], ["sh", script], ["env", script]):
+            told = [run(start + words, env={**plain, **more}) for start in ([ti_run], [])]
+            if told[0] != told[1] or "libtinfo" not in told[0][1]:
+                faults.append(f"ti-run {words} with {more}: {told[0]}, and without it {told[1]}")
+    os.remove(script)
+    return faults
+
+
 CASES = {
     "symbols": check_symbols, "answers": check_answers, "sanitizers": check_sanitizers, "errors": check_errors,
-    "directories": check_directories, "damaged": check_damaged, "memory": check_memory, "curses": check_curses,
-    "install": check_install,
+    "directories": check_directories, "modes": check_modes, "formats": check_formats, "damaged": check_damaged,
+    "memory": check_memory, "internals": check_internals, "curses": check_curses, "reached": check_reached,
+    "objects": check_objects, "tools": lambda room: tools.faults(room), "install": check_install,
 }
 
 
@@ -501,6 +708,8 @@ def main():
         room = Room(directory)
         room.make()
         wanted = sys.argv[1:] or [*CASES, *screens.PROGRAMS]
+        if wanted == ["--table"]:
+            wanted = ["objects", "reached"]
         for name in wanted:
             if name in CASES:
                 check_case(room, tally, name)

@@ -3,6 +3,7 @@ over libti: the same keys are pressed, and the screens after each key are compar
 that the program wrote if these are the same each time with ncurses's."""
 
 import fcntl
+import glob
 import os
 import re
 import shutil
@@ -46,12 +47,33 @@ PROGRAMS = {
         "emacs -Q -nw notes.txt",
         ["C-n", "C-e", "M-b", "C-v", "M-<", "C-s", "line 9", "C-g", "C-x", "C-c"],
     ),
+    "minicom": (
+        "minicom -s",
+        ["Down", "Down", "Enter", "A", "C-u", "/dev/none", "Enter", "Enter", "Up", "Enter", "Escape", "Down", "Escape"],
+    ),
+    "w3m": ("w3m notes.txt", ["Space", "j", "l", "/line 3", "Enter", "n", "b", "G", "q", "y"]),
+    "mg": ("mg -n notes.txt", ["C-n", "C-e", "M-b", "C-v", "M-<", "C-s", "line 9", "C-g", "C-x", "C-c"]),
+    "tcsh": (
+        "tcsh -f -i",
+        ["echo hello", "Enter", "Up", "C-a", "Right", "x", "C-k", "C-u", "ls /etc/ter", "Tab", "C-u", "C-l", "exit",
+         "Enter"],
+    ),
+    "joe": ("joe -asis -nobackups notes.txt", ["C-n", "C-e", "PageDown", "xyz", "C-k", "h", "C-c", "y"]),
 }
-# in how many seconds a program begins, on a machine that has much else to do
-START = 60
+# in how many seconds a program begins, and in how many all that it wrote is recorded, on a machine
+# that has much else to do
+START = 120
+# for how many seconds the screens have to be quiet: longer ones count if something differs
+QUIET = (0.15, 0.6, 2, 5)
 # how many times longer than a screen has to be quiet it may take to be like the others
 PATIENCE = 30
-TMUX_CONF = "set -g status-right ''\nset -g status-interval 0\nset -g default-terminal screen-256color\n"
+# what the shell around a program writes when that has ended
+ENDED = "ended"
+TMUX_CONF = """set -g status-right ''
+set -g status-interval 0
+set -g default-terminal screen-256color
+set -g automatic-rename off
+"""
 
 
 class Screen:
@@ -59,6 +81,15 @@ class Screen:
 
     def __init__(self, command, term, start):
         self.directory = tempfile.mkdtemp(prefix="ti-tinfo-")
+        self.tmux = ["tmux", "-S", self.path("outer"), "-f", "/dev/null"]
+        try:
+            self.begin(command, term, start)
+        except (OSError, subprocess.SubprocessError):
+            self.close()
+            raise
+
+    def begin(self, command, term, start):
+        """Begins the program once all that it writes is recorded."""
         # directories of the same name, since programs show them
         here = os.path.join(self.directory, "here")
         os.mkdir(here)
@@ -72,12 +103,11 @@ class Screen:
         words = " ".join(f"{name}='{value}'" for name, value in variables.items())
         # a shell waits for the program, since tmux may not see that a pane's own process has ended
         started = self.write("program.sh", f"echo $$ >{self.path('process')}\nexec env -i {words} {start} {command}\n")
-        # what the program writes is recorded before it begins
-        main = self.write("main.sh", f"read begin\nstty sane\nsh {started}\necho ended\nread end\n")
-        self.tmux = ["tmux", "-S", self.path("outer"), "-f", "/dev/null"]
+        main = self.write("main.sh", f"read begin\nstty sane\nsh {started}\necho {ENDED}\nread end\n")
         self.run("new-session", "-d", "-x", "80", "-y", "24", "-c", here, f"exec sh {main}")
         self.run("pipe-pane", "-o", f"exec cat >>{self.path('written')}")
         self.terminal = self.run("display-message", "-p", "#{pane_tty}").decode().strip()
+        self.device = os.stat(self.terminal).st_rdev
         self.run("send-keys", "Enter")
 
     def path(self, name):
@@ -94,8 +124,7 @@ class Screen:
 
     def capture(self):
         """What is on the screen, with colours and attributes, and where the cursor is."""
-        shown = self.run("capture-pane", "-p", "-e")
-        return shown + self.run("display-message", "-p", "#{cursor_x},#{cursor_y}")
+        return self.run("capture-pane", "-p", "-e", ";", "display-message", "-p", "#{cursor_x},#{cursor_y}")
 
     def waits(self):
         """Whether there are keys that the program has not read yet."""
@@ -129,18 +158,40 @@ class Screen:
                 return found
         return set()
 
-    def bytes_written(self):
-        with open(self.path("written"), "rb") as file:
-            return file.read().replace(self.directory.encode(), b"")
+    def bytes_written(self, has_ended):
+        """What is recorded; of a program that has ended, all up to that, once it is."""
+        end = time.monotonic() + START
+        while True:
+            with open(self.path("written"), "rb") as file:
+                written = file.read().replace(self.directory.encode(), b"")
+            before, ended, _ = written.rpartition(f"{ENDED}\r\n".encode())
+            if ended or not has_ended or time.monotonic() > end:
+                return before if ended else written
+            time.sleep(0.03)
 
     def close(self):
         subprocess.run([*self.tmux, "kill-server"], stderr=subprocess.DEVNULL, check=False)
         shutil.rmtree(self.directory, ignore_errors=True)
 
 
+def busy_terminals():
+    """The devices of the terminals in which something runs or waits to run, which a busy machine
+    puts off."""
+    found = set()
+    for path in glob.glob("/proc/[0-9]*/stat"):
+        try:
+            # after the name of the program, which may have spaces: the state, .., the terminal
+            state, _, _, _, device = text_of(path).rpartition(") ")[2].split()[:5]
+        except (OSError, ValueError):
+            continue
+        if state in "RD":
+            found.add(int(device))
+    return found
+
+
 def settled(screens, quiet):
-    """What is on each of these screens once all are alike and none has changed for `quiet` seconds;
-    or what is there when PATIENCE times as long has gone by."""
+    """What is on each of these screens once all are alike, none has changed for `quiet` seconds, and
+    nothing runs in their terminals; or what is there when PATIENCE times as long has gone by."""
     last, since = None, time.monotonic()
     end = since + PATIENCE * quiet
     while time.monotonic() < end:
@@ -148,17 +199,20 @@ def settled(screens, quiet):
         if shown != last or any(screen.waits() for screen in screens):
             last, since = shown, time.monotonic()
         elif len(set(shown)) == 1 and time.monotonic() - since > quiet:
-            break
+            busy = busy_terminals()
+            if not any(screen.device in busy for screen in screens):
+                break
+            since = time.monotonic()
         time.sleep(0.03)
     return last
 
 
 def difference(name, term, key, shown):
     """What differs between the screens after a key, the first with libti, or None."""
-    for other in shown[1:]:
-        if other != shown[0]:
-            return f"{name} on {term}, {key}:\n{shown[0].decode()}\n--- and with ncurses's\n{other.decode()}"
-    return None
+    first, *others = (screen.decode() for screen in shown)
+    if others[0] != others[1]:
+        return f"{name} on {term}, {key}: with ncurses's\n{others[0]}\n--- and again\n{others[1]}"
+    return None if first == others[0] else f"{name} on {term}, {key}:\n{first}\n--- and with ncurses's\n{others[0]}"
 
 
 class Run:
@@ -181,7 +235,8 @@ class Run:
                 self.wrong = difference(name, term, key, shown)
                 if self.wrong:
                     break
-            self.written = [screen.bytes_written() for screen in screens]
+            has_ended = not self.wrong and ENDED.encode() in self.shown[-1]
+            self.written = [screen.bytes_written(has_ended) for screen in screens]
         finally:
             for screen in screens:
                 screen.close()
@@ -192,7 +247,7 @@ def compare(name, term, room, command=None):
     whether its bytes were compared. They are if those of each library are the same in all runs; more
     time is given if something differs."""
     ours, theirs = set(), set()
-    for quiet in (0.15, 0.6, 2):
+    for quiet in QUIET:
         ran = Run(name, command or PROGRAMS[name][0], term, room, quiet)
         ours.add(ran.written[0])
         theirs.update(ran.written[1:])
