@@ -17,6 +17,11 @@ SOURCES = {
     "xterm": ("xterm", "*/terminfo", {}),
     "ncurses": ("ncurses", "*/misc/terminfo.src", {}),
 }
+# how many hints of each code are on a source as this release has it: docs/EDITORS.md says on what
+HINTS_RELEASE = "bookworm"
+HINTS = {
+    "foot": {}, "dvtm": {"N4": 1}, "rxvt-unicode": {}, "kitty": {}, "xterm": {}, "ncurses": {"N2": 5, "N7": 7},
+}
 LISTS = ("/etc/apt/sources.list.d/debian.sources", "/etc/apt/sources.list")
 
 

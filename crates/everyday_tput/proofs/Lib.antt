@@ -1,4 +1,12 @@
 -- Lemmas of this crate.
-pub mod Answered
+pub mod Digits
+pub mod Holding
+pub mod InOrder
 pub mod Lines
-pub mod WithoutExtension
+pub mod Moved
+pub mod Needed
+pub mod Parts
+pub mod Progress
+pub mod Saturating
+pub mod Sending
+pub mod Steps

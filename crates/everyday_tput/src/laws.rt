@@ -1,8 +1,17 @@
-//! A law of the definitions on which the contracts of this crate depend. It computes nothing.
-ghost use Rattle.everyday_tput.specs.Answers.{TablesNeedNoExtension};
+//! Laws of the definitions on which the contracts of this crate depend. They compute nothing.
+ghost use Rattle.everyday_tput.specs.Answers.{FullTarget};
+ghost use Rattle.everyday_tput.specs.Laws.{TablesNeedNoExtension};
+ghost use Rattle.everyday_tput.specs.Running.{OneAfterAnother};
+ghost use Rattle.everyday_tput.specs.declared.running.Until.{Until};
 
-/// The answer to a command of which [`needs_extension`](crate::needs_extension) says no is the same
-/// whatever user-defined capabilities the entry has.
+/// A name that the tables know takes the same words, and a command of it has the same answer, whatever
+/// user-defined capabilities the entry has; but `clear` may ask for one.
 pub fn tables_need_no_extension()
     ensures { TablesNeedNoExtension }
+{}
+
+/// The output of commands is that of the first ones and then that of the others, unless the first
+/// ones stop.
+pub fn one_after_another()
+    ensures { (t : FullTarget) (until : Until) → OneAfterAnother t until }
 {}

@@ -1,10 +1,11 @@
 //! A terminal that takes commands line by line, and writes their output.
-ghost use Rattle.std.specs.Prelude.{◌≡◌, ℕ, IfOk};
-ghost use Rattle.tools_tput.specs.Runs.{RunState, lines_start, run_status};
-ghost use Rattle.everyday_tput.specs.Answers.{FullEntry, full_entry};
+ghost use Rattle.std.specs.Prelude.{◌≡◌, IfOk};
+ghost use Rattle.everyday_tput.specs.Answers.{target_of};
+ghost use Rattle.everyday_tput.specs.Runs.{RunState, ended_status, lines_start};
 
-use crate::commands::{BAD_COMMAND, answer};
-use crate::entry::Entry;
+use crate::running::{Until, run};
+use crate::strings::BAD_COMMAND;
+use crate::target::Target;
 use crate::words::split_words;
 use std::alloc::{AllocError, Global};
 use std::io::Write;
@@ -12,78 +13,80 @@ use ti_param::{Line, Statics};
 use tools_devices::{Counted, Interpreter, ToolError, write_out};
 use tools_tput::terminal_line;
 
-/// A terminal that takes commands: its entry, rate and line, the static variables, and how many
-/// commands were bad, up to 255.
+/// A terminal that takes commands: what they are for, the static variables, how many commands were
+/// absent or false, up to 255, and the name at which it has stopped.
 #[derive(Drop)]
 pub struct Terminal<'a> {
     alloc: Global,
-    entry: Entry<'a>,
-    rate: u32,
+    target: Target<'a>,
     line: Line,
     statics: Statics,
-    bad: u8,
+    absent: u8,
+    ended: Option<Vec<u8>>,
 }
 
 impl<'a> Terminal<'a> {
+    ghost use Rattle.everyday_tput.specs.Answers.{FullTarget};
     ghost use Rattle.everyday_tput.specs.inside.Terminal.{HasRunState, LeadsTo};
 
-    /// The terminal of an entry at a rate, before any command.
-    pub fn new(alloc: Global, entry: &Entry<'a>, rate: u32) -> Terminal<'a>
-        ensures { HasRunState (full_entry entry.now) rate result lines_start }
+    /// The terminal before any command.
+    pub fn new(alloc: Global, target: &Target<'a>) -> Terminal<'a>
+        ensures { HasRunState (target_of target.now) result lines_start }
     {
         Terminal {
             alloc,
-            entry: *entry,
-            rate,
-            line: terminal_line(&entry.view, rate),
+            target: *target,
+            line: terminal_line(&target.entry.view, target.rate),
             statics: Statics::new(),
-            bad: 0,
+            absent: 0,
+            ended: None,
         }
     }
 
-    // What a line writes. A bad line is counted, writes nothing, and leaves the variables.
+    // What a line writes.
     fn bytes_of(&mut self, line: &[u8]) -> Result<Vec<u8>, AllocError>
-        ensures { (e : FullEntry) (rate : ℕ) (state : RunState) → HasRunState e rate self.old state
-            → IfOk result (λ bytes. LeadsTo e rate state line.now self.new bytes.items) }
+        ensures { (t : FullTarget) (state : RunState) → HasRunState t self.old state → IfOk result (λ bytes. LeadsTo t state line.now self.new bytes.items) }
     {
-        let words = split_words(self.alloc, line)?;
-        if words.is_empty() {
+        if self.ended.is_some() {
             return Ok(Vec::new(self.alloc));
         }
-        let mut after = self.statics;
-        match answer(
+        let words = split_words(self.alloc, line)?;
+        let mut statics = self.statics;
+        let outcome = run(
             self.alloc,
-            &self.entry,
-            self.rate,
+            &self.target,
             &self.line,
+            Until::BadCommand,
             words.as_slice(),
-            &mut after,
-        ) {
-            Ok(outcome) => {
-                if outcome.status == BAD_COMMAND {
-                    self.bad = self.bad.saturating_add(1);
-                    return Ok(Vec::new(self.alloc));
-                }
-                self.statics = after;
-                Ok(outcome.bytes)
-            }
-            Err(ToolError::Usage) => {
-                self.bad = self.bad.saturating_add(1);
-                Ok(Vec::new(self.alloc))
-            }
-            Err(_) => Err(AllocError),
+            &mut statics,
+        )?;
+        if let Some(stop) = outcome.stop {
+            self.ended = Some(Vec::from_slice(self.alloc, stop.name)?);
         }
+        self.statics = statics;
+        self.absent = self.absent.saturating_add(outcome.passed);
+        Ok(outcome.bytes)
     }
 
-    /// The exit status after these commands: 0 if none was bad, else 4 and the number of bad ones,
-    /// at most 255.
+    /// The exit status after these commands: 4 if the terminal has stopped; else 0 if none was absent
+    /// or false, else 4 and their number, at most 255.
     pub fn status(&self) -> u8
-        ensures { (e : FullEntry) (rate : ℕ) (state : RunState) → HasRunState e rate self.now state → result ≡ run_status state.bad }
+        ensures { (t : FullTarget) (state : RunState) → HasRunState t self.now state → result ≡ ended_status state.ended state.absent }
     {
-        if self.bad == 0 {
+        if self.ended.is_some() {
+            return BAD_COMMAND;
+        }
+        if self.absent == 0 {
             return 0;
         }
-        self.bad.saturating_add(BAD_COMMAND)
+        self.absent.saturating_add(BAD_COMMAND)
+    }
+
+    /// The name at which the terminal has stopped.
+    pub fn into_name(self) -> Option<Vec<u8>>
+        ensures { result ≡ self.entry.ended }
+    {
+        self.ended
     }
 }
 

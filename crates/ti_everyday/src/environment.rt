@@ -1,8 +1,9 @@
-//! What the environment says of the terminal and of the directories of entries.
+//! What the environment says of the terminal, of its size and of the directories of entries.
 ghost use Rattle.std.specs.Prelude.{◌≤◌, IfOk, IfSome, length};
 
 use crate::stopping::Stop;
 use everyday_directories::{Environment, entry_directories};
+use everyday_tput::Sources;
 use std::alloc::{AllocError, Global};
 use std::env::{self, FillError, VarError};
 use std::fs;
@@ -12,19 +13,24 @@ use std::str::from_utf8;
 // How much room is made for a variable at first. Few are longer.
 const ROOM: usize = 512;
 
-/// What the variables are set to that say which terminal there is and where entries are.
+/// What the variables are set to that say which terminal there is, how large it is, and where entries
+/// are. Those of the window are set by what is linked to the program in C (window/window.c), which
+/// first removes them.
 #[derive(Drop)]
 pub struct Variables {
     term: Option<Vec<u8>>,
     terminfo: Option<Vec<u8>>,
     home: Option<Vec<u8>>,
     dirs: Option<Vec<u8>>,
+    columns: Option<Vec<u8>>,
+    lines: Option<Vec<u8>>,
+    window_columns: Option<Vec<u8>>,
+    window_lines: Option<Vec<u8>>,
 }
 
 impl Variables {
-    /// Reads `TERM`, `TERMINFO`, `HOME` and `TERMINFO_DIRS` in one walk over the environment. For
-    /// each name that it is asked for, the system's interface clears a buffer of 4,096 bytes, which
-    /// takes longer.
+    /// Reads the variables in one walk over the environment. For each name that it is asked for, the
+    /// system's interface clears a buffer of 4,096 bytes, which takes longer.
     ///
     /// # Errors
     /// Out of memory.
@@ -34,6 +40,10 @@ impl Variables {
             terminfo: None,
             home: None,
             dirs: None,
+            columns: None,
+            lines: None,
+            window_columns: None,
+            window_lines: None,
         };
         let mut buffer = Vec::new(rt.alloc());
         buffer.resize(ROOM, 0)?;
@@ -48,13 +58,43 @@ impl Variables {
 
     // Takes an entry of the environment, if it is the first of a variable that is read.
     fn take(&mut self, alloc: Global, entry: &[u8]) -> Result<(), AllocError> {
-        if !matches!(entry, [b'T' | b'H', ..]) {
-            return Ok(());
+        match entry {
+            [b'T', ..] => self.take_of_terminal(alloc, entry),
+            [b'H', ..] => keep(alloc, &mut self.home, b"HOME=", entry),
+            [b'C', ..] => keep(alloc, &mut self.columns, b"COLUMNS=", entry),
+            [b'L', ..] => keep(alloc, &mut self.lines, b"LINES=", entry),
+            _ => Ok(()),
         }
+    }
+
+    // The same of the variables that begin with `T`.
+    fn take_of_terminal(&mut self, alloc: Global, entry: &[u8]) -> Result<(), AllocError> {
         keep(alloc, &mut self.term, b"TERM=", entry)?;
         keep(alloc, &mut self.terminfo, b"TERMINFO=", entry)?;
-        keep(alloc, &mut self.home, b"HOME=", entry)?;
-        keep(alloc, &mut self.dirs, b"TERMINFO_DIRS=", entry)
+        keep(alloc, &mut self.dirs, b"TERMINFO_DIRS=", entry)?;
+        keep(
+            alloc,
+            &mut self.window_columns,
+            b"TI_WINDOW_COLUMNS=",
+            entry,
+        )?;
+        keep(alloc, &mut self.window_lines, b"TI_WINDOW_LINES=", entry)
+    }
+
+    /// What is said of how many columns there are.
+    pub fn columns(&self) -> Sources<'_> {
+        Sources {
+            variable: self.columns.as_deref(),
+            window: self.window_columns.as_deref(),
+        }
+    }
+
+    /// What is said of how many lines there are.
+    pub fn lines(&self) -> Sources<'_> {
+        Sources {
+            variable: self.lines.as_deref(),
+            window: self.window_lines.as_deref(),
+        }
     }
 
     /// The name of the terminal that `TERM` names, if it is set and not empty.

@@ -5,13 +5,13 @@ use crate::output::print_bytes;
 use crate::stopping::Stop;
 use everyday_directories::read;
 use everyday_entries::{Failure, Found, Tool, capability_line, named_file};
-use everyday_tput::{Entry, needs_extension, tput, tput_lines};
+use everyday_tput::{BAD_COMMAND, Entry, Target, needs_extension, tput, tput_lines};
 use everyday_words::TputRequest;
-use std::io;
+use std::io::{self, Write};
 use std::rt::{Clock, Env, Files};
 use ti_caps::find;
 use tools_devices::{Counted, ToolError};
-use tools_disk::DiskTree;
+use tools_disk::{DiskTree, ErrorStream};
 use user_extension::ExtensionError;
 
 /// Writes to standard output what the words ask of a terminal, or what each line of standard input
@@ -28,11 +28,18 @@ pub fn run<R: Clock + Env + Files + Input + Print + Eprint + AllocGlobal>(
     let name = terminal_name(&variables, request.term.as_deref())?;
     let file = entry_file(rt, &variables, name)?;
     let words = words(rt, request)?;
+    let target = Target {
+        entry: entry(rt, &file, request, words.as_slice())?,
+        is_named: request.term.is_some(),
+        columns: variables.columns(),
+        lines: variables.lines(),
+        rate: request.rate,
+        keeps_scrollback: request.keeps_scrollback,
+    };
     if request.lines {
-        return write_lines(rt, &whole_entry(rt, &file)?, request.rate);
+        return write_lines(rt, &target);
     }
-    let entry = entry(rt, &file, words.as_slice())?;
-    write_command(rt, &entry, words.as_slice(), request)
+    write_commands(rt, &target, words.as_slice())
 }
 
 // The words of the command as bytes.
@@ -46,13 +53,21 @@ fn words<'a, R: AllocGlobal>(rt: &R, request: &'a TputRequest) -> Result<Vec<&'a
     Ok(words)
 }
 
-// The entry of a file, with its user-defined capabilities only if the words may ask for one: there
-// are often as many as there are others.
-fn entry<'a, R: AllocGlobal>(rt: &R, file: &'a Found, words: &[&[u8]]) -> Result<Entry<'a>, Stop> {
-    if needs_extension(words) {
+// The entry of a file, with its user-defined capabilities only if they may be asked for: there are
+// often as many as there are others.
+fn entry<'a, R: AllocGlobal>(
+    rt: &R,
+    file: &'a Found,
+    request: &TputRequest,
+    words: &[&[u8]],
+) -> Result<Entry<'a>, Stop> {
+    if request.lines {
         return whole_entry(rt, file);
     }
     match tools_devices::entry(file.bytes.as_slice()) {
+        Ok(view) if needs_extension(&view, request.keeps_scrollback, words) => {
+            whole_entry(rt, file)
+        }
         Ok(view) => Ok(Entry::of_tables(view)),
         Err(ToolError::BadEntry(why)) => Err(bad_entry(rt, file, ExtensionError::Entry(why))),
         Err(error) => Err(Stop::of(Failure::Stopped(error))),
@@ -101,45 +116,47 @@ fn entry_file<R: Clock + Env + Files + AllocGlobal>(
 }
 
 // Writes what the lines of standard input ask for.
-fn write_lines<R: Input + Print + AllocGlobal>(
+fn write_lines<R: Input + Print + Eprint + AllocGlobal>(
     rt: &R,
-    entry: &Entry<'_>,
-    rate: u32,
+    target: &Target<'_>,
 ) -> Result<u8, Stop> {
     let mut reader = Counted::new(rt.reader());
     let mut writer = Counted::new(io::writer(rt));
-    match tput_lines(rt.alloc(), entry, rate, &mut reader, &mut writer) {
-        Ok(status) => Ok(status),
-        Err(error) => Err(Stop::of(Failure::Stopped(error))),
+    let ending = match tput_lines(rt.alloc(), target, &mut reader, &mut writer) {
+        Ok(ending) => ending,
+        Err(error) => return Err(Stop::of(Failure::Stopped(error))),
+    };
+    if let Some(name) = &ending.name {
+        say_capability(rt, &target.entry, name.as_slice());
     }
+    Ok(ending.status)
 }
 
 // Writes what the words ask for.
-fn write_command<R: Print + Eprint + AllocGlobal>(
+fn write_commands<R: Print + Eprint + AllocGlobal>(
     rt: &R,
-    entry: &Entry<'_>,
+    target: &Target<'_>,
     words: &[&[u8]],
-    request: &TputRequest,
 ) -> Result<u8, Stop> {
-    let outcome = match tput(rt.alloc(), entry, words, request.rate) {
-        Ok(outcome) => outcome,
+    let ending = match tput(rt.alloc(), target, words) {
+        Ok(ending) => ending,
         Err(error) => return Err(Stop::of(Failure::Stopped(error))),
     };
-    print_bytes(rt, outcome.bytes.as_slice())?;
-    if outcome.status == 4 {
-        say_capability(rt, entry, request);
+    print_bytes(rt, ending.bytes.as_slice())?;
+    let Some(stop) = ending.stop else {
+        return Ok(0);
+    };
+    if stop.status == BAD_COMMAND {
+        say_capability(rt, &target.entry, stop.name);
     }
-    Ok(outcome.status)
+    Ok(stop.status)
 }
 
 // Says on standard error that a capability is unknown, or that its string is bad.
-fn say_capability<R: Eprint + AllocGlobal>(rt: &R, entry: &Entry<'_>, request: &TputRequest) {
-    let Some(name) = request.words.first() else {
-        return;
-    };
-    let known = is_known(entry, name.as_bytes());
-    if let Ok(line) = capability_line(rt.alloc(), Tool::Tput, name.as_str(), known) {
-        let _ = rt.eprint(line.as_str());
+fn say_capability<R: Eprint + AllocGlobal>(rt: &R, entry: &Entry<'_>, name: &[u8]) {
+    let known = is_known(entry, name);
+    if let Ok(line) = capability_line(rt.alloc(), Tool::Tput, name, known) {
+        let _ = ErrorStream::new(rt).write_all(line.as_slice());
     }
 }
 

@@ -1,48 +1,37 @@
-use Rattle.std.proofs.Common.{◌≡◌, ◌≢◌, ◌<◌, ◌∙◌, List, ℕ, length, map, Bor, None, Some, refl, rules, sym, subst, arith}
-use Rattle.std.proofs.lemmas.List.{length-map}
-use Rattle.tools_tput.specs.Replies.{reply_of}
-use Rattle.tools_tput.specs.Runs.{words_of}
-use Rattle.everyday_tput.proofs.Lines.{answers_are, line-bad, line-empty, line-good, line_is, status-bad}
+use Rattle.std.proofs.Common.{◌≡◌, ◌∙◌, ◌+◌, List, ℕ, map, Bor, Option, ap, refl, sym}
+use Rattle.std.specs.Prelude.{min, option_map}
+use Rattle.everyday_tput.specs.declared.terminal.Terminal.{Terminal}
+use Rattle.everyday_tput.specs.Runs.{after_the_end, words_of}
+use Rattle.everyday_tput.proofs.Holding.{kept_name, kept_none, leads, no_name, none_kept, some_name}
 use Rattle.everyday_tput.proofs.terminal.Terminal.bytes_of.Goals as goal
+use Rattle.everyday_tput.proofs.terminal.Terminal.bytes_of.Goals.{in-Some+in_ok-from_slice+in-Some-1, in-Some+in_ok-from_slice+in-None-1, in_default}
 
-pub returns-then-is_empty : goal.returns-then-is_empty
-returns-then-is_empty c = λ e rate state holds.
-    let none : length c.in_ok-words.words.items ≡ 0 = search rules in
-    line-empty e rate state c.args.self.now holds c.args.line.now c.new.result.items (map (λ (word : Bor (List ℕ)). word.now) c.in_ok-words.words.items)
-    c.in_ok-words.ensures (length-map c.in_ok-words.words.items (λ (word : Bor (List ℕ)). word.now) ∙ none) c.new.ensures.items
+pub returns-then-is_some : goal.returns-then-is_some
+returns-then-is_some c = λ t state holds.
+    let name = some_name c.args.self.now.ended state.ended (sym c.if-is_some.ensures) holds.ended in
+    (state, rw c.new.ensures.items (after_the_end name.1), holds)
 
-pub returns-then-outcome-eq-BAD_COMMAND : goal.returns-then-outcome-eq-BAD_COMMAND
-returns-then-outcome-eq-BAD_COMMAND c = λ e rate state holds.
-    let t = c.args.self.now in
+pub returns : goal.returns
+returns c = λ t state holds.
+    let old = c.args.self.now in
     let words = map (λ (word : Bor (List ℕ)). word.now) c.as_slice.result.now in
-    let few : 0 < length c.as_slice.result.now = search rules in
-    let some : 0 < length words = omega (arith, length-map c.as_slice.result.now (λ (word : Bor (List ℕ)). word.now)) in
     let are : words ≡ words_of c.args.line.now = rw c.as_slice.ensures.value c.in_ok-words.ensures in
-    let r = reply_of c.in-Ok.outcome c.answer.new.statics in
-    let is = answers_are e rate state t holds words (Some r) (c.in-Ok.ensures.answer (line_is e rate state t holds)) in
-    line-bad e rate state t holds c.args.line.now c.new-then-outcome-eq-BAD_COMMAND.result.items words are _ some refl refl refl (Some r)
-    (status-bad e rate state t holds c.args.line.now c.new-then-outcome-eq-BAD_COMMAND.result.items words are t some refl refl refl r (search rules))
-    is refl c.saturating_add-self.ensures c.new-then-outcome-eq-BAD_COMMAND.ensures.items
-
-pub returns-in-Ok : goal.returns-in-Ok
-returns-in-Ok c = λ e rate state holds.
-    let t = c.args.self.now in
-    let words = map (λ (word : Bor (List ℕ)). word.now) c.as_slice.result.now in
-    let few : 0 < length c.as_slice.result.now = search rules in
-    let some : 0 < length words = omega (arith, length-map c.as_slice.result.now (λ (word : Bor (List ℕ)). word.now)) in
-    let are : words ≡ words_of c.args.line.now = rw c.as_slice.ensures.value c.in_ok-words.ensures in
-    let r = reply_of c.in-Ok.outcome c.answer.new.statics in
-    let is = answers_are e rate state t holds words (Some r) (c.in-Ok.ensures.answer (line_is e rate state t holds)) in
-    let other : c.in-Ok.outcome.status ≢ 4 = search rules in
-    line-good e rate state t holds c.args.line.now c.in-Ok.outcome.bytes.items words are _ some refl refl refl r other is refl refl refl
-
-pub returns-in-Err-Usage : goal.returns-in-Err-Usage
-returns-in-Err-Usage c = λ e rate state holds.
-    let t = c.args.self.now in
-    let words = map (λ (word : Bor (List ℕ)). word.now) c.as_slice.result.now in
-    let few : 0 < length c.as_slice.result.now = search rules in
-    let some : 0 < length words = omega (arith, length-map c.as_slice.result.now (λ (word : Bor (List ℕ)). word.now)) in
-    let are : words ≡ words_of c.args.line.now = rw c.as_slice.ensures.value c.in_ok-words.ensures in
-    let is = answers_are e rate state t holds words None (rw c.in-Err-Usage.field-0-is at (c.in-Err-Usage.ensures.answer (line_is e rate state t holds))) in
-    line-bad e rate state t holds c.args.line.now c.new-in-Err-Usage.result.items words are _ some refl refl refl None refl is refl
-    c.saturating_add-self-in-Err-Usage.ensures c.new-in-Err-Usage.ensures.items
+    let ran = c.in_ok-outcome.ensures holds.of_line in
+    let none = no_name old.ended state.ended (sym c.if-is_some.ensures) holds.ended in
+    let u = c.match-outcome.self in
+    let outcome = c.in_ok-outcome.outcome in
+    let left : Terminal = record { alloc = u.alloc; target = u.target; line = u.line; statics = c.run.new.statics; absent = c.saturating_add-self.result; ended = u.ended } in
+    let by = leads t state old holds none c.args.line.now words are c.run.new.statics outcome ran left in
+    let names : Terminal → Option (List ℕ) = λ x. option_map (λ name. name.items) x.ended in
+    let counts : Terminal → ℕ = λ x. min (x.absent + outcome.passed) 255 in
+    elim c.match-outcome.branch [
+      | in-Some+in_ok-from_slice+in-Some-1 w ↦ by (ap (λ (x : Terminal). x.target) w.self-is) (ap (λ (x : Terminal). x.line) w.self-is) refl
+          (c.saturating_add-self.ensures ∙ ap counts w.self-is)
+          (ap names w.self-is ∙ kept_name ran.run outcome w.in-Some.stop w.in_ok-from_slice.field-0 ran.stop w.in-Some.is w.in_ok-from_slice.ensures.items)
+      | in-Some+in_ok-from_slice+in-None-1 w ↦ by (ap (λ (x : Terminal). x.target) w.self-is) (ap (λ (x : Terminal). x.line) w.self-is) refl
+          (c.saturating_add-self.ensures ∙ ap counts w.self-is)
+          (ap names w.self-is ∙ kept_name ran.run outcome w.in-Some.stop w.in_ok-from_slice.field-0 ran.stop w.in-Some.is w.in_ok-from_slice.ensures.items)
+      | in_default w ↦ by (ap (λ (x : Terminal). x.target) w.self-is) (ap (λ (x : Terminal). x.line) w.self-is) refl
+          (c.saturating_add-self.ensures ∙ ap counts w.self-is)
+          (ap names w.self-is ∙ kept_none ran.run outcome old.ended ran.stop w.in_default.is (none_kept old.ended (sym c.if-is_some.ensures)))
+    ]

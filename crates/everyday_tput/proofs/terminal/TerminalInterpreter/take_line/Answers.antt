@@ -1,14 +1,13 @@
 use Rattle.std.proofs.Common.{inl, refl}
-use Rattle.everyday_tput.specs.Runs.{state_at}
 use Rattle.everyday_tput.proofs.terminal.TerminalInterpreter.take_line.Goals as goal
 
 pub returns : goal.returns
 returns g c = λ s held.
-    let done = c.in_ok-bytes.ensures s.entry s.rate s.run held in
+    let done = c.in_ok-bytes.ensures s.target s.run held in
     inl (record {
-      next = state_at s.entry s.rate done.0.after;
-      reply = done.0.bytes;
-      leads = (done.0, done.1, refl, refl);
+      next = record { target = s.target; run = done.0 };
+      reply = c.in_ok-bytes.bytes.items;
+      leads = (refl, done.1);
       holds = done.2;
-      wrote = rw (c.as_slice.ensures.value, done.3) at c.write_out.ensures;
+      wrote = rw c.as_slice.ensures.value at c.write_out.ensures;
     })

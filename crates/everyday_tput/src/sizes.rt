@@ -1,0 +1,96 @@
+//! How many columns and lines there are, by the environment, the window and the entry.
+ghost use Rattle.std.specs.Prelude.{◌≡◌, option_and_then, option_map};
+ghost use Rattle.ti_layout.specs.View.{entry_seen, shown_number};
+ghost use Rattle.tools_tput.specs.Entries.{content_named};
+ghost use Rattle.everyday_tput.specs.Numbers.{size_in};
+ghost use Rattle.everyday_tput.specs.Sizes.{column_count, line_count, over_zero, size_by, sources_of};
+
+use crate::numbers::size_in;
+use ti_caps::find;
+use ti_layout::{Content, View};
+
+// How many columns there are if nothing says it.
+const USUAL_COLUMNS: u32 = 80;
+
+// How many lines there are if nothing says it.
+const USUAL_LINES: u32 = 24;
+
+/// What is said outside an entry of how many columns, or lines, there are.
+#[derive(Clone, Copy)]
+pub struct Sources<'a> {
+    /// The value of the variable `COLUMNS`, or `LINES`, if it is set.
+    pub variable: Option<&'a [u8]>,
+    /// The number of the window in decimal digits, if there is a window.
+    pub window: Option<&'a [u8]>,
+}
+
+impl<'a> Sources<'a> {
+    /// Nothing is said.
+    pub fn none() -> Sources<'a>
+        ensures variable { result.variable ≡ None }
+        ensures window { result.window ≡ None }
+    {
+        Sources {
+            variable: None,
+            window: None,
+        }
+    }
+}
+
+// The size that a value says, if there is one.
+fn said(value: Option<&[u8]>) -> Option<u32>
+    ensures { result ≡ option_and_then size_in (option_map (λ text. text.now) value.entry) }
+{
+    size_in(value?)
+}
+
+// The number that an entry has of the capability of a name.
+#[tactic(auto, unfolding(tools_tput::specs::Entries::content_named))]
+fn inherent(view: &View<'_>, name: &[u8]) -> Option<u32>
+    ensures { result ≡ shown_number (content_named (entry_seen view.now) name.now) }
+{
+    match view.get(find(name)?) {
+        Some(Content::Number(number)) => Some(number),
+        _ => None,
+    }
+}
+
+// A number, if it is over 0.
+fn over_zero(number: Option<u32>) -> Option<u32>
+    ensures { result ≡ over_zero number }
+{
+    match number {
+        Some(number) if 0 < number => Some(number),
+        _ => None,
+    }
+}
+
+// The size: that of the variable, unless the terminal is named by `-T`; else that of the window;
+// else that of the entry, if it is over 0; else the usual one.
+fn size(is_named: bool, sources: &Sources<'_>, inherent: Option<u32>, usual: u32) -> u32
+    ensures { result ≡ size_by is_named (sources_of sources.now) inherent usual }
+{
+    let variable = if is_named {
+        None
+    } else {
+        said(sources.variable)
+    };
+    let outside = variable.or(said(sources.window));
+    outside.or(over_zero(inherent)).unwrap_or(usual)
+}
+
+/// How many columns there are: by the variable `COLUMNS`, unless the terminal is named by `-T`; by the
+/// window; by the entry; else 80.
+pub(crate) fn column_count(is_named: bool, sources: &Sources<'_>, view: &View<'_>) -> u32
+    ensures { result ≡ column_count is_named (sources_of sources.now) (entry_seen view.now) }
+{
+    size(is_named, sources, inherent(view, b"cols"), USUAL_COLUMNS)
+}
+
+/// How many lines there are: by the variable `LINES`, unless the terminal is named by `-T`; by the
+/// window; by the entry; else 24.
+pub(crate) fn line_count(is_named: bool, sources: &Sources<'_>, view: &View<'_>) -> u32
+    ensures { result ≡ line_count is_named (sources_of sources.now) (entry_seen view.now) }
+{
+    size(is_named, sources, inherent(view, b"lines"), USUAL_LINES)
+}
