@@ -16,6 +16,7 @@ mod scripts;
 mod strings;
 mod tools;
 mod user_defined;
+mod user_edits;
 
 use dev_tried_edits::{Tried, Trouble};
 use scenarios::Scenario;

@@ -1,5 +1,5 @@
 //! The scenarios, and their names.
-use crate::{calls, entries, listings, scripts, strings, tools, user_defined};
+use crate::{calls, entries, listings, scripts, strings, tools, user_defined, user_edits};
 use dev_tried_edits::blocks::{circular_edits, insertions, moved_names, moves, owners, three};
 use dev_tried_edits::many::Many;
 use dev_tried_edits::{Tried, Trouble, edits, many, wholes};
@@ -37,6 +37,7 @@ pub enum Scenario {
     Session,
     UserDefined,
     UserDefinedListings,
+    UserDefinedEdits,
     ManyAlone,
     ManyReplace,
     ManyInsert,
@@ -46,7 +47,7 @@ pub enum Scenario {
 
 impl Scenario {
     /// All of them, each with the word that names it.
-    pub const ALL: [(Scenario, &'static str); 34] = [
+    pub const ALL: [(Scenario, &'static str); 35] = [
         (Scenario::Three, "edits-of-three-blocks"),
         (Scenario::Circular, "edits-of-circular-uses"),
         (Scenario::Owners, "edits-of-owners"),
@@ -76,6 +77,7 @@ impl Scenario {
         (Scenario::Session, "session"),
         (Scenario::UserDefined, "user-defined"),
         (Scenario::UserDefinedListings, "user-defined-listings"),
+        (Scenario::UserDefinedEdits, "user-defined-edits"),
         (Scenario::ManyAlone, "many-blocks"),
         (Scenario::ManyReplace, "many-blocks-one-replaced"),
         (Scenario::ManyInsert, "many-blocks-one-inserted"),
@@ -118,6 +120,7 @@ impl Scenario {
             Scenario::Session => scripts::session_script(alloc),
             Scenario::UserDefined => user_defined::source(alloc),
             Scenario::UserDefinedListings => user_defined::listings(alloc),
+            Scenario::UserDefinedEdits => user_edits::edits(alloc),
             Scenario::ManyAlone => many::edit(alloc, Many::None),
             Scenario::ManyReplace => many::edit(alloc, Many::Replace),
             Scenario::ManyInsert => many::edit(alloc, Many::Insert),

@@ -1,8 +1,8 @@
 -- The directories in which a terminal's entry is looked for (term(5), "Storage location"; their
 -- order is that of ncurses on Debian, as it was tried).
 use Rattle.std.specs.Prelude.{◌≡◌, ◌≤◌, ℕ, ◌==◌, Bool, not, if◌then◌else◌, Option, Some, None, option_map}
-use Rattle.std.specs.Prelude.{List, [], ◌∷◌, ◌++◌, codes, count_by, filter, length}
-use Rattle.std.specs.List.{flat_map, list_any, slice_split}
+use Rattle.std.specs.Prelude.{List, [], ◌∷◌, ◌++◌, codes, count_by, filter, length, map}
+use Rattle.std.specs.List.{list_any, slice_split}
 use Rattle.std.specs.Str.{bytes_eq}
 use Rattle.ti_text.specs.Ascii as ascii
 use Rattle.tools_devices.specs.Searching.{own_directory}
@@ -24,9 +24,13 @@ variables_of environment = record {
 
 -- ---- those that are named
 
+-- the directory into which who runs the machine puts entries
+abbrev pub local_directory : List ℕ
+local_directory = codes "/etc/terminfo"
+
 -- the directories of the system's entries
 abbrev pub system_directories : List (List ℕ)
-system_directories = codes "/etc/terminfo" ∷ codes "/lib/terminfo" ∷ codes "/usr/share/terminfo" ∷ []
+system_directories = local_directory ∷ codes "/lib/terminfo" ∷ codes "/usr/share/terminfo" ∷ []
 
 -- where a user's own entries are
 abbrev pub home_directory_of : List ℕ → List ℕ
@@ -38,13 +42,13 @@ home_directory None = []
 home_directory (Some []) = []
 home_directory (Some (byte ∷ bytes)) = home_directory_of (byte ∷ bytes) ∷ []
 
--- what a part of TERMINFO_DIRS names: an empty part names the system's directories
-abbrev pub directories_of_part : List ℕ → List (List ℕ)
-directories_of_part part = if length part == 0 then system_directories else part ∷ []
+-- the directory that a part of TERMINFO_DIRS names: an empty part names the first of the system's
+abbrev pub directory_of_part : List ℕ → List ℕ
+directory_of_part part = if length part == 0 then local_directory else part
 
--- what TERMINFO_DIRS names: its parts between colons
+-- the directories that TERMINFO_DIRS names: its parts between colons
 abbrev pub listed_directories : List ℕ → List (List ℕ)
-listed_directories dirs = flat_map directories_of_part (slice_split (λ byte. byte == ascii.colon) dirs)
+listed_directories dirs = map directory_of_part (slice_split (λ byte. byte == ascii.colon) dirs)
 
 -- the same, if it is set
 abbrev pub listed_if_set : Option (List ℕ) → List (List ℕ)

@@ -3,7 +3,6 @@
 use Rattle.std.specs.Prelude.{◌≡◌, ◌⊎◌, ℕ, suc, ◌≤◌, ◌<◌, List, length, take, Result, Ok, Err}
 use Rattle.ti_layout.specs.Reading.{Reads}
 use Rattle.ti_layout.specs.View.{entry_seen, names_of, view_contents}
-use Rattle.ti_layout.specs.Values.{Contents}
 use Rattle.ti_layout.specs.declared.fault.ReadError.TheVariants.{Counts}
 use Rattle.ti_layout.specs.declared.view.View.{View}
 use Rattle.tools_devices.specs.Searching as profile

@@ -4,7 +4,7 @@ ghost use Rattle.std.specs.List.{list_any, slice_split};
 ghost use Rattle.std.specs.Str.{bytes_eq};
 ghost use Rattle.std.specs.String.{string_bytes};
 ghost use Rattle.ti_text.specs.Ascii as ascii;
-ghost use Rattle.everyday_directories.specs.Directories.{directories_of, directories_of_part, each_once, home_directory_of, listed_directories, named_directories, system_directories, variables_of};
+ghost use Rattle.everyday_directories.specs.Directories.{directories_of, directory_of_part, each_once, home_directory_of, listed_directories, named_directories, system_directories, variables_of};
 
 use crate::environment::Environment;
 use std::alloc::{AllocError, Global};
@@ -52,12 +52,13 @@ fn add_home(alloc: Global, directories: &mut Vec<String>, home: &str) -> Result<
     Ok(())
 }
 
-// Adds what a part of TERMINFO_DIRS names; an empty part names the system's directories.
+// Adds the directory that a part of TERMINFO_DIRS names; an empty part names the first of the
+// system's.
 fn add_part(alloc: Global, directories: &mut Vec<String>, part: &str) -> Result<(), AllocError>
-    ensures { OnOk result (map string_bytes directories.new.items ≡ map string_bytes directories.old.items ++ directories_of_part part.now) }
+    ensures { OnOk result (map string_bytes directories.new.items ≡ map string_bytes directories.old.items ++ directory_of_part part.now ∷ []) }
 {
     if part.is_empty() {
-        return add_system(alloc, directories);
+        return add_directory(alloc, directories, LOCAL_DIRECTORY);
     }
     add_directory(alloc, directories, part)
 }
@@ -69,7 +70,7 @@ fn parts(alloc: Global, dirs: &str) -> Result<Vec<&str>, AllocError>
     dirs.split(':').collect(alloc)
 }
 
-// Adds what TERMINFO_DIRS names.
+// Adds the directories that TERMINFO_DIRS names.
 fn add_listed(alloc: Global, directories: &mut Vec<String>, dirs: &str) -> Result<(), AllocError>
     ensures { OnOk result (map string_bytes directories.new.items ≡ map string_bytes directories.old.items ++ listed_directories dirs.now) }
 {
@@ -124,7 +125,7 @@ fn each_once(alloc: Global, named: &[String]) -> Result<Vec<String>, AllocError>
 
 /// The directories in which an entry is looked for, in order: `TERMINFO` if it is not empty;
 /// `.terminfo` below `HOME` if that is not empty; the parts of `TERMINFO_DIRS` between colons, an
-/// empty part being the system's directories; and these, `/etc/terminfo`, `/lib/terminfo` and
+/// empty part being `/etc/terminfo`; and the system's, `/etc/terminfo`, `/lib/terminfo` and
 /// `/usr/share/terminfo`. Each is there once, at the first place that names it. See term(5),
 /// "Storage location".
 ///

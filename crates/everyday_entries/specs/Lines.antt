@@ -56,12 +56,12 @@ line_of tool failure reason = shown_name tool ++ codes ": " ++ failure_text fail
 
 -- what is said before a capability that is unknown, or, if it is known, whose string is bad
 abbrev pub capability_head : Bool → List ℕ
-capability_head true = codes ": bad string \""
-capability_head false = codes ": unknown terminfo capability \""
+capability_head true = codes ": bad string '"
+capability_head false = codes ": unknown terminfo capability '"
 
 -- the line of such a capability
 abbrev pub capability_line : Tool → List ℕ → Bool → List ℕ
-capability_line tool capability known = shown_name tool ++ capability_head known ++ capability ++ codes "\"\n"
+capability_line tool capability known = shown_name tool ++ capability_head known ++ capability ++ codes "'\n"
 
 -- the status: 2 if no terminal is named, and at bad usage; else 1, but of `ti-tput` 3 if there is no
 -- entry to be had, and 255 at a fault of a device

@@ -10,6 +10,12 @@ use ti_layout::ReadError;
 use tools_devices::ToolError;
 use user_extension::ExtensionError;
 
+// What is said before a capability whose string is bad.
+const BAD_STRING: &[u8] = b": bad string '";
+
+// What is said before a capability that is unknown.
+const UNKNOWN: &[u8] = b": unknown terminfo capability '";
+
 // The name of a refusal of an entry.
 fn refusal_name(why: ExtensionError) -> &'static str
     ensures { result.now ≡ refusal_name why }
@@ -104,16 +110,17 @@ pub fn line(
 pub fn capability_line(
     alloc: Global,
     tool: Tool,
-    capability: &str,
+    capability: &[u8],
     known: bool,
-) -> Result<String, AllocError>
-    ensures { IfOk result (λ line. string_bytes line ≡ capability_line tool capability.now known) }
+) -> Result<Vec<u8>, AllocError>
+    ensures { IfOk result (λ line. line.items ≡ capability_line tool capability.now known) }
 {
-    let name = tool.name();
-    if known {
-        return format!(in alloc; "{name}: bad string \"{capability}\"\n");
-    }
-    format!(in alloc; "{name}: unknown terminfo capability \"{capability}\"\n")
+    let head = if known { BAD_STRING } else { UNKNOWN };
+    let mut line = Vec::from_slice(alloc, tool.name().as_bytes())?;
+    line.extend_from_slice(head)?;
+    line.extend_from_slice(capability)?;
+    line.extend_from_slice(b"'\n")?;
+    Ok(line)
 }
 
 // The status of `ti-tput`.

@@ -1,2 +1,3 @@
 pub mod Formatted
 pub mod Printed
+pub mod LaidOut

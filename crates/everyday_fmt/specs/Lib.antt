@@ -2,3 +2,4 @@
 pub mod Fates
 pub mod Report
 pub mod Tool
+pub mod Laws

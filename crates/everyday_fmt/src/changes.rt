@@ -1,8 +1,8 @@
 //! A source in its layout, if it has another.
 ghost use Rattle.std.specs.Prelude.{◌≡◌, ◌≢◌, IfOk, MatchOption};
-ghost use Rattle.lsp_format.specs.Layout.{formatted_text};
+ghost use Rattle.lsp_format.specs.Sources.{formatted_source};
 
-use lsp_format::formatted;
+use lsp_format::formatted_source;
 use std::alloc::{AllocError, Global};
 
 /// A source in its layout, if it has another.
@@ -14,10 +14,10 @@ pub(crate) fn changed_text(
     width: usize,
     source: &[u8],
 ) -> Result<Option<Vec<u8>>, AllocError>
-    ensures { IfOk result (λ changed. MatchOption changed (formatted_text width source.now ≡ source.now)
-        (λ text. (text.items ≡ formatted_text width source.now) × (formatted_text width source.now ≢ source.now))) }
+    ensures { IfOk result (λ changed. MatchOption changed (formatted_source width source.now ≡ source.now)
+        (λ text. (text.items ≡ formatted_source width source.now) × (formatted_source width source.now ≢ source.now))) }
 {
-    let text = formatted(alloc, width, source)?;
+    let text = formatted_source(alloc, width, source)?;
     if text.as_slice() == source {
         return Ok(None);
     }

@@ -13,10 +13,12 @@
 //! - `files`: what becomes of a file, and of the files in turn
 //! - `report`: the lines about them, and the status
 //! - `tool`: what comes of files (`format_files`), and of standard input (`format_input`)
+//! - `laws`: what formatting promises of a source, of both
 #![tactic(auto)]
 
 mod changes;
 mod files;
+pub mod laws;
 mod options;
 mod reasons;
 mod report;

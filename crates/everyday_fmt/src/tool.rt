@@ -1,16 +1,18 @@
 //! What comes of files, and of standard input.
-ghost use Rattle.std.specs.Prelude.{IfOk, OnErr, map, true};
+ghost use Rattle.std.specs.Prelude.{◌≡◌, IfOk, OnErr, false, map, true};
 ghost use Rattle.std.specs.String.{string_bytes};
 ghost use Rattle.everyday_fmt.specs.Fates.{StopsAmong, held};
+ghost use Rattle.everyday_fmt.specs.Laws.{HoldLaidOut};
 ghost use Rattle.everyday_fmt.specs.Tool.{ComesOfFiles, IsOutcomeOfInput, PrintsInput};
-ghost use Rattle.lsp_format.specs.Layout.{formatted_text};
+ghost use Rattle.lsp_format.specs.Sources.{IsLaidOut, formatted_source};
 
 use crate::changes::changed_text;
 use crate::files::format_each;
+use crate::laws;
 use crate::options::{FmtOptions, FmtOutcome};
 use crate::reasons::ReasonedTree;
 use crate::report::{error_lines, name_lines, status_of};
-use lsp_format::formatted;
+use lsp_format::formatted_source;
 use std::alloc::{AllocError, Global};
 
 /// Gives each of these files its layout, in order, or, with `check`, finds out whether it has it. A
@@ -27,8 +29,11 @@ pub fn format_files<T: ReasonedTree>(
     paths: &[String],
 ) -> Result<FmtOutcome, AllocError>
     ensures done { IfOk result (ComesOfFiles options (map string_bytes paths.now) (held T.files T.failures T.cause tree.old) (held T.files T.failures T.cause tree.new)) }
+    ensures laid_out { IfOk result (λ outcome. options.check ≡ false → outcome.status ≡ 0 → HoldLaidOut options.width (map string_bytes paths.now) (held T.files T.failures T.cause tree.old) (held T.files T.failures T.cause tree.new)) }
     ensures refused { OnErr result (StopsAmong options (map string_bytes paths.now) (held T.files T.failures T.cause tree.old) (T.files tree.new)) }
 {
+    // A law, with no code: it gives the clause `laid_out` of what is computed.
+    laws::sources_are_laid_out();
     let done = format_each(alloc, tree, options, paths)?;
     Ok(FmtOutcome {
         output: name_lines(alloc, options.check, done.as_slice())?,
@@ -39,7 +44,7 @@ pub fn format_files<T: ReasonedTree>(
 
 // What comes of standard input that is only checked.
 fn checked_input(alloc: Global, width: usize, source: &[u8]) -> Result<FmtOutcome, AllocError>
-    ensures { IfOk result (PrintsInput true (formatted_text width source.now) source.now) }
+    ensures { IfOk result (PrintsInput true (formatted_source width source.now) source.now) }
 {
     let mut output = Vec::new(alloc);
     let mut status = 0;
@@ -64,13 +69,16 @@ pub fn format_input(
     options: FmtOptions,
     source: &[u8],
 ) -> Result<FmtOutcome, AllocError>
-    ensures { IfOk result (IsOutcomeOfInput options source.now) }
+    ensures outcome { IfOk result (IsOutcomeOfInput options source.now) }
+    ensures laid_out { IfOk result (λ outcome. options.check ≡ false → IsLaidOut options.width source.now outcome.output.items) }
 {
+    // A law, with no code: it gives the clause `laid_out` of what is computed.
+    laws::sources_are_laid_out();
     if options.check {
         return checked_input(alloc, options.width, source);
     }
     Ok(FmtOutcome {
-        output: formatted(alloc, options.width, source)?,
+        output: formatted_source(alloc, options.width, source)?,
         errors: Vec::new(alloc),
         status: 0,
     })

@@ -4,9 +4,9 @@ use Rattle.std.proofs.lemmas.Bool.{false≢true}
 use Rattle.std.specs.Prelude.{OnErr, if◌then◌else◌}
 use Rattle.tools_devices.specs.Tree.{ChangesOnly, Files, Sets}
 use Rattle.everyday_fmt.specs.Fates.{Held, Holds}
-use Rattle.everyday_lint.specs.Checking.{made_in, offers_in}
-use Rattle.everyday_lint.specs.Fates.{Finds, LintsFile, MayChange, Mends, MendsIfSome}
-use Rattle.everyday_lint.specs.Mending.{made, mended}
+use Rattle.everyday_lint.specs.Checking.{made_in}
+use Rattle.everyday_lint.specs.Fates.{Finds, LintsFile, MayChange, Mends, MendsIfSome, mended_source}
+use Rattle.everyday_lint.specs.Mending.{made}
 use Rattle.everyday_lint.specs.Offers.{OfferSeen}
 use Rattle.everyday_lint.specs.declared.files.Fate.{Fate}
 use Rattle.everyday_lint.specs.declared.files.Fate.TheVariants.{Absent, Checked, Failed}
@@ -23,10 +23,10 @@ some_made see [] some none = absurd (false≢true (sym some))
 some_made see (x ∷ xs) some none = absurd cc
 
 -- a file changes only if fixes are made
-pub may_change : (fix : Bool) (source : List ℕ) (offers : List OfferSeen) (path : List ℕ) (before after : Option Files)
-    → made source 0 (if fix then offers else []) ≢ [] → ChangesOnly path before after → MayChange fix path before after
-may_change true source offers path before after some changes = changes
-may_change false source offers path before after some changes = absurd (some refl)
+pub may_change : (fix : Bool) (text : List ℕ) (offers : List OfferSeen) (path : List ℕ) (before after : Option Files)
+    → made text 0 (if fix then offers else []) ≢ [] → ChangesOnly path before after → MayChange fix path before after
+may_change true text offers path before after some changes = changes
+may_change false text offers path before after some changes = absurd (some refl)
 
 -- if there are fixes, they are made
 mends_some : (options : LintOptions) (path source : List ℕ) (offers : List OfferSeen) (before after : Held) (fate : Fate) → offers ≢ []
@@ -35,14 +35,11 @@ mends_some options path source [] before after fate some mends = absurd (some re
 mends_some options path source (offer ∷ offers) before after fate some mends = mends
 
 -- what is found out about a source in which fixes are made
-pub finds_some : (options : LintOptions) (path source text : List ℕ) (offers : List OfferSeen) (before after : Held) (fate : Fate)
-    → text ≡ source → offers ≡ made_in options source → offers ≢ [] → Mends options path text offers before after fate
-    → Finds options path source before after fate
-finds_some options path source text offers before after fate same is some mends =
-    let there : Mends options path source offers before after fate =
-    subst (λ (t : List ℕ). Mends options path t offers before after fate) same mends in
+pub finds_some : (options : LintOptions) (path source : List ℕ) (offers : List OfferSeen) (before after : Held) (fate : Fate)
+    → offers ≡ made_in options source → offers ≢ [] → Mends options path source offers before after fate → Finds options path source before after fate
+finds_some options path source offers before after fate is some mends =
     subst (λ (all : List OfferSeen). MendsIfSome options path source all before after fate) is
-    (mends_some options path source offers before after fate some there)
+    (mends_some options path source offers before after fate some mends)
 
 -- what is found out does not depend on why the tree failed before
 module _ (options : LintOptions) (path source : List ℕ) (before mid after : Held) (files : mid.files ≡ before.files) (failures : mid.failures ≡ before.failures) where
@@ -52,7 +49,7 @@ module _ (options : LintOptions) (path source : List ℕ) (before mid after : He
   from_before [] Absent mends = absurd mends
   from_before [] (Failed reason) mends = absurd mends
   from_before (offer ∷ offers) (Checked linted) mends =
-      (mends.0, subst (λ (held : Option Files). Sets (path, mended source 0 (offer ∷ offers)) held after.files) files mends.1, mends.2 ∙ failures)
+      (mends.0, subst (λ (held : Option Files). Sets (path, mended_source source (offer ∷ offers)) held after.files) files mends.1, mends.2 ∙ failures)
   from_before (offer ∷ offers) Absent mends = absurd mends
   from_before (offer ∷ offers) (Failed reason) mends =
       (mends.0, mends.1 ∙ ap (λ n. n + 1) failures, subst (λ (held : Option Files). ChangesOnly path held after.files) files mends.2)

@@ -3,6 +3,7 @@ pub mod Words
 pub mod Telling
 pub mod Offers
 pub mod Mending
+pub mod Laws
 pub mod Checking
 pub mod Fates
 pub mod Report

@@ -1,12 +1,13 @@
 -- A text with fixes made, and what is told of them (own; Language Server Protocol 3.17, "TextEdit[]":
 -- all ranges are those of the text before).
-use Rattle.std.specs.Prelude.{ℕ, ◌++◌, nat_le, List, [], ◌∷◌, codes, drop, flat_map, max, if◌then◌else◌}
+use Rattle.std.specs.Prelude.{ℕ, ◌++◌, ◌&&◌, nat_le, Bool, List, [], ◌∷◌, codes, drop, flat_map, max, if◌then◌else◌}
 use Rattle.std.specs.List.{slice_range}
 use Rattle.ti_caps.specs.declared.capability.Kind.{Kind}
 use Rattle.ti_caps.specs.declared.capability.Kind.TheVariants.{Flag, Number, Text}
 use Rattle.lsp_types.specs.declared.places.Position.{Position}
 use Rattle.lsp_places.specs.LineTexts.{line_of}
 use Rattle.lsp_places.specs.Position.{offset_of}
+use Rattle.lsp_keeping.specs.Keeping.{KeepsLines, stays_in_line}
 use Rattle.lsp_fixes.specs.Edits.{AdviceSeen, advises_caret, advises_name, advises_sign, advises_spelling}
 use Rattle.everyday_forms.specs.Gcc.{ordinal}
 use Rattle.everyday_lint.specs.Offers.{OfferSeen}
@@ -21,16 +22,24 @@ begins text offer = offset_of text offer.fix.range.start
 abbrev pub ends : List ℕ → OfferSeen → ℕ
 ends text offer = max (begins text offer) (offset_of text offer.fix.range.end)
 
--- those of some fixes that are made from an offset on: each begins where the one before it ends, or
--- later
+-- whether a fix is made if the one before it ends at an offset: it begins there or later, and is within
+-- a line of items
+abbrev pub is_made : List ℕ → ℕ → OfferSeen → Bool
+is_made text at offer = nat_le at (begins text offer) && stays_in_line text (begins text offer) (ends text offer) offer.fix.text
+
+-- those of some fixes that are made from an offset on
 abbrev pub made : List ℕ → ℕ → List OfferSeen → List OfferSeen
 made text at [] = []
-made text at (offer ∷ offers) = if nat_le at (begins text offer) then offer ∷ made text (ends text offer) offers else made text at offers
+made text at (offer ∷ offers) = if is_made text at offer then offer ∷ made text (ends text offer) offers else made text at offers
 
 -- a text from an offset on with fixes made: of each what is before it, and its new text
 abbrev pub mended : List ℕ → ℕ → List OfferSeen → List ℕ
 mended text at [] = drop at text
 mended text at (offer ∷ offers) = slice_range text at (begins text offer) ++ offer.fix.text ++ mended text (ends text offer) offers
+
+-- the text with fixes made has its comments and blank lines, each on the line that it was on
+abbrev pub MendingKeepsLines : Type 0
+MendingKeepsLines = (text : List ℕ) (offers : List OfferSeen) → KeepsLines text (mended text 0 (made text 0 offers))
 
 -- ---- what is told of them
 
@@ -42,7 +51,7 @@ sign_deed Text = codes "wrote `=` before the string"
 
 -- what a fix did
 abbrev pub deed : AdviceSeen → List ℕ
-deed (advises_name name) = codes "wrote another name"
+deed (advises_name name other) = codes "wrote another name"
 deed (advises_sign kind) = sign_deed kind
 deed advises_spelling = codes "rewrote the string as it is read"
 deed advises_caret = codes "wrote `\\^` at the end"

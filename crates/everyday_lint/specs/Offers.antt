@@ -8,7 +8,7 @@ use Rattle.lsp_document.specs.Diagnostics.{Shown}
 use Rattle.lsp_diagnostics.specs.declared.capabilities.Capabilities.{Capabilities}
 use Rattle.lsp_diagnostics.specs.declared.diagnostics.Problem.{Problem}
 use Rattle.lsp_diagnostics.specs.declared.diagnostics.Problem.TheVariants.{Fault}
-use Rattle.lsp_fixes.specs.Edits.{AdviceSeen, advises_name}
+use Rattle.lsp_fixes.specs.Edits.{is_certain}
 use Rattle.lsp_fixes.specs.Fixes.{FixSeen, fix_seen, fixes_of}
 use Rattle.everyday_lint.specs.declared.offers.Offer.{Offer}
 
@@ -25,17 +25,10 @@ offer_seen offer = record { problem = offer.problem; fix = fix_seen offer.fix }
 abbrev pub made_seen : Bor Offer → OfferSeen
 made_seen offer = offer_seen offer.now
 
--- whether a fix is certain: it is the only one of its fault, and keeps what its item is about, as
--- another name does not
-abbrev pub is_certain : AdviceSeen → Bool
-is_certain (advises_name name) = false
-is_certain _ = true
-
--- whether a problem can have a fix that is certain: the sign of another kind (W2), a string that reads
--- otherwise than it is spelled (W3), or cannot be read (E5)
+-- whether a problem can have a fix that is certain: the sign of another kind (W2), or a string that
+-- cannot be read (E5)
 abbrev pub is_fixable_code : Code → Bool
 is_fixable_code code.WrongKind = true
-is_fixable_code code.UnknownEscape = true
 is_fixable_code code.BadString = true
 is_fixable_code _ = false
 

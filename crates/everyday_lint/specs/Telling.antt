@@ -1,8 +1,9 @@
 -- What is told of the faults and hints of a text (own).
 use Rattle.std.specs.Prelude.{ℕ, ◌-◌, List, [], flat_map, map}
+use Rattle.lsp_plain.specs.Reading.{plain_source}
 use Rattle.lsp_types.specs.declared.severities.Severity.{Severity}
 use Rattle.lsp_diagnostics.specs.declared.capabilities.Capabilities.{Capabilities}
-use Rattle.lsp_remarks.specs.Hints.{text_hints}
+use Rattle.lsp_remarks.specs.Hints.{source_hints}
 use Rattle.lsp_remarks.specs.Remarks.{SeenRemark, label_of_remark, message_of, range_of, remarks_by, severity_of}
 use Rattle.lsp_places.specs.LineTexts.{line_of}
 use Rattle.lsp_places.specs.Position.{offset_of}
@@ -43,6 +44,6 @@ told_of_all form file text all = flat_map (λ remark. told_text form (told_of fi
 abbrev pub severities_of : List SeenRemark → List Severity
 severities_of all = map severity_of all
 
--- the hints on a text alone, each on a line
-abbrev pub hint_lines : Capabilities → (file text : List ℕ) → List ℕ
-hint_lines capabilities file text = told_of_all Lines file text (remarks_by [] (text_hints capabilities text))
+-- the hints on a source alone, each on a line
+abbrev pub hint_lines : Capabilities → (file source : List ℕ) → List ℕ
+hint_lines capabilities file source = told_of_all Lines file (plain_source source) (remarks_by [] (source_hints capabilities source))

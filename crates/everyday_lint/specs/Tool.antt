@@ -2,6 +2,7 @@
 use Rattle.std.specs.Prelude.{◌≡◌, ℕ, ◌++◌, List, codes, count_by, flat_map, if◌then◌else◌}
 use Rattle.std.specs.List.{list_any}
 use Rattle.everyday_fmt.specs.Fates.{Held}
+use Rattle.lsp_plain.specs.Reading.{plain_source}
 use Rattle.lsp_remarks.specs.Remarks.{remarks_of}
 use Rattle.everyday_forms.specs.Counts.{is_bad, summary}
 use Rattle.everyday_forms.specs.Forms.{whole}
@@ -27,7 +28,7 @@ ComesOfFiles options paths before after outcome =
 -- what is printed for standard input, by its faults and hints, and the status
 pub record IsOutcomeOfInput (options : LintOptions) (source : List ℕ) (outcome : LintOutcome) : Type 0 where
   pub output : outcome.output.items
-      ≡ whole options.form (told_of_all options.form (codes "<stdin>") source (remarks_of options.capabilities source))
+      ≡ whole options.form (told_of_all options.form (codes "<stdin>") (plain_source source) (remarks_of options.capabilities source))
   pub errors : outcome.errors.items ≡ summary (telling.severities_of (remarks_of options.capabilities source)) 1
   pub status : outcome.status
       ≡ (if list_any (is_bad options.strict) (telling.severities_of (remarks_of options.capabilities source)) then 1 else 0)

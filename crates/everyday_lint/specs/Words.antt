@@ -4,10 +4,10 @@ use Rattle.std.specs.Str.{bytes_eq}
 use Rattle.ti_source.specs.Code.{code_name, code_text}
 use Rattle.ti_source.specs.declared.code.Code.{Code}
 use Rattle.base_meaning.specs.Report.{shown_detail}
-use Rattle.lsp_spans.specs.Sentences.{sentence}
-use Rattle.lsp_document.specs.Diagnostics.{fault_message}
-use Rattle.lsp_hints.specs.Words.{label_of, name_of as hint_name}
-use Rattle.lsp_hints.specs.declared.hint.HintKind.{HintKind}
+use Rattle.lsp_document.specs.Diagnostics.{fault_message, sentence_by}
+use Rattle.lsp_diagnostics.specs.declared.capabilities.Capabilities.{Capabilities}
+use Rattle.lsp_block_hints.specs.Words.{label_of, name_of as hint_name}
+use Rattle.lsp_block_hints.specs.declared.hint.HintKind.{HintKind}
 use Rattle.lsp_remarks.specs.Remarks.{SeenRemark, seen_fault, seen_hint}
 use Rattle.lsp_diagnostics.specs.declared.diagnostics.Problem.{Problem}
 use Rattle.lsp_diagnostics.specs.declared.diagnostics.Problem.TheVariants.{Fault, BadUserDefined, BlockTooLong, TooManyBlocks}
@@ -60,4 +60,5 @@ subject_text (Some subject) = shown_detail subject ++ codes ": "
 -- beside its title a fault says what it is about, and its sentence
 abbrev pub SentencesAreOfFaults : Type 0
 SentencesAreOfFaults =
-    (code : Code) (detail : Option (List ℕ)) → sentence_after (problem_name (Fault code)) (fault_message code detail) ≡ subject_text detail ++ sentence code
+    (capabilities : Capabilities) (code : Code) (detail : Option (List ℕ))
+    → sentence_after (problem_name (Fault code)) (fault_message capabilities code detail) ≡ subject_text detail ++ sentence_by capabilities code

@@ -1,13 +1,15 @@
 //! What is found out about a source.
+ghost use Rattle.lsp_plain.specs.Reading.{plain_source};
 ghost use Rattle.std.specs.Prelude.{◌≡◌, IfOk, map};
-ghost use Rattle.everyday_lint.specs.Checking.{IsLintedText, offers_in};
+ghost use Rattle.everyday_lint.specs.Checking.{IsLintedSource, offers_in};
 ghost use Rattle.everyday_lint.specs.Offers.{offer_seen};
 
 use crate::offers::{Offer, offers_of};
 use crate::options::LintOptions;
 use crate::telling::{severities_of, told_of_all};
 use lsp_document::Document;
-use lsp_remarks::{hints_in, remarks_of};
+use lsp_plain::plain;
+use lsp_remarks::{remarks_of, source_hints_in};
 use lsp_types::Severity;
 use std::alloc::{AllocError, Global};
 
@@ -22,22 +24,39 @@ pub struct Linted {
     pub severities: Vec<Severity>,
 }
 
-/// What is found out about the text of a document, of which this was told before.
+/// A document of the text that is read of a source.
 ///
 /// # Errors
 /// Out of memory.
-pub(crate) fn check_text(
+pub(crate) fn document_of(alloc: Global, source: &[u8]) -> Result<Document, AllocError>
+    ensures { IfOk result (λ document. document ≡ plain_source source.now) }
+{
+    let text = match plain(alloc, source)? {
+        Some(text) => text,
+        None => Vec::from_slice(alloc, source)?,
+    };
+    Document::open(alloc, text)
+}
+
+/// What is found out about a source, of which this was told before.
+///
+/// # Errors
+/// Out of memory.
+pub(crate) fn check_source(
     alloc: Global,
     options: LintOptions,
     file: &str,
+    source: &[u8],
     document: &mut Document,
     fixes: Vec<u8>,
 ) -> Result<Linted, AllocError>
-    ensures linted { IfOk result (IsLintedText options file.now document.old fixes.items) }
+    requires { document.old ≡ plain_source source.now }
+    ensures linted { IfOk result (IsLintedSource options file.now source.now fixes.items) }
     ensures text { document.new ≡ document.old }
 {
     let faults = document.diagnostics_by(alloc, options.capabilities)?;
-    let hints = hints_in(alloc, options.capabilities, document, &mut Vec::new(alloc))?;
+    let kept = &mut Vec::new(alloc);
+    let hints = source_hints_in(alloc, options.capabilities, source, document, kept)?;
     let all = remarks_of(alloc, &faults, &hints)?;
     Ok(Linted {
         fixes,

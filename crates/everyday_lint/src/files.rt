@@ -1,18 +1,20 @@
 //! What becomes of a file, and of files in turn.
 ghost use Rattle.std.specs.Prelude.{◌≡◌, IfOk, OnErr, map};
 ghost use Rattle.std.specs.String.{string_bytes};
+ghost use Rattle.lsp_plain.specs.Reading.{plain_source};
 ghost use Rattle.everyday_fmt.specs.Fates.{held};
 ghost use Rattle.tools_devices.specs.Tree.{ChangesOnly};
 ghost use Rattle.everyday_lint.specs.Fates.{Finds, LintsFile, LintsFiles, Mends, StopsAmong, Stays, TellsFailure};
 ghost use Rattle.everyday_lint.specs.Checking.{made_in};
 ghost use Rattle.everyday_lint.specs.Offers.{made_seen};
 
-use crate::checking::{Linted, check_text, offers_in};
+use crate::checking::{Linted, check_source, document_of, offers_in};
 use crate::mending::{fix_lines, made, mended};
 use crate::offers::Offer;
 use crate::options::LintOptions;
 use everyday_fmt::ReasonedTree;
 use lsp_document::Document;
+use lsp_plain::{marked_like, without_mark};
 use std::alloc::{AllocError, Global};
 use tools_devices::TreeFault;
 
@@ -43,7 +45,7 @@ fn failure<T: ReasonedTree>(alloc: Global, tree: &T) -> Result<Fate, AllocError>
     Ok(Fate::Failed(tree.reason(alloc)?))
 }
 
-// Writes a document with fixes made, and finds out about it.
+// Writes a source with fixes made, and finds out about it.
 fn mend_file<T: ReasonedTree>(
     alloc: Global,
     tree: &mut T,
@@ -56,34 +58,39 @@ fn mend_file<T: ReasonedTree>(
         (held T.files T.failures T.cause tree.old) (held T.files T.failures T.cause tree.new)) }
     ensures refused { OnErr result (ChangesOnly path.now (T.files tree.old) (T.files tree.new)) }
 {
-    let fixes = fix_lines(alloc, path, source, offers)?;
-    let mut document = Document::open(alloc, mended(alloc, source, offers)?)?;
-    let linted = check_text(alloc, options, path, &mut document, fixes)?;
-    match tree.write(path, document.text()) {
+    let text = without_mark(source);
+    let fixes = fix_lines(alloc, path, text, offers)?;
+    let mended = marked_like(alloc, source, mended(alloc, text, offers)?)?;
+    let mut document = document_of(alloc, &mended)?;
+    let linted = check_source(alloc, options, path, &mended, &mut document, fixes)?;
+    match tree.write(path, &mended) {
         Ok(()) => Ok(Fate::Checked(linted)),
         Err(TreeFault::Failed) => failure(alloc, tree),
         Err(TreeFault::Memory) => Err(AllocError),
     }
 }
 
-// Finds out about a document of a file, in which these fixes are made.
+// Finds out about a source of a file, in which these fixes are made. The document is of its text.
 fn lint_made<T: ReasonedTree>(
     alloc: Global,
     tree: &mut T,
     options: LintOptions,
     path: &str,
+    source: &[u8],
     document: &mut Document,
     offers: &[&Offer],
 ) -> Result<Fate, AllocError>
-    requires { map made_seen offers.now ≡ made_in options document.old }
-    ensures done { IfOk result (Finds options path.now document.old (held T.files T.failures T.cause tree.old) (held T.files T.failures T.cause tree.new)) }
+    requires text { document.old ≡ plain_source source.now }
+    requires offers { map made_seen offers.now ≡ made_in options source.now }
+    ensures done { IfOk result (Finds options path.now source.now (held T.files T.failures T.cause tree.old) (held T.files T.failures T.cause tree.new)) }
     ensures refused { OnErr result (Stays options path.now (T.files tree.old) (T.files tree.new)) }
 {
     if offers.is_empty() {
         let fixes = Vec::new(alloc);
-        return Ok(Fate::Checked(check_text(alloc, options, path, document, fixes)?));
+        let linted = check_source(alloc, options, path, source, document, fixes)?;
+        return Ok(Fate::Checked(linted));
     }
-    mend_file(alloc, tree, options, path, document.text(), offers)
+    mend_file(alloc, tree, options, path, source, offers)
 }
 
 // Finds out about a source of a file, and makes the fixes that are certain, if fixes are made.
@@ -97,10 +104,10 @@ fn lint_source<T: ReasonedTree>(
     ensures done { IfOk result (Finds options path.now source.items (held T.files T.failures T.cause tree.old) (held T.files T.failures T.cause tree.new)) }
     ensures refused { OnErr result (Stays options path.now (T.files tree.old) (T.files tree.new)) }
 {
-    let mut document = Document::open(alloc, source)?;
+    let mut document = document_of(alloc, &source)?;
     let offers = offers_in(alloc, options, &mut document)?;
-    let made = made(alloc, document.text(), &offers)?;
-    lint_made(alloc, tree, options, path, &mut document, &made)
+    let made = made(alloc, without_mark(&source), &offers)?;
+    lint_made(alloc, tree, options, path, &source, &mut document, &made)
 }
 
 // Finds out about a file, and makes the fixes that are certain, if fixes are made.

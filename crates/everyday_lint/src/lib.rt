@@ -16,16 +16,19 @@
 //!   (`LintOutcome`)
 //! - `words`: the words of a diagnostic in each form
 //! - `lines`: the lines of a text, and columns in bytes; `telling`: what is told of diagnostics
-//! - `offers`: the fixes that are certain; `mending`: a source with these made
+//! - `offers`: the fixes that are certain; `mending`: a source with these made, which keeps its
+//!   comments and blank lines (`fixes_keep_lines`)
 //! - `checking`: what is found out about a source (`Linted`)
 //! - `files`: what becomes of a file, and of files in turn
 //! - `report`: what is printed about them, and the status
+//! - `laws`: which fixes are made, and what of a source they change
 //! - `tool`: what comes of files (`lint_files`), and of standard input (`lint_input`); the hints on a
 //!   source for `ti-tic -c` (`hint_lines`)
 #![tactic(auto)]
 
 mod checking;
 mod files;
+pub mod laws;
 mod lines;
 mod mending;
 mod offers;
@@ -40,6 +43,7 @@ pub use everyday_fmt::ReasonedTree;
 pub use everyday_forms::Form;
 pub use files::{Done, Fate};
 pub use lsp_document::Capabilities;
+pub use mending::fixes_keep_lines;
 pub use options::{LintOptions, LintOutcome};
 pub use tool::{hint_lines, lint_files, lint_input};
 pub use words::sentences_are_of_faults;

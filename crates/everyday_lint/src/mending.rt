@@ -3,7 +3,7 @@ ghost use Rattle.std.specs.Prelude.{◌≡◌, ◌≤◌, ◌++◌, IfOk, OnOk, 
 ghost use Rattle.std.specs.String.{string_bytes};
 ghost use Rattle.lsp_fixes.specs.Edits.{advice_seen};
 ghost use Rattle.everyday_lint.specs.Mending as spec;
-ghost use Rattle.everyday_lint.specs.Mending.{begins, ends, fix_line, made};
+ghost use Rattle.everyday_lint.specs.Mending.{begins, ends, fix_line, is_made, made};
 ghost use Rattle.everyday_forms.specs.Gcc.{ordinal};
 ghost use Rattle.everyday_lint.specs.Offers.{made_seen, offer_seen};
 
@@ -11,6 +11,7 @@ use crate::lines::Line;
 use crate::offers::Offer;
 use crate::words::problem_title;
 use lsp_fixes::Advice;
+use lsp_keeping::stays_in_line;
 use lsp_places::offset_of;
 use lsp_types::Position;
 use std::alloc::{AllocError, Global};
@@ -29,11 +30,23 @@ fn begins(text: &[u8], offer: &Offer) -> usize
 fn ends(text: &[u8], offer: &Offer) -> usize
     ensures ends { result ≡ ends text.now (offer_seen offer.now) }
     ensures within { result ≤ length text.now }
+    ensures forward { begins text.now (offer_seen offer.now) ≤ result }
 {
     begins(text, offer).max(offset_of(text, offer.fix.range.end))
 }
 
-/// Those of some fixes of a text that are made: each begins where the one before it ends, or later.
+// Whether a fix of a text is made if the one before it ends at an offset: it begins there or later,
+// and is within a line of items, so that each comment and each blank line stays as it is.
+fn is_made(text: &[u8], at: usize, offer: &Offer) -> bool
+    ensures { result ≡ is_made text.now at (offer_seen offer.now) }
+{
+    let start = begins(text, offer);
+    let end = ends(text, offer);
+    at <= start && stays_in_line(text, start, end, offer.fix.text.as_bytes())
+}
+
+/// Those of some fixes of a text that are made: each begins where the one before it ends, or later,
+/// and is within a line of items.
 ///
 /// # Errors
 /// Out of memory.
@@ -47,13 +60,19 @@ pub(crate) fn made<'a>(
     let mut all = Vec::new(alloc);
     let mut at = 0;
     for offer in offers {
-        if at <= begins(text, offer) {
+        if is_made(text, at, offer) {
             at = ends(text, offer);
             all.push(offer)?;
         }
     }
     Ok(all)
 }
+
+/// A law, with no code: a text with fixes made has its comments and blank lines, each on the line that
+/// it was on.
+pub fn fixes_keep_lines()
+    ensures { spec.MendingKeepsLines }
+{}
 
 /// A text with these fixes made.
 ///
@@ -79,7 +98,7 @@ fn deed(advice: &Advice) -> &'static str
     ensures { result.now ≡ spec.deed (advice_seen advice.now) }
 {
     match advice {
-        Advice::Name(_) => "wrote another name",
+        Advice::Name { .. } => "wrote another name",
         Advice::Sign(Kind::Flag) => "removed the sign",
         Advice::Sign(Kind::Number) => "wrote `#` before the number",
         Advice::Sign(Kind::Text) => "wrote `=` before the string",

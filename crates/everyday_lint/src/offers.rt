@@ -1,14 +1,13 @@
 //! The fixes that are certain.
 ghost use Rattle.std.specs.Prelude.{◌≡◌, ◌++◌, IfOk, OnOk, filter, map};
 ghost use Rattle.lsp_document.specs.Diagnostics.{diagnostic_seen};
-ghost use Rattle.lsp_fixes.specs.Edits.{advice_seen};
 ghost use Rattle.lsp_fixes.specs.Fixes.{fix_seen};
 ghost use Rattle.lsp_fixes.specs.Fixes as offered;
 ghost use Rattle.everyday_lint.specs.Offers as spec;
-ghost use Rattle.everyday_lint.specs.Offers.{is_certain, is_fixable, offer_seen, offers_for};
+ghost use Rattle.everyday_lint.specs.Offers.{is_fixable, offer_seen, offers_for};
 
 use lsp_document::{Capabilities, Diagnostic, Document, Problem};
-use lsp_fixes::{Advice, Fix, fixes_of};
+use lsp_fixes::{Fix, fixes_of};
 use std::alloc::{AllocError, Global};
 use ti_source::Code;
 
@@ -21,27 +20,12 @@ pub(crate) struct Offer {
     pub fix: Fix,
 }
 
-// Whether a fix is certain: it is the only one of its fault, and keeps what its item is about.
-fn is_certain(advice: &Advice) -> bool
-    ensures { result ≡ is_certain (advice_seen advice.now) }
-{
-    match advice {
-        Advice::Name(_) => false,
-        Advice::Sign(_) | Advice::Spelling | Advice::Caret => true,
-    }
-}
-
 // Whether a problem can have a fix that is certain.
 fn is_fixable(problem: Problem) -> bool
     ensures { result ≡ is_fixable problem }
 {
     match problem {
-        Problem::Fault(code) => {
-            matches!(
-                code,
-                Code::WrongKind | Code::UnknownEscape | Code::BadString
-            )
-        }
+        Problem::Fault(code) => matches!(code, Code::WrongKind | Code::BadString),
         _ => false,
     }
 }
@@ -56,7 +40,7 @@ fn push_certain(
         ≡ map offer_seen offers.old.items ++ spec.certain problem (map fix_seen fixes.items)) }
 {
     for fix in fixes {
-        if is_certain(&fix.advice) {
+        if fix.advice.is_certain() {
             offers.push(Offer { problem, fix })?;
         }
     }

@@ -6,15 +6,15 @@ ghost use Rattle.everyday_lint.specs.Fates.{StopsAmong};
 ghost use Rattle.everyday_lint.specs.Tool.{ComesOfFiles, IsOutcomeOf, IsOutcomeOfInput};
 ghost use Rattle.everyday_lint.specs.Telling.{hint_lines};
 
-use crate::checking::check_text;
+use crate::checking::{check_source, document_of};
 use crate::files::{Done, lint_each};
 use crate::options::{LintOptions, LintOutcome};
 use crate::report::{count_of, lines_of_files, severities_of_files, status_of, told_of_files};
 use crate::telling::told_of_all;
 use everyday_fmt::ReasonedTree;
 use everyday_forms::{Form, has_bad, push_summary, whole};
-use lsp_document::{Capabilities, Document};
-use lsp_remarks::{hints_in, remarks_of};
+use lsp_document::Capabilities;
+use lsp_remarks::{remarks_of, source_hints_in};
 use std::alloc::{AllocError, Global};
 
 // What standard input is called.
@@ -65,9 +65,16 @@ pub fn lint_input(
 ) -> Result<LintOutcome, AllocError>
     ensures { IfOk result (IsOutcomeOfInput options source.items) }
 {
-    let mut document = Document::open(alloc, source)?;
+    let mut document = document_of(alloc, &source)?;
     let fixes = Vec::new(alloc);
-    let linted = check_text(alloc, options, STANDARD_INPUT, &mut document, fixes)?;
+    let linted = check_source(
+        alloc,
+        options,
+        STANDARD_INPUT,
+        &source,
+        &mut document,
+        fixes,
+    )?;
     let mut errors = Vec::new(alloc);
     push_summary(alloc, &mut errors, &linted.severities, 1)?;
     let status = if has_bad(options.strict, &linted.severities) {
@@ -95,8 +102,9 @@ pub fn hint_lines(
 ) -> Result<Vec<u8>, AllocError>
     ensures { IfOk result (λ lines. lines.items ≡ hint_lines capabilities file.now source.items) }
 {
-    let document = Document::open(alloc, source)?;
-    let hints = hints_in(alloc, capabilities, &document, &mut Vec::new(alloc))?;
+    let document = document_of(alloc, &source)?;
+    let kept = &mut Vec::new(alloc);
+    let hints = source_hints_in(alloc, capabilities, &source, &document, kept)?;
     let all = remarks_of(alloc, &[], &hints)?;
     told_of_all(alloc, Form::Lines, file, document.text(), &all)
 }

@@ -6,8 +6,8 @@ ghost use Rattle.lsp_remarks.specs.Remarks.{remark_seen};
 ghost use Rattle.everyday_lint.specs.Words as spec;
 ghost use Rattle.everyday_lint.specs.Words.{skipped};
 
+use lsp_block_hints::HintKind;
 use lsp_document::Problem;
-use lsp_hints::HintKind;
 use lsp_remarks::Remark;
 use std::alloc::{AllocError, Global};
 use ti_source::Code;
@@ -100,7 +100,7 @@ pub(crate) fn sentence_of<'a>(remark: Remark<'_>, message: &'a str) -> &'a [u8]
 }
 
 /// A law, with no code: what is said of a fault beside its title is what it is about, as a report
-/// shows it, and its sentence, as in the report of `ti-tic`.
+/// shows it, and its sentence.
 pub fn sentences_are_of_faults()
     ensures { spec.SentencesAreOfFaults }
 {}

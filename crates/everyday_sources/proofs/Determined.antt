@@ -5,7 +5,7 @@ use Rattle.base_meaning.specs.Owner.{is_among}
 use Rattle.ti_layout.specs.View.{Entry, entry_seen, names_of}
 use Rattle.ti_layout.specs.declared.view.View.{View}
 use Rattle.ti_list.specs.Listing.{listing}
-use Rattle.ti_source.specs.Header.{HeadersHaveOneReading, ReadsNames, is_lookup_name}
+use Rattle.ti_source.specs.Header.{HeadersHaveOneReading, ReadsNames}
 use Rattle.ti_source.specs.Judging.{names_found}
 use Rattle.tools_devices.specs.Tree.{FileAt, Files}
 use Rattle.everyday_directories.specs.Finding.{Finds, FindsTheFirst, Searches, first_at}

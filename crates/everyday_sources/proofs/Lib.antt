@@ -2,5 +2,5 @@
 pub mod Appending
 pub mod Determined
 pub mod Finding
-pub mod Returns
 pub mod Taking
+pub mod Values

@@ -1,6 +1,6 @@
 -- The definitions that the contracts of this crate cite.
 pub mod Installed
 pub mod Selection
-pub mod Source
 pub mod Used
+pub mod Values
 pub mod inside

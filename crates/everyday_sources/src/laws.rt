@@ -1,7 +1,6 @@
 //! Laws of the definitions on which the contracts of this crate depend. They compute nothing.
 ghost use Rattle.everyday_sources.specs.Used.{OwnNamesWin, SourcesComeFirst, UsedEntriesAreDetermined};
-
-pub use crate::source::sources_of_other_systems_are_read;
+ghost use Rattle.everyday_sources.specs.Values.{FurtherBlocksStandForEntries, StandingBlocksSayTheEntry, StandingBlocksSayTheTables, UsersHaveTheEntry, UsersHaveTheTables};
 
 /// A name that a block of a source has belongs to that block, whatever installed entries come after
 /// it.
@@ -22,4 +21,21 @@ pub fn used_entries_are_determined()
     everyday_directories::laws::finds_the_first();
     everyday_directories::laws::files_have_one_reading();
     ti_source::laws::headers_have_one_reading();
+}
+
+/// With user-defined capabilities each block that [`take_used`](crate::take_used) puts after a source
+/// stands for an installed entry. If its names field is one that a source can have, it says of each
+/// user-defined name and of each capability of the tables what the entry has, also if user-defined
+/// capabilities are absent there or a name has values of several kinds; and a block that uses it has
+/// that value of all that no other of its items can give it.
+pub fn users_have_the_values_of_entries()
+    ensures blocks { FurtherBlocksStandForEntries }
+    ensures user_defined { StandingBlocksSayTheEntry }
+    ensures tables { StandingBlocksSayTheTables }
+    ensures users { UsersHaveTheEntry }
+    ensures users_of_tables { UsersHaveTheTables }
+{
+    user_relisting::read_entries_have_listings();
+    user_relisting::listings_say_the_entry();
+    user_relisting::users_have_the_entry();
 }

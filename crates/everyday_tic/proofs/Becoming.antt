@@ -1,6 +1,6 @@
 -- Compiling a source.
 use Rattle.std.proofs.Common.{◌≡◌, ◌+◌, ◌<◌, ◌≤◌, ℕ, List, [], ◌∷◌, ◌++◌, All, drop, map, length, get_or, sym, subst, ap, ◌∙◌, append_assoc, append-nil, arith}
-use Rattle.std.proofs.Common.{Option, None, Some, Result, Ok, Err, inr}
+use Rattle.std.proofs.Common.{Option, None, Some, Result, Ok, Err, inl, inr}
 use Rattle.std.specs.Global.{Vec}
 use Rattle.std.specs.Prelude.{IfOk}
 use Rattle.std.proofs.lemmas.List.{drop_all, length-append}
@@ -16,10 +16,11 @@ use Rattle.user_compiling.specs.declared.compiled.Compiled.{Compiled}
 use Rattle.tools_devices.specs.Tree.{Files}
 use Rattle.tools_sources.specs.Sources.{AreTaken, first_line, source_texts}
 use Rattle.everyday_sources.proofs.Finding.{left}
-use Rattle.everyday_sources.specs.Source.{plain_source}
+use Rattle.lsp_plain.specs.Reading.{plain_source}
 use Rattle.everyday_sources.specs.Used.{KeepsFaults, ProblemSeen, TakesUsed, problem_seen}
 use Rattle.everyday_sources.specs.declared.problem.Problem.{Problem}
-use Rattle.everyday_tic.specs.Outcomes.{Asked, Comes, ComesOf, ComesOfPlain, made_of}
+use Rattle.everyday_tic.specs.Outcomes.{Asked, Comes, ComesOf, ComesOfBlocks, ComesOfPlain, made_of, termcap_refusal}
+use Rattle.everyday_tic.specs.Termcap.{IsFirstTermcap}
 use Rattle.everyday_tic.specs.declared.options.TicOutcome.{TicOutcome}
 use Rattle.everyday_tic.specs.inside.Found.{AreFoundFaults}
 
@@ -74,19 +75,31 @@ module _ {E : Type 0} (asked : Asked) (files : Option Files) (directories : List
   )
   comes_of_all first count texts last before after problems (Err e) many taken h = tt
 
+  -- of blocks of which none is termcap
+  pub none_comes : (first : ℕ) (blocks : List (List ℕ)) (before after : ℕ) (result : Result TicOutcome E) → IsFirstTermcap blocks None
+      → IfOk result (λ outcome. (ts : List (List ℕ)) × (ps : List ProblemSeen) × TakesUsed asked.user_defined files directories blocks before after ts ps
+      × ComesOf asked file first ts (length blocks) ps (made_of outcome))
+      → IfOk result (λ outcome. ComesOfBlocks asked files directories file first blocks before after (made_of outcome))
+  none_comes first blocks before after (Ok outcome) none h = inr (none, h.0, h.1, h.2, h.3)
+  none_comes first blocks before after (Err e) none h = tt
+
+  -- of blocks of which one is termcap
+  pub some_comes : (first at : ℕ) (blocks : List (List ℕ)) (before after : ℕ) (result : Result TicOutcome E) → IsFirstTermcap blocks (Some at)
+      → after ≡ before
+      → IfOk result (λ outcome. made_of outcome ≡ termcap_refusal file first blocks at)
+      → IfOk result (λ outcome. ComesOfBlocks asked files directories file first blocks before after (made_of outcome))
+  some_comes first at blocks before after (Ok outcome) is same h = inl (at, is, same, h)
+  some_comes first at blocks before after (Err e) is same h = tt
+
   -- of a source that a database takes
   pub plain_comes : (source : List ℕ) (before after first : ℕ) (texts : List (List ℕ)) (result : Result TicOutcome E)
       → texts ≡ source_texts source → AreTaken (source_texts source) → first ≡ first_line source
-      → IfOk result (λ outcome. (ts : List (List ℕ)) × (ps : List ProblemSeen) × TakesUsed asked.user_defined files directories texts before after ts ps
-      × ComesOf asked file first ts (length texts) ps (made_of outcome))
+      → IfOk result (λ outcome. ComesOfBlocks asked files directories file first texts before after (made_of outcome))
       → IfOk result (λ outcome. ComesOfPlain asked files directories file source before after (made_of outcome))
   plain_comes source before after first texts (Ok outcome) held taken number h =
-      let by_texts = subst (λ (xs : List (List ℕ)). (ts : List (List ℕ)) × (ps : List ProblemSeen)
-      × TakesUsed asked.user_defined files directories xs before after ts ps × ComesOf asked file first ts (length xs) ps (made_of outcome)) held h in
-      let by_line = subst (λ (n : ℕ). (ts : List (List ℕ)) × (ps : List ProblemSeen)
-      × TakesUsed asked.user_defined files directories (source_texts source) before after ts ps
-      × ComesOf asked file n ts (length (source_texts source)) ps (made_of outcome)) number by_texts in
-      inr (taken, by_line.0, by_line.1, by_line.2, by_line.3)
+      let by_texts = subst (λ (xs : List (List ℕ)). ComesOfBlocks asked files directories file first xs before after (made_of outcome)) held h in
+      let by_line = subst (λ (n : ℕ). ComesOfBlocks asked files directories file n (source_texts source) before after (made_of outcome)) number by_texts in
+      inr (taken, by_line)
   plain_comes source before after first texts (Err e) held taken number h = tt
 
   -- of a source as it is read

@@ -1,5 +1,5 @@
 -- Only one outcome comes of a source, when no read fails.
-use Rattle.std.proofs.Common.{◌≡◌, ◌⊎◌, ◌+◌, ◌<◌, ◌≤◌, inl, inr, ℕ, zero, suc, Bool, true, false, List, [], ◌∷◌, ◌++◌, take, map, length, Some, refl, sym, ap, ◌∙◌, subst, arith}
+use Rattle.std.proofs.Common.{◌≡◌, ◌⊎◌, ◌+◌, ◌<◌, ◌≤◌, inl, inr, ℕ, zero, suc, Bool, true, false, List, [], ◌∷◌, take, map, length, None, Some, sym, ap, ◌∙◌, subst, arith, true≢false}
 use Rattle.base_meaning.specs.Compiled.{EntryState}
 use Rattle.tools_devices.specs.Tree.{Files}
 use Rattle.tools_sources.specs.Sources.{SourcesHaveOneRefusal, TakenSourcesAreNotRefused, first_line, source_texts}
@@ -7,11 +7,12 @@ use Rattle.user_base.specs.Kept.{StatesAreDetermined}
 use Rattle.user_items.specs.Parsing.{user_reading_of_text}
 use Rattle.user_values.specs.Limit.{IsOverLimitAt, distinct_after, name_count, name_limit, names_in, names_of}
 use Rattle.user_values.proofs.Naming.{distinct_after-append, distinct_after-longer}
-use Rattle.everyday_sources.specs.Source.{plain_source}
+use Rattle.lsp_plain.specs.Reading.{plain_source}
 use Rattle.everyday_sources.specs.Used.{ProblemSeen, UsedEntriesAreDetermined}
 use Rattle.everyday_tic.specs.Entries.{AreStatesBy}
 use Rattle.everyday_tic.specs.Laws.{OutcomesAreDetermined}
-use Rattle.everyday_tic.specs.Outcomes.{Asked, ComesOf, ComesOfPlain, Made, compilation, made_of, names_refusal, refusal_of}
+use Rattle.everyday_tic.specs.Outcomes.{Asked, ComesOf, ComesOfBlocks, ComesOfPlain, Made, compilation, made_of, names_refusal, refusal_of, termcap_refusal}
+use Rattle.everyday_tic.specs.Termcap.{IsFirstTermcap}
 
 -- ---- the block with one user-defined name too many
 
@@ -63,6 +64,24 @@ not_few texts at over few =
     let rise = counts_rise texts (at + 1) (length texts) (omega (arith, within)) in
     absurd (omega (arith, few, past, rise))
 
+-- ---- the first block that is termcap
+
+not_after : (blocks : List (List ℕ)) (at place : ℕ) → IsFirstTermcap blocks (Some at) → IsFirstTermcap blocks (Some place) → place ≤ at
+not_after blocks at place one other = by_order (at_most_or_over place at)
+  where
+    by_order : (place ≤ at) ⊎ (at < place) → place ≤ at
+    by_order (inl le) = le
+    by_order (inr later) = absurd (true≢false (sym one.0.2 ∙ other.1 at one.0.0 later one.0.1))
+
+one_termcap : (blocks : List (List ℕ)) (at place : ℕ) → IsFirstTermcap blocks (Some at) → IsFirstTermcap blocks (Some place) → at ≡ place
+one_termcap blocks at place one other =
+    let le = not_after blocks at place one other in
+    let ge = not_after blocks place at other one in
+    omega (arith, le, ge)
+
+not_termcap : {Y : Type 0} (blocks : List (List ℕ)) (at : ℕ) → IsFirstTermcap blocks (Some at) → IsFirstTermcap blocks None → Y
+not_termcap blocks at is none = absurd (true≢false (sym is.0.2 ∙ none at is.0.0 is.0.1))
+
 -- ---- what becomes of the blocks
 
 one_list : StatesAreDetermined → (user_defined : Bool) (texts : List (List ℕ)) (states others : List EntryState) → AreStatesBy user_defined texts states
@@ -83,6 +102,19 @@ module _ (determined : StatesAreDetermined) (asked : Asked) (file : List ℕ) wh
       g.3 ∙ ap (λ states. compilation asked file first texts count states problems) (one_list determined asked.user_defined texts g.1 h.1 g.2 h.2)
       ∙ sym h.3
 
+  one_of_blocks : UsedEntriesAreDetermined → (files : Files) (directories : List (List ℕ)) (first : ℕ) (blocks : List (List ℕ)) (before since : ℕ)
+      (one other : Made) → ComesOfBlocks asked (Some files) directories file first blocks before before one
+      → ComesOfBlocks asked (Some files) directories file first blocks since since other → one ≡ other
+  one_of_blocks used files directories first blocks before since one other (inl g) (inl h) =
+      g.3 ∙ ap (termcap_refusal file first blocks) (one_termcap blocks g.0 h.0 g.1 h.1) ∙ sym h.3
+  one_of_blocks used files directories first blocks before since one other (inl g) (inr h) = not_termcap blocks g.0 g.1 h.0
+  one_of_blocks used files directories first blocks before since one other (inr g) (inl h) = not_termcap blocks h.0 h.1 g.0
+  one_of_blocks used files directories first blocks before since one other (inr g) (inr h) =
+      let same = used asked.user_defined files directories blocks before since g.1 h.1 g.2 h.2 g.3 h.3 in
+      let by_texts = subst (λ ts. ComesOf asked file first ts (length blocks) h.2 other) (sym same.0) h.4 in
+      let by_problems = subst (λ ps. ComesOf asked file first g.1 (length blocks) ps other) (sym same.1) by_texts in
+      one_of_all first g.1 (length blocks) g.2 one other g.4 by_problems
+
   one_of_plain : SourcesHaveOneRefusal → TakenSourcesAreNotRefused → UsedEntriesAreDetermined → (files : Files) (directories : List (List ℕ))
       (source : List ℕ) (before since : ℕ) (one other : Made) → ComesOfPlain asked (Some files) directories file source before before one
       → ComesOfPlain asked (Some files) directories file source since since other → one ≡ other
@@ -93,11 +125,7 @@ module _ (determined : StatesAreDetermined) (asked : Asked) (file : List ℕ) wh
   one_of_plain refused not_refused used files directories source before since one other (inr g) (inl h) =
       absurd (not_refused source h.0 g.0 h.1)
   one_of_plain refused not_refused used files directories source before since one other (inr g) (inr h) =
-      let texts = source_texts source in
-      let same = used asked.user_defined files directories texts before since g.1 h.1 g.2 h.2 g.3 h.3 in
-      let by_texts = subst (λ ts. ComesOf asked file (first_line source) ts (length texts) h.2 other) (sym same.0) h.4 in
-      let by_problems = subst (λ ps. ComesOf asked file (first_line source) g.1 (length texts) ps other) (sym same.1) by_texts in
-      one_of_all (first_line source) g.1 (length texts) g.2 one other g.4 by_problems
+      one_of_blocks used files directories (first_line source) (source_texts source) before since one other g.1 h.1
 
 pub outcomes_are_determined : SourcesHaveOneRefusal → TakenSourcesAreNotRefused → UsedEntriesAreDetermined → StatesAreDetermined → OutcomesAreDetermined
 outcomes_are_determined refused not_refused used determined asked files directories file source before since one other g h =

@@ -2,5 +2,6 @@
 pub mod Becoming
 pub mod Determined
 pub mod Filing
+pub mod Running
 pub mod Stopping
 pub mod Winning

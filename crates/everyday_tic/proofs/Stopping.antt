@@ -1,7 +1,7 @@
 -- Where writing stops.
-use Rattle.std.proofs.Common.{◌≡◌, ℕ, Bool, List, ◌++◌, Option, Some, Result, Ok, Err, inl, inr, refl, sym, subst}
+use Rattle.std.proofs.Common.{◌≡◌, ℕ, Bool, List, Option, Result, Ok, Err, inl, inr, refl, sym, subst}
 use Rattle.tools_devices.specs.Counted.{Observed}
-use Rattle.tools_devices.specs.Tree.{FileAt, Files, Writes}
+use Rattle.tools_devices.specs.Tree.{Files, Writes}
 use Rattle.tools_devices.specs.Writing.{TakesAll}
 use Rattle.tools_devices.proofs.Written.{TakesAll-then}
 use Rattle.everyday_tic.specs.Outcomes.{Made}

@@ -3,5 +3,6 @@ pub mod Entries
 pub mod Laws
 pub mod Messages
 pub mod Outcomes
+pub mod Termcap
 pub mod Writing
 pub mod inside

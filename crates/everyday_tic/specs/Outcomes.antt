@@ -14,10 +14,11 @@ use Rattle.user_compiling.specs.Faults.{ExtendedSourceFault, extended_faults, of
 use Rattle.user_values.specs.Limit.{IsOverLimitAt, name_count, name_limit}
 use Rattle.everyday_tic.specs.Entries.{AreStatesBy, entry_count, first_files}
 use Rattle.everyday_tic.specs.Messages.{problem_line, unknown_lines}
-use Rattle.everyday_report.specs.Report.{At, fault_lines, has_error, said}
+use Rattle.everyday_tic.specs.Termcap.{IsFirstTermcap, termcap_source}
+use Rattle.everyday_report.specs.Report.{fault_lines, has_error, said}
 use Rattle.everyday_report.specs.Sentences.{too_many_names}
 use Rattle.lsp_spans.specs.Sentences.{block_too_long, too_many_blocks}
-use Rattle.everyday_sources.specs.Source.{plain_source}
+use Rattle.lsp_plain.specs.Reading.{plain_source}
 use Rattle.everyday_sources.specs.Used.{ProblemSeen, TakesUsed}
 use Rattle.everyday_tic.specs.declared.options.TicOptions.{TicOptions}
 use Rattle.everyday_tic.specs.declared.options.TicOutcome.{TicOutcome}
@@ -72,6 +73,10 @@ abbrev pub refusal_of : List ℕ → SourceError → Made
 refusal_of file (BlockTooLong line) = refusal file line block_too_long (codes "BlockTooLong")
 refusal_of file (TooManyBlocks line) = refusal file line too_many_blocks (codes "TooManyBlocks")
 
+-- of one with a block that is termcap, which is at that position
+abbrev pub termcap_refusal : List ℕ → ℕ → List (List ℕ) → ℕ → Made
+termcap_refusal file first texts at = refusal file (first + lines_before texts at) termcap_source (codes "TermcapSource")
+
 -- of one with one user-defined name too many, which is in the block at that position
 abbrev pub names_refusal : List ℕ → ℕ → List (List ℕ) → ℕ → Made
 names_refusal file first texts at = refusal file (first + lines_before texts at) too_many_names (codes "TooManyNames")
@@ -109,14 +114,22 @@ ComesOf asked file first texts count problems made =
     ⊎ (FewNames asked.user_defined texts
     × (states : List EntryState) × AreStatesBy asked.user_defined texts states × (made ≡ compilation asked file first texts count states problems))
 
+-- what comes of the blocks of a source, the first on the line of that number: it is refused if one of
+-- them is termcap
+abbrev pub ComesOfBlocks : Asked → Option Files → List (List ℕ) → List ℕ → ℕ → List (List ℕ) → ℕ → ℕ → Made → Type 0
+ComesOfBlocks asked files directories file first blocks before after made =
+    ((at : ℕ) × IsFirstTermcap blocks (Some at) × (after ≡ before) × (made ≡ termcap_refusal file first blocks at))
+    ⊎ (IsFirstTermcap blocks None × (texts : List (List ℕ)) × (problems : List ProblemSeen)
+    × TakesUsed asked.user_defined files directories blocks before after texts problems
+    × ComesOf asked file first texts (length blocks) problems made)
+
 -- what comes of a source without a mark and without CR LF, by the files of the tree and how often it
 -- failed before and after
 abbrev pub ComesOfPlain : Asked → Option Files → List (List ℕ) → List ℕ → List ℕ → ℕ → ℕ → Made → Type 0
 ComesOfPlain asked files directories file source before after made =
     ((error : SourceError) × IsSourceRefusal source error × (after ≡ before) × (made ≡ refusal_of file error))
-    ⊎ (AreTaken (source_texts source) × (texts : List (List ℕ)) × (problems : List ProblemSeen)
-    × TakesUsed asked.user_defined files directories (source_texts source) before after texts problems
-    × ComesOf asked file (first_line source) texts (length (source_texts source)) problems made)
+    ⊎ (AreTaken (source_texts source)
+    × ComesOfBlocks asked files directories file (first_line source) (source_texts source) before after made)
 
 -- what comes of a source
 abbrev pub Comes : Asked → Option Files → List (List ℕ) → List ℕ → List ℕ → ℕ → ℕ → TicOutcome → Type 0

@@ -1,5 +1,5 @@
 //! Compiling a source.
-ghost use Rattle.std.specs.Prelude.{List, ◌≡◌, ◌<◌, ◌≤◌, ◌++◌, ◌&&◌, ◌||◌, [], All, IfOk, OnOk, None, Some, IsErrOf, ℕ, length, map, nat_lt, not, option_map, true, if◌then◌else◌};
+ghost use Rattle.std.specs.Prelude.{List, ◌≡◌, ◌<◌, ◌≤◌, ◌+◌, ◌++◌, ◌&&◌, ◌||◌, [], All, IfOk, OnOk, None, Some, IsErrOf, ℕ, length, map, nat_lt, not, option_map, true, if◌then◌else◌};
 ghost use Rattle.std.specs.Rc.{rc_slice_items};
 ghost use Rattle.std.specs.String.{string_bytes};
 ghost use Rattle.base_meaning.specs.Faults.{fault_seen as profile_fault_seen};
@@ -14,9 +14,10 @@ ghost use Rattle.user_values.specs.declared.fault.ValuesError.TheVariants.{TooMa
 ghost use Rattle.everyday_tic.specs.Entries.{AreStatesBy, entry_count, first_files};
 ghost use Rattle.everyday_tic.specs.Messages.{unknown_lines};
 ghost use Rattle.everyday_tic.specs.Outcomes as spec;
-ghost use Rattle.everyday_tic.specs.Outcomes.{Comes, ComesOf, ComesOfPlain, FewNames, asked_of, compilation, made_of};
+ghost use Rattle.everyday_tic.specs.Outcomes.{Comes, ComesOf, ComesOfBlocks, ComesOfPlain, FewNames, asked_of, compilation, made_of};
 ghost use Rattle.everyday_report.specs.Report as report;
 ghost use Rattle.base_meaning.specs.Owner.{readings};
+ghost use Rattle.base_meaning.specs.Report.{lines_before};
 ghost use Rattle.std.specs.Option.{is_some};
 ghost use Rattle.base_meaning.specs.Faults as profile;
 ghost use Rattle.everyday_sources.specs.Used.{AreFaults, ProblemSeen, TakesUsed, problem_seen};
@@ -26,10 +27,12 @@ ghost use Rattle.everyday_tic.specs.inside.States.{states_of};
 use crate::entries::{EntryFiles, entry_files};
 use crate::messages::{write_problems, write_unknowns};
 use crate::options::{TicOptions, TicOutcome};
+use crate::termcap::{TERMCAP_SOURCE, first_termcap};
 use everyday_report::{
     BLOCK_TOO_LONG, Place, TOO_MANY_BLOCKS, TOO_MANY_NAMES, write_faults, write_said,
 };
-use everyday_sources::{UsedEntries, chosen_names, plain, take_used};
+use everyday_sources::{UsedEntries, chosen_names, take_used};
+use lsp_plain::plain;
 use std::alloc::{AllocError, Global};
 use std::rc::RcSlice;
 use ti_base::{Database, Fault};
@@ -299,21 +302,23 @@ fn outcome(
     })
 }
 
-// What comes of a source with one user-defined name too many, which is in the block at a position.
-fn too_many_names(
+// An outcome without a file: a line on the block at a position, and the status 1.
+fn refused_at(
     alloc: Global,
     file: &str,
     first_line: u64,
     database: &Database,
     at: usize,
+    sentence: &str,
+    word: &str,
 ) -> Result<TicOutcome, AllocError>
     requires within { at < length database.now }
     requires first { first_line ≤ 9223372036854775808 }
-    ensures { IfOk result (λ outcome. made_of outcome ≡ spec.names_refusal file.now first_line database.now at) }
+    ensures { IfOk result (λ outcome. made_of outcome ≡ spec.refusal file.now (first_line + lines_before database.now at) sentence.now word.now) }
 {
     let starts = database.line_starts()?;
     let line = first_line + starts[at];
-    refused(alloc, file, line, TOO_MANY_NAMES, "TooManyNames")
+    refused(alloc, file, line, sentence, word)
 }
 
 // What comes of a source with one user-defined name too many; or out of memory.
@@ -329,7 +334,15 @@ fn not_compiled(
     ensures { IfOk result (λ outcome. (at : ℕ) × (error ≡ TooManyNames at) × (made_of outcome ≡ spec.names_refusal file.now first_line database.now at)) }
 {
     match error {
-        ValuesError::TooManyNames(at) => too_many_names(alloc, file, first_line, database, at),
+        ValuesError::TooManyNames(at) => refused_at(
+            alloc,
+            file,
+            first_line,
+            database,
+            at,
+            TOO_MANY_NAMES,
+            "TooManyNames",
+        ),
         ValuesError::Memory => Err(AllocError),
     }
 }
@@ -375,8 +388,8 @@ fn compile_all(
     }
 }
 
-// What comes of the blocks of a source, of which the first begins on the line of that number.
-fn compile_blocks<T: Tree>(
+// What comes of blocks of terminfo source, of which the first begins on the line of that number.
+fn compile_terminfo<T: Tree>(
     alloc: Global,
     tree: &mut T,
     directories: &[String],
@@ -404,6 +417,43 @@ fn compile_blocks<T: Tree>(
         options.user_defined,
     )?;
     compile_all(alloc, file, first_line, &database, count, used, options)
+}
+
+// What comes of the blocks of a source, of which the first begins on the line of that number.
+fn compile_blocks<T: Tree>(
+    alloc: Global,
+    tree: &mut T,
+    directories: &[String],
+    file: &str,
+    first_line: u64,
+    database: Database,
+    options: &TicOptions<'_>,
+) -> Result<TicOutcome, AllocError>
+    requires first { first_line ≤ 9223372036854775808 }
+    ensures comes { IfOk result (λ outcome. ComesOfBlocks (asked_of options.now) (T.files tree.old) (map string_bytes directories.now) file.now first_line
+        database (T.failures tree.old) (T.failures tree.new) (made_of outcome)) }
+    ensures kept { T.files tree.new ≡ T.files tree.old }
+{
+    match first_termcap(&database) {
+        Some(at) => refused_at(
+            alloc,
+            file,
+            first_line,
+            &database,
+            at,
+            TERMCAP_SOURCE,
+            "TermcapSource",
+        ),
+        None => compile_terminfo(
+            alloc,
+            tree,
+            directories,
+            file,
+            first_line,
+            database,
+            options,
+        ),
+    }
 }
 
 // What comes of a source that has neither a mark in front nor lines that end in CR LF.

@@ -13,11 +13,12 @@
 //! - `compiling`: what comes of a source (`tic`)
 //! - `laws`: a block of the source keeps its names, whatever is installed; and the outcome is
 //!   determined by the request, the source, the directories and the files
+//! - `termcap`: termcap source, which is not compiled
 //! - `writing`: what is written of it (`write`), and the line of `-s` (`summary`); `run` does both
 //!
-//! The crate `everyday_sources` has the source as it is taken: without what other systems put into
-//! it, and with the installed entries that it uses; `everyday_report` what is reported about its
-//! faults.
+//! The crate `lsp_plain` has the source as it is read, without what other systems put into it;
+//! `everyday_sources` has it with the installed entries that it uses, and `everyday_report` what is
+//! reported about its faults.
 #![tactic(auto)]
 
 mod compiling;
@@ -25,9 +26,10 @@ mod entries;
 pub mod laws;
 mod messages;
 mod options;
+mod termcap;
 mod writing;
 
 pub use compiling::tic;
-pub use everyday_sources::{Cause, Problem, plain};
+pub use everyday_sources::{Cause, Problem};
 pub use options::{TicOptions, TicOutcome};
 pub use writing::{TicStop, run, summary, write};

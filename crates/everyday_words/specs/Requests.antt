@@ -35,10 +35,11 @@ pub record InfocmpWanted : Type 0 where
   pub first_dir : Option Text
   pub other_dir : Option Text
 
--- of `ti-tput`: whether commands come from standard input, the terminal if it is given, the rate of
--- its line, and the words
+-- of `ti-tput`: whether commands come from standard input, whether `clear` keeps what has scrolled
+-- off the screen, the terminal if it is given, the rate of its line, and the words
 pub record TputWanted : Type 0 where
   pub lines : Bool
+  pub keeps_scrollback : Bool
   pub term : Option Text
   pub rate : ℕ
   pub words : List Text
@@ -98,6 +99,7 @@ infocmp_seen r = record {
 abbrev pub tput_seen : TputRequest → TputWanted
 tput_seen r = record {
   lines = r.lines;
+  keeps_scrollback = r.keeps_scrollback;
   term = option_map string_bytes r.term;
   rate = r.rate;
   words = map string_bytes r.words.items;

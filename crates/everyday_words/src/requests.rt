@@ -41,11 +41,13 @@ pub struct InfocmpRequest {
 pub struct TputRequest {
     /// Read commands from standard input, one per line.
     pub lines: bool,
+    /// Have `clear` keep what has scrolled off the screen.
+    pub keeps_scrollback: bool,
     /// The terminal, if it was given.
     pub term: Option<String>,
     /// The speed of the line to it in bits per second; at 0 nothing is padded.
     pub rate: u32,
-    /// A capability's name and its parameters; none with `lines`.
+    /// Names of capabilities, each with its parameters; none with `lines`.
     pub words: Vec<String>,
 }
 

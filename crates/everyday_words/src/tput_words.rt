@@ -1,9 +1,9 @@
 //! What the words after `ti-tput` are, for clap, and what they ask for.
 ghost use Rattle.std.specs.Prelude.{◌≡◌, codes, map};
 ghost use Rattle.clap.specs.Words.{first_of};
-ghost use Rattle.tools_commands.specs.Arguments.{rate_in, words_mistake};
+ghost use Rattle.tools_commands.specs.Arguments.{rate_in};
 ghost use Rattle.tools_commands.specs.Matches.{matched_rows};
-ghost use Rattle.everyday_words.specs.TputWords.{tput_asked, tput_with};
+ghost use Rattle.everyday_words.specs.TputWords.{tput_asked, tput_with, words_mistake};
 ghost use Rattle.everyday_words.specs.inside.Answers.{Answers};
 
 use crate::commands::CommandLine;
@@ -13,7 +13,6 @@ use crate::requests::{Request, TputRequest};
 use crate::rules::{Argument, Form};
 use clap::ArgMatches;
 use std::alloc::Global;
-use ti_text::limits::PARAMETERS_MAX;
 use tools_commands::Mistake;
 
 // The greatest rate of a line that may be asked for, in bits per second.
@@ -27,7 +26,7 @@ pub(crate) const TPUT: CommandLine<'static> = CommandLine {
         Argument {
             id: "keep",
             form: Form::Flag('x'),
-            help: "Do not clear the scrollback at 'clear' (the default)",
+            help: "Do not clear the scrollback at 'clear'",
         },
         Argument {
             id: "term",
@@ -47,25 +46,26 @@ pub(crate) const TPUT: CommandLine<'static> = CommandLine {
         Argument {
             id: "words",
             form: Form::Operands("WORD"),
-            help: "The capability's name, and its parameters",
+            help: "Names of capabilities, each with its parameters",
         },
     ],
     notes: "\
-The first WORD is a capability of terminfo(5), a user-defined one of the entry,
-longname, init or reset. The entry is searched for in the directories that
-'ti-infocmp -D' prints.
+Each name is a capability of terminfo(5), a user-defined one of the entry,
+longname, init or reset. It takes as many of the words after it as its string
+has parameters; what follows is the next name. The entry is searched for in the
+directories that 'ti-infocmp -D' prints.
 
-Exit status:
+Exit status, of the first capability whose status is not 0:
   0    the capability was printed, or the boolean is set
   1    the boolean or the string is absent
-  2    bad usage, or no terminal is named
+  2    bad usage, no terminal is named, or 'clear' is absent
   3    the terminal is unknown, or its entry is bad or cannot be read
   4    the capability is unknown, or its string cannot be expanded or padded
   255  something failed after the entry was read
-With -S: 0, or 4 and the number of bad lines, at most 255.
+With -S: 0, or 4 and the number of absent capabilities, at most 255.
 
 Examples:
-  ti-tput setaf 1
+  ti-tput bold setaf 1
   ti-tput -T xterm-256color Ss 4
   printf 'bold\\nsetaf 2\\n' | ti-tput -S",
 };
@@ -80,8 +80,7 @@ fn rate(matches: &ArgMatches<'_>) -> Option<u32>
     }
 }
 
-// What is wrong with this number of words: with `-S` there may be none, else there is a name and at
-// most nine parameters.
+// What is wrong with this number of words: with `-S` there may be none, else there is a name.
 fn words_mistake(lines: bool, count: usize) -> Option<Mistake>
     ensures { result ≡ words_mistake lines count }
 {
@@ -89,7 +88,6 @@ fn words_mistake(lines: bool, count: usize) -> Option<Mistake>
         (true, 0) => None,
         (true, _) => Some(Mistake::CapabilityBesideLines),
         (false, 0) => Some(Mistake::NoCapability),
-        (false, count) if count > PARAMETERS_MAX + 1 => Some(Mistake::TooManyParameters),
         (false, _) => None,
     }
 }
@@ -99,6 +97,7 @@ fn tput_of(alloc: Global, matches: &ArgMatches<'_>, words: &[&str]) -> Result<Re
     ensures { Answers (tput_with (matched_rows matches.now) (map (λ word. word.now) words.now)) result }
 {
     let lines = is_on(matches, "lines");
+    let keeps_scrollback = is_on(matches, "keep");
     let Some(rate) = rate(matches) else {
         return Err(NoRequest::Wrong(Mistake::NoCommandLine));
     };
@@ -109,6 +108,7 @@ fn tput_of(alloc: Global, matches: &ArgMatches<'_>, words: &[&str]) -> Result<Re
     let words = texts(alloc, words)?;
     Ok(Request::Tput(TputRequest {
         lines,
+        keeps_scrollback,
         term,
         rate,
         words,

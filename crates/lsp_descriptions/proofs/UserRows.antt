@@ -10,9 +10,9 @@ use Rattle.std.specs.Fmt.{digits}
 use Rattle.std.specs.List.{find, flat_map}
 use Rattle.std.specs.Option.{option_or}
 use Rattle.lsp_descriptions.specs.Rows.{Row}
-use Rattle.lsp_descriptions.specs.UserDescriptions.{UserDescribed, described_rows, modified, modified_by, modified_keys, modifiers, user_told}
+use Rattle.lsp_descriptions.specs.UserDescriptions.{UserDescribed, described_rows, function_keys, modified, modified_by, modified_keys, modifiers, shifted, shifted_keys, user_told}
 use Rattle.lsp_descriptions.specs.UserRows.{capital_rows, keys, other_rows}
-use Rattle.lsp_descriptions.specs.declared.user_rows.TheConstants.{CAPITALS, KEYS, MODIFIERS, OTHERS}
+use Rattle.lsp_descriptions.specs.declared.user_rows.TheConstants.{CAPITALS, FUNCTION_KEYS, KEYS, MODIFIERS, OTHERS}
 
 -- ---- the code's rows are those of the specification
 
@@ -47,6 +47,14 @@ modified_by_are key = ap (map (modified key)) modifiers_are
 pub keys_are : flat_map modified_by (map (λ k. (k.0.now, k.1.now)) KEYS) ≡ modified_keys
 unfolding modified_keys keys
 keys_are = refl
+
+numbers_are : map (λ n. n.now) FUNCTION_KEYS ≡ function_keys
+unfolding function_keys digits
+numbers_are = refl
+
+pub shifted_are : map (λ n. shifted n.now) FUNCTION_KEYS ≡ shifted_keys
+unfolding shifted_keys
+shifted_are = ap (map shifted) numbers_are
 
 -- ---- the first that has a name
 
@@ -105,8 +113,14 @@ one_more f ms i d before now x within so here =
     ∙ (append_assoc before (map f (take i ms)) (f (get_or ms i d) ∷ []) ∙ ap (λ (l : List UserDescribed). before ++ l) (sym more)))
 
 -- three lists that are pushed one after the other
-pub pushed_all : (none first second all xs ys zs rows rest : List UserDescribed) → none ≡ [] → first ≡ none ++ xs → second ≡ first ++ ys → all ≡ second ++ zs
-    → xs ++ ys ≡ rows → zs ≡ rest → all ≡ rows ++ rest
-pushed_all none first second all xs ys zs rows rest n f s a r e =
-    a ∙ (ap (λ (l : List UserDescribed). l ++ zs) (s ∙ (ap (λ (l : List UserDescribed). l ++ ys) (f ∙ ap (λ (l : List UserDescribed). l ++ xs) n) ∙ r))
-    ∙ ap (λ (l : List UserDescribed). rows ++ l) e)
+pub pushed_all : (none first second all xs ys zs rows : List UserDescribed) → none ≡ [] → first ≡ none ++ xs → second ≡ first ++ ys → all ≡ second ++ zs
+    → xs ++ ys ≡ rows → all ≡ rows ++ zs
+pushed_all none first second all xs ys zs rows n f s a r =
+    a ∙ ap (λ (l : List UserDescribed). l ++ zs) (s ∙ (ap (λ (l : List UserDescribed). l ++ ys) (f ∙ ap (λ (l : List UserDescribed). l ++ xs) n) ∙ r))
+
+-- two lists that are pushed one after the other
+pub pushed_both : (before first all xs ys keys others : List UserDescribed) → first ≡ before ++ xs → all ≡ first ++ ys → xs ≡ keys → ys ≡ others
+    → all ≡ before ++ (keys ++ others)
+pushed_both before first all xs ys keys others f a k o =
+    a ∙ ap (λ (l : List UserDescribed). l ++ ys) f ∙ append_assoc before xs ys
+    ∙ (ap (λ (l : List UserDescribed). before ++ (l ++ ys)) k ∙ ap (λ (l : List UserDescribed). before ++ (keys ++ l)) o)

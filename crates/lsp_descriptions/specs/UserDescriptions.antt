@@ -68,11 +68,35 @@ modified_by key = map (modified key) modifiers
 unfoldable pub modified_keys : List UserDescribed
 modified_keys = flat_map modified_by (map (λ k. (codes k.0, codes k.1)) keys)
 
+-- ---- function keys that are pressed together with Shift
+
+-- the numbers of the function keys that have a capability, `kf0` to `kf63` (terminfo(5))
+unfoldable pub function_keys : List (List ℕ)
+function_keys =
+    map decimal
+    (0 ∷ 1 ∷ 2 ∷ 3 ∷ 4 ∷ 5 ∷ 6 ∷ 7 ∷ 8 ∷ 9 ∷ 10 ∷ 11 ∷ 12 ∷ 13 ∷ 14 ∷ 15 ∷
+    16 ∷ 17 ∷ 18 ∷ 19 ∷ 20 ∷ 21 ∷ 22 ∷ 23 ∷ 24 ∷ 25 ∷ 26 ∷ 27 ∷ 28 ∷ 29 ∷ 30 ∷ 31 ∷
+    32 ∷ 33 ∷ 34 ∷ 35 ∷ 36 ∷ 37 ∷ 38 ∷ 39 ∷ 40 ∷ 41 ∷ 42 ∷ 43 ∷ 44 ∷ 45 ∷ 46 ∷ 47 ∷
+    48 ∷ 49 ∷ 50 ∷ 51 ∷ 52 ∷ 53 ∷ 54 ∷ 55 ∷ 56 ∷ 57 ∷ 58 ∷ 59 ∷ 60 ∷ 61 ∷ 62 ∷ 63 ∷ [])
+
+-- what is said about the function key of this number with Shift: ncurses's entries of the Wyse 50 and
+-- the Wyse 60 have `kF1` to `kF16` for it, and `kf1` to `kf16` for the key alone
+abbrev pub shifted : List ℕ → UserDescribed
+shifted number = record {
+  name = codes "kF" ++ number;
+  kinds = codes "string";
+  documentation = key_sentence (codes "function key F" ++ number) (codes "Shift");
+}
+
+-- what is said about the function keys with Shift
+unfoldable pub shifted_keys : List UserDescribed
+shifted_keys = map shifted function_keys
+
 -- ---- all of them
 
 -- what is said about all that are known
 abbrev pub user_descriptions : List UserDescribed
-user_descriptions = described_rows ++ modified_keys
+user_descriptions = described_rows ++ (modified_keys ++ shifted_keys)
 
 -- whether it has a name
 abbrev pub has_name : List ℕ → UserDescribed → Bool

@@ -71,7 +71,7 @@ capital_rows =
     ("Z1", "string", "Set the width of the screen to 80 columns", "") ∷
     []
 
--- the others, 43
+-- the others, 45
 unfoldable pub other_rows : List Row
 other_rows =
     ("blink2", "string", "Turn fast blinking on", "") ∷
@@ -113,15 +113,18 @@ other_rows =
     ("rmxx", "string", "Turn struck-out text off", "") ∷
     ("rv", "string", "What answers RV, as a regular expression", "") ∷
     ("setal", "string", "Set the colour of underlines", "colour") ∷
+    ("setrgbb", "string", "Set the background to a direct colour", "red, green, blue") ∷
+    ("setrgbf", "string", "Set the foreground to a direct colour", "red, green, blue") ∷
     ("smul2", "string", "Turn double underlining on", "") ∷
     ("smxx", "string", "Turn struck-out text on", "") ∷
     ("xm", "string", "What the mouse sends", "row, column, button, state, first row, first column, last row, last column") ∷
     ("xr", "string", "What answers XR, as a regular expression", "") ∷
     []
 
--- the keys that are pressed together with modifiers: the name without them, and the key, 11
+-- the keys that are pressed together with modifiers: the name without them, and the key, 12
 unfoldable pub keys : List (String × String)
 keys =
+    ("kBEG", "the Begin key") ∷
     ("kDC", "the delete-character key") ∷
     ("kDN", "the down arrow key") ∷
     ("kEND", "the End key") ∷

@@ -1,9 +1,23 @@
 //! Whether a user-defined name is known.
-ghost use Rattle.std.specs.Prelude.{◌≡◌};
+ghost use Rattle.std.specs.Prelude.{◌≡◌, ◌++◌};
+ghost use Rattle.std.specs.List.{find};
 ghost use Rattle.std.specs.Option.{is_some};
-ghost use Rattle.lsp_descriptions.specs.UserDescriptions.{user_described};
+ghost use Rattle.lsp_descriptions.specs.UserDescriptions.{has_name, modified_keys, shifted_keys, user_described};
 
-use crate::user_rows::{key_named, row_named};
+use crate::user_rows::{function_key_named, key_named, row_named};
+
+// Whether a name is that of a key with modifiers, or of a function key with Shift.
+fn is_key(name: &[u8]) -> bool
+    ensures { result ≡ is_some (find (has_name name.now) (modified_keys ++ shifted_keys)) }
+{
+    if let Some(_key) = key_named(name) {
+        return true;
+    }
+    match function_key_named(name) {
+        Some(_number) => true,
+        None => false,
+    }
+}
 
 /// Whether something is said about the user-defined capability of a name: whether it is known. No
 /// memory is taken.
@@ -13,8 +27,5 @@ pub fn is_known(name: &[u8]) -> bool
     if let Some(_row) = row_named(name) {
         return true;
     }
-    match key_named(name) {
-        Some(_key) => true,
-        None => false,
-    }
+    is_key(name)
 }

@@ -2,11 +2,12 @@
 //! of ncurses's entries.
 //!
 //! The rows are proved equal to those of the specification. A key that is pressed together with
-//! modifiers has a name by rule, as `kUP3` is the name of the up arrow key with Alt.
+//! modifiers has a name by rule, as `kUP3` is the name of the up arrow key with Alt, and `kF5` that of
+//! function key F5 with Shift.
 ghost use Rattle.std.specs.Prelude.{◌≡◌, ◌++◌, map, option_map};
 ghost use Rattle.std.specs.List.{find, flat_map};
 ghost use Rattle.std.specs.Str.{bytes_eq};
-ghost use Rattle.lsp_descriptions.specs.UserDescriptions.{described_rows, has_name, modified, modified_by, modified_keys, user_told};
+ghost use Rattle.lsp_descriptions.specs.UserDescriptions.{described_rows, has_name, modified, modified_by, modified_keys, shifted, shifted_keys, user_told};
 
 // A row: the name, the kinds that its value may have, a sentence and the parameters.
 pub(crate) type UserRow = (&'static str, &'static str, &'static str, &'static str);
@@ -99,6 +100,25 @@ pub(crate) fn key_named(name: &[u8]) -> Option<(Key, Modifier)>
     key_in(&KEYS, name)
 }
 
+// The number of a name, if it is that of a function key of these numbers with Shift.
+fn number_in(numbers: &'static [&'static str], name: &[u8]) -> Option<&'static str>
+    ensures { option_map (λ n. shifted n.now) result ≡ find (has_name name.now) (map (λ n. shifted n.now) numbers.now) }
+{
+    for number in numbers {
+        if is_joined(name, "kF", *number) {
+            return Some(*number);
+        }
+    }
+    None
+}
+
+/// The number of the function key of a name, if it is that of a function key with Shift.
+pub(crate) fn function_key_named(name: &[u8]) -> Option<&'static str>
+    ensures { option_map (λ n. shifted n.now) result ≡ find (has_name name.now) shifted_keys }
+{
+    number_in(&FUNCTION_KEYS, name)
+}
+
 // The rows whose names begin with a capital letter.
 pub(crate) static CAPITALS: [UserRow; 61] = user_rows! {
     "AN", "boolean", "Screen drops output not yet written when it clears the screen";
@@ -166,7 +186,7 @@ pub(crate) static CAPITALS: [UserRow; 61] = user_rows! {
 };
 
 // The other rows.
-pub(crate) static OTHERS: [UserRow; 43] = user_rows! {
+pub(crate) static OTHERS: [UserRow; 45] = user_rows! {
     "blink2", "string", "Turn fast blinking on";
     "csl", "string", "Clear the status line";
     "fd", "string", "Turn reports of the focus off";
@@ -206,6 +226,8 @@ pub(crate) static OTHERS: [UserRow; 43] = user_rows! {
     "rmxx", "string", "Turn struck-out text off";
     "rv", "string", "What answers RV, as a regular expression";
     "setal", "string", "Set the colour of underlines", "colour";
+    "setrgbb", "string", "Set the background to a direct colour", "red, green, blue";
+    "setrgbf", "string", "Set the foreground to a direct colour", "red, green, blue";
     "smul2", "string", "Turn double underlining on";
     "smxx", "string", "Turn struck-out text on";
     "xm", "string", "What the mouse sends",
@@ -214,7 +236,8 @@ pub(crate) static OTHERS: [UserRow; 43] = user_rows! {
 };
 
 // The keys that are pressed together with modifiers.
-pub(crate) static KEYS: [Key; 11] = [
+pub(crate) static KEYS: [Key; 12] = [
+    ("kBEG", "the Begin key"),
     ("kDC", "the delete-character key"),
     ("kDN", "the down arrow key"),
     ("kEND", "the End key"),
@@ -245,4 +268,12 @@ pub(crate) static MODIFIERS: [Modifier; 15] = [
     ("14", "Shift+Ctrl+Meta"),
     ("15", "Alt+Ctrl+Meta"),
     ("16", "Shift+Alt+Ctrl+Meta"),
+];
+
+// The numbers of the function keys that have a capability, `kf0` to `kf63`.
+pub(crate) static FUNCTION_KEYS: [&'static str; 64] = [
+    "0", "1", "2", "3", "4", "5", "6", "7", "8", "9", "10", "11", "12", "13", "14", "15", "16",
+    "17", "18", "19", "20", "21", "22", "23", "24", "25", "26", "27", "28", "29", "30", "31", "32",
+    "33", "34", "35", "36", "37", "38", "39", "40", "41", "42", "43", "44", "45", "46", "47", "48",
+    "49", "50", "51", "52", "53", "54", "55", "56", "57", "58", "59", "60", "61", "62", "63",
 ];

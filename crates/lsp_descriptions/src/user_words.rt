@@ -1,12 +1,13 @@
 //! What is said about a user-defined capability that is known, as text.
-ghost use Rattle.std.specs.Prelude.{◌≡◌, ◌++◌, IfOk, OnOk, map, option_map};
-ghost use Rattle.std.specs.List.{flat_map};
+ghost use Rattle.std.specs.Prelude.{◌≡◌, ◌++◌, IfOk, OnOk, codes, map, option_map};
+ghost use Rattle.std.specs.List.{find, flat_map};
 ghost use Rattle.std.specs.String.{string_bytes};
-ghost use Rattle.lsp_descriptions.specs.UserDescriptions.{key_sentence, modified, modified_by, user_described, user_descriptions, user_told};
-ghost use Rattle.lsp_descriptions.specs.UserDescriptions.{user_description_seen};
+ghost use Rattle.lsp_descriptions.specs.UserDescriptions.{key_sentence, modified, modified_by, shifted, user_described, user_descriptions, user_told};
+ghost use Rattle.lsp_descriptions.specs.UserDescriptions.{has_name, modified_keys, shifted_keys, user_description_seen};
 
 use crate::user_rows::{
-    CAPITALS, KEYS, Key, MODIFIERS, Modifier, OTHERS, UserRow, key_named, row_named,
+    CAPITALS, FUNCTION_KEYS, KEYS, Key, MODIFIERS, Modifier, OTHERS, UserRow, function_key_named,
+    key_named, row_named,
 };
 use crate::words::{after_stop, parameters_text};
 use std::alloc::{AllocError, Global};
@@ -67,6 +68,39 @@ fn of_key(alloc: Global, key: Key, modifier: Modifier) -> Result<UserDescription
     })
 }
 
+// What a function key is called.
+fn function_key(alloc: Global, number: &str) -> Result<String, AllocError>
+    ensures { IfOk result (λ text. string_bytes text ≡ codes "function key F" ++ number.now) }
+{
+    format!(in alloc; "function key F{number}")
+}
+
+// What is said about the function key of a number with Shift.
+fn of_function_key(alloc: Global, number: &str) -> Result<UserDescription, AllocError>
+    ensures { IfOk result (λ said. user_description_seen said ≡ shifted number.now) }
+{
+    let key = function_key(alloc, number)?;
+    Ok(UserDescription {
+        name: joined_name(alloc, "kF", number)?,
+        kinds: "string",
+        documentation: key_sentence(alloc, key.as_str(), "Shift")?,
+    })
+}
+
+// What is said about the key of a name, if it is that of a key with modifiers, or of a function key
+// with Shift.
+fn key_description(alloc: Global, name: &[u8]) -> Result<Option<UserDescription>, AllocError>
+    ensures { IfOk result (λ said. option_map user_description_seen said ≡ find (has_name name.now) (modified_keys ++ shifted_keys)) }
+{
+    if let Some((key, modifier)) = key_named(name) {
+        return Ok(Some(of_key(alloc, key, modifier)?));
+    }
+    match function_key_named(name) {
+        Some(number) => Ok(Some(of_function_key(alloc, number)?)),
+        None => Ok(None),
+    }
+}
+
 /// What is said about the user-defined capability of a name; `None` if it is not known.
 ///
 /// # Errors
@@ -77,10 +111,7 @@ pub fn user_description(alloc: Global, name: &[u8]) -> Result<Option<UserDescrip
     if let Some(row) = row_named(name) {
         return Ok(Some(of_row(alloc, row)?));
     }
-    match key_named(name) {
-        Some((key, modifier)) => Ok(Some(of_key(alloc, key, modifier)?)),
-        None => Ok(None),
-    }
+    key_description(alloc, name)
 }
 
 // Appends what rows say.
@@ -129,8 +160,32 @@ fn push_keys(
     Ok(())
 }
 
+// Appends what is said about the function keys of these numbers with Shift.
+fn push_function_keys(
+    alloc: Global,
+    all: &mut Vec<UserDescription>,
+    numbers: &'static [&'static str],
+) -> Result<(), AllocError>
+    ensures { OnOk result (map user_description_seen all.new.items
+        ≡ map user_description_seen all.old.items ++ map (λ n. shifted n.now) numbers.now) }
+{
+    for number in numbers {
+        all.push(of_function_key(alloc, *number)?)?;
+    }
+    Ok(())
+}
+
+// Appends what is said about the keys with modifiers, and then about the function keys with Shift.
+fn push_all_keys(alloc: Global, all: &mut Vec<UserDescription>) -> Result<(), AllocError>
+    ensures { OnOk result (map user_description_seen all.new.items
+        ≡ map user_description_seen all.old.items ++ (modified_keys ++ shifted_keys)) }
+{
+    push_keys(alloc, all, &KEYS)?;
+    push_function_keys(alloc, all, &FUNCTION_KEYS)
+}
+
 /// What is said about each user-defined capability that is known: those with a row of their own, by
-/// name, and then the keys with modifiers.
+/// name, then the keys with modifiers, and then the function keys with Shift.
 ///
 /// # Errors
 /// Out of memory.
@@ -140,6 +195,6 @@ pub fn user_descriptions(alloc: Global) -> Result<Vec<UserDescription>, AllocErr
     let mut all = Vec::new(alloc);
     push_rows(alloc, &mut all, &CAPITALS)?;
     push_rows(alloc, &mut all, &OTHERS)?;
-    push_keys(alloc, &mut all, &KEYS)?;
+    push_all_keys(alloc, &mut all)?;
     Ok(all)
 }

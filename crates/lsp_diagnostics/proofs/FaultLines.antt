@@ -48,13 +48,14 @@ placed_item n faults items i fault same within is all =
 -- ---- the diagnostics of faults for which marks are given
 
 -- the diagnostic of a fault by the lines before its block
-pub shown_marked : (texts : List (List ℕ)) (first start number : ℕ) (mark range : Range) (fault : ExtendedSourceFault) (shown : Shown) → 1 ≤ first → 1 ≤ fault_line fault
+pub shown_marked : (capabilities : Capabilities) (texts : List (List ℕ)) (first start number : ℕ) (mark range : Range) (fault : ExtendedSourceFault)
+    (shown : Shown) → 1 ≤ first → 1 ≤ fault_line fault
     → start ≡ lines_before texts (block_of fault) → number ≡ first - 1 + start + (fault_line fault - 1) → range ≡ on_line number mark
-    → shown ≡ record { range = range; problem = problem_of fault; message = message_of fault }
-    → shown ≡ marked_diagnostic texts first mark fault
-shown_marked texts first start number mark range fault shown one line is e there seen =
+    → shown ≡ record { range = range; problem = problem_of fault; message = message_of capabilities fault }
+    → shown ≡ marked_diagnostic capabilities texts first mark fault
+shown_marked capabilities texts first start number mark range fault shown one line is e there seen =
     let same : number ≡ number_of texts first fault - 1 = omega (arith, one, line, is, e) in
-    seen ∙ ap (λ (r : Range). record { range = r; problem = problem_of fault; message = message_of fault })
+    seen ∙ ap (λ (r : Range). record { range = r; problem = problem_of fault; message = message_of capabilities fault })
     (there ∙ ap (λ (n : ℕ). on_line n mark) same)
 
 -- what is left is the next and the rest
@@ -62,29 +63,30 @@ next_of : {X : Type 0} (all : List X) (at : ℕ) (x : X) → at < length all →
 next_of all at x within is = drop-cons all at x within ∙ rw (← is, add-one) refl
 
 -- one more diagnostic
-pub one_more_shown : (texts : List (List ℕ)) (first : ℕ) (marks : List Range) (faults : List ExtendedFault) (at : ℕ) (mark : Range) (fault : ExtendedFault) (shown : Shown)
-    (before all : List Shown)
+pub one_more_shown : (capabilities : Capabilities) (texts : List (List ℕ)) (first : ℕ) (marks : List Range) (faults : List ExtendedFault) (at : ℕ)
+    (mark : Range) (fault : ExtendedFault) (shown : Shown) (before all : List Shown)
     → at < length faults → fault ≡ get_or faults at fault → at < length marks → slice_get marks at ≡ Some mark
-    → shown ≡ marked_diagnostic texts first mark (fault_seen fault)
-    → before ++ marked_diagnostics texts first (drop at marks) (map fault_seen (drop at faults)) ≡ all
-    → (before ++ shown ∷ []) ++ marked_diagnostics texts first (drop (at + 1) marks) (map fault_seen (drop (at + 1) faults)) ≡ all
-one_more_shown texts first marks faults at mark fault shown before all within is there held seen e =
-    append_assoc before (shown ∷ []) (marked_diagnostics texts first (drop (at + 1) marks) (map fault_seen (drop (at + 1) faults)))
-    ∙ ap (λ (s : Shown). before ++ s ∷ marked_diagnostics texts first (drop (at + 1) marks) (map fault_seen (drop (at + 1) faults))) seen
-    ∙ ap₂ (λ (ms : List Range) (fs : List ExtendedFault). before ++ marked_diagnostics texts first ms (map fault_seen fs))
+    → shown ≡ marked_diagnostic capabilities texts first mark (fault_seen fault)
+    → before ++ marked_diagnostics capabilities texts first (drop at marks) (map fault_seen (drop at faults)) ≡ all
+    → (before ++ shown ∷ []) ++ marked_diagnostics capabilities texts first (drop (at + 1) marks) (map fault_seen (drop (at + 1) faults)) ≡ all
+one_more_shown capabilities texts first marks faults at mark fault shown before all within is there held seen e =
+    append_assoc before (shown ∷ []) (marked_diagnostics capabilities texts first (drop (at + 1) marks) (map fault_seen (drop (at + 1) faults)))
+    ∙ ap (λ (s : Shown). before ++ s ∷ marked_diagnostics capabilities texts first (drop (at + 1) marks) (map fault_seen (drop (at + 1) faults))) seen
+    ∙ ap₂ (λ (ms : List Range) (fs : List ExtendedFault). before ++ marked_diagnostics capabilities texts first ms (map fault_seen fs))
     (sym (next_of marks at mark there (sym (get_or_from_slice_get marks at mark mark held)))) (sym (next_of faults at fault within is))
     ∙ e
 
-nothing : (texts : List (List ℕ)) (first : ℕ) (marks : List Range) → marked_diagnostics texts first marks [] ≡ []
-nothing texts first [] = refl
-nothing texts first (mark ∷ marks) = refl
+nothing : (capabilities : Capabilities) (texts : List (List ℕ)) (first : ℕ) (marks : List Range) → marked_diagnostics capabilities texts first marks [] ≡ []
+nothing capabilities texts first [] = refl
+nothing capabilities texts first (mark ∷ marks) = refl
 
 -- no fault is left
-pub all_shown : (texts : List (List ℕ)) (first : ℕ) (marks : List Range) (faults : List ExtendedFault) (at : ℕ) (before all : List Shown) → length faults ≤ at
-    → before ++ marked_diagnostics texts first (drop at marks) (map fault_seen (drop at faults)) ≡ all → before ≡ all
-all_shown texts first marks faults at before all past e =
-    sym (ap (λ (fs : List ExtendedFault). before ++ marked_diagnostics texts first (drop at marks) (map fault_seen fs)) (drop_all at faults past)
-    ∙ ap (λ (ss : List Shown). before ++ ss) (nothing texts first (drop at marks)) ∙ append-nil before)
+pub all_shown : (capabilities : Capabilities) (texts : List (List ℕ)) (first : ℕ) (marks : List Range) (faults : List ExtendedFault) (at : ℕ)
+    (before all : List Shown) → length faults ≤ at
+    → before ++ marked_diagnostics capabilities texts first (drop at marks) (map fault_seen (drop at faults)) ≡ all → before ≡ all
+all_shown capabilities texts first marks faults at before all past e =
+    sym (ap (λ (fs : List ExtendedFault). before ++ marked_diagnostics capabilities texts first (drop at marks) (map fault_seen fs)) (drop_all at faults past)
+    ∙ ap (λ (ss : List Shown). before ++ ss) (nothing capabilities texts first (drop at marks)) ∙ append-nil before)
     ∙ e
 
 -- what is shown on a line is what is shown on the line of the number 0, put on it
@@ -97,22 +99,22 @@ on_its_line number text row (Some part) =
       | false ↦ refl
     ]
 
-marked_are_shown : (texts : List (List ℕ)) (first : ℕ) (last : Option (ℕ × Search)) (all : List ExtendedSourceFault)
-    → marked_diagnostics texts first (source_marks texts last all) all ≡ fault_diagnostics texts first last all
-marked_are_shown texts first last [] = refl
-marked_are_shown texts first last (fault ∷ all) =
+marked_are_shown : (capabilities : Capabilities) (texts : List (List ℕ)) (first : ℕ) (last : Option (ℕ × Search)) (all : List ExtendedSourceFault)
+    → marked_diagnostics capabilities texts first (source_marks texts last all) all ≡ fault_diagnostics capabilities texts first last all
+marked_are_shown capabilities texts first last [] = refl
+marked_are_shown capabilities texts first last (fault ∷ all) =
     let found = found_for texts last fault in
-    ap₂ (λ (r : Range) (ss : List Shown). record { range = r; problem = problem_of fault; message = message_of fault } ∷ ss)
+    ap₂ (λ (r : Range) (ss : List Shown). record { range = r; problem = problem_of fault; message = message_of capabilities fault } ∷ ss)
     (on_its_line (number_of texts first fault - 1) (text_at texts (block_of fault)) (fault_line fault - 1) found.0)
-    (marked_are_shown texts first (Some (block_of fault, found.1)) all)
+    (marked_are_shown capabilities texts first (Some (block_of fault, found.1)) all)
 
 -- the diagnostics of the faults of a source
 pub marked_shown : (capabilities : Capabilities) (texts : List (List ℕ)) (first : ℕ) (all : List ExtendedSourceFault) (marks : List Range)
     → AreMarked capabilities texts all marks
-    → marked_diagnostics texts first marks all ≡ fault_diagnostics texts first None (faults_by capabilities texts)
+    → marked_diagnostics capabilities texts first marks all ≡ fault_diagnostics capabilities texts first None (faults_by capabilities texts)
 marked_shown capabilities texts first all marks are =
-    ap (λ (ms : List Range). marked_diagnostics texts first ms all) are.marked ∙ marked_are_shown texts first None all
-    ∙ ap (fault_diagnostics texts first None) are.whole
+    ap (λ (ms : List Range). marked_diagnostics capabilities texts first ms all) are.marked ∙ marked_are_shown capabilities texts first None all
+    ∙ ap (fault_diagnostics capabilities texts first None) are.whole
 
 -- each has what is shown for it
 as_many : (texts : List (List ℕ)) (last : Option (ℕ × Search)) (all : List ExtendedSourceFault) → length (source_marks texts last all) ≡ length all
@@ -128,10 +130,10 @@ as_many_marks capabilities texts faults marks are = ap length are.marked ∙ as_
 -- if it is taken
 pub taken_shown : (capabilities : Capabilities) (text : List ℕ) (database : List (List ℕ)) (first : ℕ) (all : List Shown) → source_refusal text ≡ None
     → (source_refusal text ≡ None → database ≡ source_texts text) → first ≡ first_line text
-    → all ≡ fault_diagnostics database first None (faults_by capabilities database) → all ≡ diagnostics_by capabilities text
+    → all ≡ fault_diagnostics capabilities database first None (faults_by capabilities database) → all ≡ diagnostics_by capabilities text
 taken_shown capabilities text database first all none held line e =
-    e ∙ ap (λ (n : ℕ). fault_diagnostics database n None (faults_by capabilities database)) line
-    ∙ ap (λ (texts : List (List ℕ)). fault_diagnostics texts (first_line text) None (faults_by capabilities texts)) (held none)
+    e ∙ ap (λ (n : ℕ). fault_diagnostics capabilities database n None (faults_by capabilities database)) line
+    ∙ ap (λ (texts : List (List ℕ)). fault_diagnostics capabilities texts (first_line text) None (faults_by capabilities texts)) (held none)
     ∙ sym (ap (diagnostics_unless capabilities text) none)
 
 -- if it is refused

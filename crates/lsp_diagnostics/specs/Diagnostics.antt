@@ -7,6 +7,7 @@ use Rattle.std.specs.Prelude.{◌≡◌, ℕ, ◌+◌, ◌-◌, ◌<◌, ◌≤�
 use Rattle.std.specs.String.{string_bytes}
 use Rattle.ti_text.specs.Ascii as ascii
 use Rattle.ti_source.specs.declared.code.Code.{Code}
+use Rattle.ti_source.specs.declared.code.Code.TheVariants.{MissingUse}
 use Rattle.ti_source.specs.Code.{code_name, is_error, label_of}
 use Rattle.base_meaning.specs.Owner.{readings}
 use Rattle.base_meaning.specs.Faults.{SourceFault, faults}
@@ -63,10 +64,16 @@ diagnostic_seen d = record { range = d.range; problem = d.problem; message = str
 abbrev pub shown_on : ℕ → List ℕ → Problem → List ℕ → Shown
 shown_on number line problem message = record { range = marked number line; problem = problem; message = message }
 
+-- what a fault means in a source that may have these capabilities, and a hint: `ti-tic` takes an
+-- installed entry where `ti tic` reports that no block has the name of a use
+abbrev pub sentence_by : Capabilities → Code → List ℕ
+sentence_by UserDefined MissingUse = codes "No block has this name. Correct it, or add the block: only ti-tic takes an installed entry."
+sentence_by capabilities code = sentence code
+
 -- what is reported about a fault: its name and the detail as its report shows it, what it means,
 -- and a hint
-abbrev pub fault_message : Code → Option (List ℕ) → List ℕ
-fault_message code detail = code_name code ++ detail_text detail ++ codes ": " ++ sentence code
+abbrev pub fault_message : Capabilities → Code → Option (List ℕ) → List ℕ
+fault_message capabilities code detail = code_name code ++ detail_text detail ++ codes ": " ++ sentence_by capabilities code
 
 -- what an invalid value of a user-defined name means, and a hint
 abbrev pub bad_value_sentence : List ℕ
@@ -77,32 +84,32 @@ abbrev pub problem_of : ExtendedSourceFault → Problem
 problem_of (of_profile fault) = Fault fault.code
 problem_of (bad_user_defined block line name) = BadUserDefined
 
--- what is reported about it
-abbrev pub message_of : ExtendedSourceFault → List ℕ
-message_of (of_profile fault) = fault_message fault.code fault.detail
-message_of (bad_user_defined block line name) = codes "BadUserDefined" ++ detail_text (Some name) ++ codes ": " ++ bad_value_sentence
+-- what is reported about it in a source that may have these capabilities
+abbrev pub message_of : Capabilities → ExtendedSourceFault → List ℕ
+message_of capabilities (of_profile fault) = fault_message capabilities fault.code fault.detail
+message_of capabilities (bad_user_defined block line name) = codes "BadUserDefined" ++ detail_text (Some name) ++ codes ": " ++ bad_value_sentence
 
 -- the number of its line in a source whose first block begins on the line of the number `first`,
 -- each counted from 1
 abbrev pub number_of : List (List ℕ) → ℕ → ExtendedSourceFault → ℕ
 number_of texts first fault = first + lines_before texts (block_of fault) + fault_line fault - 1
 
--- the diagnostic of a fault that is of a part of its block, in a source whose first block begins on
--- the line of that number, counted from 1
-abbrev pub fault_diagnostic : List (List ℕ) → ℕ → Option Part → ExtendedSourceFault → Shown
-fault_diagnostic texts first part fault = record {
+-- the diagnostic of a fault that is of a part of its block, in a source that may have these
+-- capabilities and whose first block begins on the line of that number, counted from 1
+abbrev pub fault_diagnostic : Capabilities → List (List ℕ) → ℕ → Option Part → ExtendedSourceFault → Shown
+fault_diagnostic capabilities texts first part fault = record {
   range = marked_for (number_of texts first fault - 1) (text_at texts (block_of fault)) (fault_line fault - 1) part;
   problem = problem_of fault;
-  message = message_of fault;
+  message = message_of capabilities fault;
 }
 
 -- the diagnostics of faults, one by one, each with the part that it is of; `last` is the block of the
 -- fault before them with what the search for its part left
-abbrev pub fault_diagnostics : List (List ℕ) → ℕ → Option (ℕ × Search) → List ExtendedSourceFault → List Shown
-fault_diagnostics texts first last [] = []
-fault_diagnostics texts first last (fault ∷ faults) =
-    fault_diagnostic texts first (found_for texts last fault).0 fault
-    ∷ fault_diagnostics texts first (Some (block_of fault, (found_for texts last fault).1)) faults
+abbrev pub fault_diagnostics : Capabilities → List (List ℕ) → ℕ → Option (ℕ × Search) → List ExtendedSourceFault → List Shown
+fault_diagnostics capabilities texts first last [] = []
+fault_diagnostics capabilities texts first last (fault ∷ faults) =
+    fault_diagnostic capabilities texts first (found_for texts last fault).0 fault
+    ∷ fault_diagnostics capabilities texts first (Some (block_of fault, (found_for texts last fault).1)) faults
 
 -- the diagnostic of a source that is refused, on the line on which the block begins for which it is
 abbrev pub refusal_diagnostic : List ℕ → SourceError → Shown
@@ -111,7 +118,8 @@ refusal_diagnostic text (refusal.TooManyBlocks line) = shown_on (line - 1) (line
 
 -- the diagnostics of a source, by its refusal if it has one
 abbrev pub diagnostics_unless : Capabilities → List ℕ → Option SourceError → List Shown
-diagnostics_unless capabilities text None = fault_diagnostics (source_texts text) (first_line text) None (faults_by capabilities (source_texts text))
+diagnostics_unless capabilities text None =
+    fault_diagnostics capabilities (source_texts text) (first_line text) None (faults_by capabilities (source_texts text))
 diagnostics_unless capabilities text (Some error) = refusal_diagnostic text error ∷ []
 
 -- the diagnostics of a source, by which capabilities it may have
@@ -165,11 +173,22 @@ pub record AreOfExtendedFaults (texts : List (List ℕ)) (first : ℕ) (all : Li
   pub each : (at : ℕ) (fault : ExtendedSourceFault) (diagnostic : Shown) → slice_get all at ≡ Some fault → slice_get shown at ≡ Some diagnostic
       → IsOfExtendedFault texts first fault diagnostic
 
+-- the faults that the profile reports of these blocks
+abbrev pub profile_faults : List (List ℕ) → List SourceFault
+profile_faults texts = faults (readings texts)
+
 -- with user-defined capabilities the diagnostics of a source that is not refused are those of the
--- faults that `tic -x` reports; of a source with too many user-defined names those of the profile
+-- faults that `tic -x` reports; of a source with too many user-defined names those of the faults of
+-- the profile; with user-defined capabilities and without, a source that is refused has the
+-- diagnostic of its refusal
 pub record UserDefinedDiagnosticsAreTheFaults : Type 0 where
   pub faults : (text : List ℕ) (states : List EntryState) → source_refusal text ≡ None
       → name_count (source_texts text) (length (source_texts text)) ≤ name_limit → AreStates (source_texts text) states
       → AreOfExtendedFaults (source_texts text) (first_line text) (extended_faults (source_texts text) states) (diagnostics_by UserDefined text)
-  pub too_many : (text : List ℕ) → name_limit < name_count (source_texts text) (length (source_texts text))
-      → diagnostics_by UserDefined text ≡ diagnostics_of text
+  pub too_many : (text : List ℕ) → source_refusal text ≡ None → name_limit < name_count (source_texts text) (length (source_texts text))
+      → diagnostics_by UserDefined text
+      ≡ fault_diagnostics UserDefined (source_texts text) (first_line text) None (faults_by Profile (source_texts text))
+  pub too_many_faults : (text : List ℕ) → source_refusal text ≡ None → name_limit < name_count (source_texts text) (length (source_texts text))
+      → AreOfFaults (source_texts text) (first_line text) (profile_faults (source_texts text)) (diagnostics_by UserDefined text)
+  pub refused : (capabilities : Capabilities) (text : List ℕ) (error : SourceError) → source_refusal text ≡ Some error
+      → diagnostics_by capabilities text ≡ refusal_diagnostic text error ∷ []

@@ -32,6 +32,21 @@ use user_kept::KeptDatabase;
 const BAD_VALUE: &str =
     "Invalid value of a user-defined capability, so the item is ignored. Correct the number or the string.";
 
+// What it means that no block has the name of a use, where `ti-tic` takes an installed entry, and a
+// hint.
+const MISSING_USE: &str =
+    "No block has this name. Correct it, or add the block: only ti-tic takes an installed entry.";
+
+/// What a fault means in a source that may have these capabilities, and a hint.
+pub fn sentence_by(capabilities: Capabilities, code: Code) -> &'static str
+    ensures { result.now ≡ spec.sentence_by capabilities code }
+{
+    match (capabilities, code) {
+        (Capabilities::UserDefined, Code::MissingUse) => MISSING_USE,
+        _ => sentence(code),
+    }
+}
+
 /// What is wrong.
 #[derive(Clone, Copy, Debug, PartialEq, Eq)]
 pub enum Problem {
@@ -115,15 +130,23 @@ fn push_subject(
     }
 }
 
-// What a diagnostic says of a fault of the profile.
-fn profile_message(alloc: Global, fault: &Fault) -> Result<String, AllocError>
-    ensures { IfOk result (λ message. string_bytes message ≡ fault_message fault.now.code (option_map rc_slice_items fault.now.detail)) }
+/// What a diagnostic says of a fault of the profile in a source that may have these capabilities.
+///
+/// # Errors
+/// Out of memory.
+pub fn profile_message(
+    alloc: Global,
+    capabilities: Capabilities,
+    fault: &Fault,
+) -> Result<String, AllocError>
+    ensures { IfOk result (λ message. string_bytes message
+        ≡ fault_message capabilities fault.now.code (option_map rc_slice_items fault.now.detail)) }
 {
     let mut message = String::new(alloc);
     message.push_str(fault.code.name())?;
     push_subject(alloc, &mut message, &fault.detail)?;
     message.push_str(": ")?;
-    message.push_str(sentence(fault.code))?;
+    message.push_str(sentence_by(capabilities, fault.code))?;
     Ok(message)
 }
 
@@ -142,11 +165,15 @@ fn bad_message(alloc: Global, name: &RcSlice<u8>) -> Result<String, AllocError>
 }
 
 // What a diagnostic says of a fault.
-fn message_of(alloc: Global, fault: &ExtendedFault) -> Result<String, AllocError>
-    ensures { IfOk result (λ message. string_bytes message ≡ message_of (fault_seen fault.now)) }
+fn message_of(
+    alloc: Global,
+    capabilities: Capabilities,
+    fault: &ExtendedFault,
+) -> Result<String, AllocError>
+    ensures { IfOk result (λ message. string_bytes message ≡ message_of capabilities (fault_seen fault.now)) }
 {
     match fault {
-        ExtendedFault::Profile(fault) => profile_message(alloc, fault),
+        ExtendedFault::Profile(fault) => profile_message(alloc, capabilities, fault),
         ExtendedFault::BadUserDefined { name, .. } => bad_message(alloc, name),
     }
 }
@@ -175,19 +202,20 @@ fn shown_on(number: usize, line: &[u8], problem: Problem, message: String) -> Di
 // The diagnostic of a fault that is shown there.
 fn diagnostic_of(
     alloc: Global,
+    capabilities: Capabilities,
     range: Range,
     fault: &ExtendedFault,
 ) -> Result<Diagnostic, AllocError>
     ensures { IfOk result (λ diagnostic. diagnostic_seen diagnostic ≡ record {
       range = range;
       problem = problem_of (fault_seen fault.now);
-      message = message_of (fault_seen fault.now);
+      message = message_of capabilities (fault_seen fault.now);
     }) }
 {
     Ok(Diagnostic {
         range,
         problem: problem_of(fault),
-        message: message_of(alloc, fault)?,
+        message: message_of(alloc, capabilities, fault)?,
     })
 }
 
@@ -239,7 +267,7 @@ fn fault_diagnostics(
     requires first { 1 ≤ first }
     requires room { first ≤ 2 ^ 63 }
     requires marked { AreMarked capabilities database.now (map fault_seen marked.now.faults.items) marked.now.marks.items }
-    ensures { IfOk result (λ all. map diagnostic_seen all.items ≡ spec.fault_diagnostics database.now first None (faults_by capabilities database.now)) }
+    ensures { IfOk result (λ all. map diagnostic_seen all.items ≡ spec.fault_diagnostics capabilities database.now first None (faults_by capabilities database.now)) }
 {
     let faults = marked.faults.as_slice();
     let marks = marked.marks.as_slice();
@@ -249,7 +277,7 @@ fn fault_diagnostics(
         let fault = &faults[at];
         let number = number_of(first, starts[fault.block()], fault.line());
         let range = on_line(number, mark_at(marks, at));
-        all.push(diagnostic_of(alloc, range, fault)?)?;
+        all.push(diagnostic_of(alloc, capabilities, range, fault)?)?;
     }
     Ok(all)
 }
@@ -309,7 +337,7 @@ fn held_diagnostics(
 ) -> Result<Vec<Diagnostic>, AllocError>
     requires first { 1 ≤ first }
     requires room { first ≤ 2 ^ 63 }
-    ensures { IfOk result (λ all. map diagnostic_seen all.items ≡ spec.fault_diagnostics database.now first None (faults_by capabilities database.now)) }
+    ensures { IfOk result (λ all. map diagnostic_seen all.items ≡ spec.fault_diagnostics capabilities database.now first None (faults_by capabilities database.now)) }
 {
     let marked = mark_faults(alloc, capabilities, database, kept)?;
     fault_diagnostics(alloc, capabilities, database, &marked, first)
@@ -353,7 +381,7 @@ fn held_kept_diagnostics(
 ) -> Result<Vec<Diagnostic>, AllocError>
     requires first { 1 ≤ first }
     requires room { first ≤ 2 ^ 63 }
-    ensures all { IfOk result (λ all. map diagnostic_seen all.items ≡ spec.fault_diagnostics database.old first None (faults_by UserDefined database.old)) }
+    ensures all { IfOk result (λ all. map diagnostic_seen all.items ≡ spec.fault_diagnostics UserDefined database.old first None (faults_by UserDefined database.old)) }
     ensures same { database.new ≡ database.old }
 {
     let marked = mark_kept_faults(alloc, database, kept)?;
@@ -403,7 +431,7 @@ pub fn states_are_those()
 /// A law, with no code: with user-defined capabilities the diagnostics of a source that is not
 /// refused are the faults that `tic -x` reports, one by one and in the same order, each with the
 /// code, the line, the name and the detail of its fault; of a source of more than 1,024 distinct
-/// user-defined names they are those of the profile.
+/// user-defined names they are those of the faults of the profile.
 pub fn user_defined_diagnostics_are_the_faults()
     ensures { spec.UserDefinedDiagnosticsAreTheFaults }
 {}

@@ -19,5 +19,8 @@ mod marking;
 mod source_faults;
 
 pub use capabilities::Capabilities;
-pub use diagnostics::{Diagnostic, Problem, kept_diagnostics, shown_detail, source_diagnostics};
+pub use diagnostics::{
+    Diagnostic, Problem, kept_diagnostics, profile_message, sentence_by, shown_detail,
+    source_diagnostics,
+};
 pub use kept::KeptMarks;

@@ -24,8 +24,9 @@ use Rattle.lsp_blocks.specs.Symbols.{IsUpTo}
 use Rattle.lsp_blocks.specs.declared.spots.Spot.{Spot}
 use Rattle.lsp_blocks.proofs.Selections.{rises_in}
 use Rattle.lsp_features.specs.Completions.{CompletionSeen, CompletionsStayInTheLine, completion_for, completion_in, is_break, last_word}
-use Rattle.lsp_features.proofs.Following.{PartsRise, Rise, drop_rises, front_rises, fronts_rise, halves, items_rise, lines_more, rise_folded, rise_higher}
+use Rattle.lsp_features.proofs.Following.{PartsRise, Rise, drop_rises, front_rises, fronts_rise, halves, items_rise, rise_folded, rise_higher}
 use Rattle.lsp_features.proofs.Following.{rise_lower, rise_up}
+use Rattle.lsp_features.proofs.RenamesFollow.{lines_more}
 
 or_no : (a b : Bool) → (a || b) ≡ false → (a ≡ false) × (b ≡ false)
 or_no true b e = absurd cc

@@ -1,33 +1,19 @@
--- What is renamed is in the order of the text, and no part of it overlaps another.
-use Rattle.std.proofs.Common.{◌≡◌, ℕ, zero, suc, ◌+◌, ◌-◌, ◌≤◌, ◌==◌, ◌||◌, ◌&&◌, All, Bool, true, false, cond, inl, inr, List, [], ◌∷◌, ◌++◌, drop, filter}
-use Rattle.std.proofs.Common.{flat_map, length, map, take, Option, None, Some, refl, sym, subst, arith}
-use Rattle.std.specs.Option.{option_map_or, option_to_list}
+-- The parts of a block that get a new name are in its order, and none overlaps another.
+use Rattle.std.proofs.Common.{ℕ, zero, suc, ◌+◌, ◌-◌, ◌≤◌, ◌==◌, ◌||◌, ◌&&◌, Bool, true, false, cond, List, [], ◌∷◌, ◌++◌, drop, filter}
+use Rattle.std.proofs.Common.{flat_map, length, map, take, None, Some, sym, subst, arith}
+use Rattle.std.specs.Option.{option_to_list}
 use Rattle.std.specs.Str.{bytes_eq}
 use Rattle.std.specs.List.{list_all}
 use Rattle.std.specs.Prelude.{codes}
-use Rattle.std.proofs.lemmas.Bool.{eq-eqb}
 use Rattle.std.proofs.lemmas.List.{map-append}
-use Rattle.std.proofs.lemmas.List.Elements.{All-head, All-tail}
-use Rattle.std.proofs.lemmas.List.Sums.{sum_by-cons}
-use Rattle.ti_text.specs.Lines.{line_count}
 use Rattle.ti_text.specs.WhiteSpace.{is_white_space}
-use Rattle.ti_source.specs.Cutting.{last_byte}
 use Rattle.ti_source.specs.Folding.{PlacedByte}
 use Rattle.ti_source.specs.Items.{bytes, takes, without_front}
 use Rattle.lsp_spans.specs.Folding.{bytes_at, folded_of, in_comment, without_breaks, without_comments}
 use Rattle.lsp_spans.specs.Parts.{end_of, field_of, items_after, names_of, rest_of, spanned, with_first}
-use Rattle.lsp_spans.specs.Subjects.{TouchedSeen, UseSeen, begins_with, lookup_parts, own_spans, span_if, use_in, used_name, uses_of, without_end}
+use Rattle.lsp_spans.specs.Subjects.{UseSeen, begins_with, lookup_parts, own_spans, span_if, use_in, used_name, uses_of, without_end}
 use Rattle.lsp_spans.specs.declared.parts.Part.{Part}
-use Rattle.lsp_types.specs.declared.failures.Failure.{Failure}
-use Rattle.lsp_types.specs.declared.places.Position.{Position}
-use Rattle.lsp_types.specs.declared.places.Range.{Range}
-use Rattle.lsp_document.specs.Documents.{HeldBlocksFit, IsShortBlock, held}
-use Rattle.lsp_places.specs.Position.{ends_line, place_after, step_over, units}
-use Rattle.lsp_blocks.specs.Spots.{head_line, place_in, range_in}
-use Rattle.lsp_blocks.specs.Symbols.{IsUpTo}
-use Rattle.lsp_blocks.proofs.Selections.{rises_in, up_up}
-use Rattle.lsp_features.specs.Names.{is_sought, name_of, one_name, owner_of, parts_in, ranges_from, ranges_in, ranges_of, touched_at, used_parts}
-use Rattle.lsp_features.specs.Renaming.{FollowFrom, RenamedPartsFollow, failure_of, refuses, renamed, renamed_touched, renames, renames_nothing}
+use Rattle.lsp_features.specs.Names.{is_sought, one_name, parts_in, used_parts}
 
 -- ---- bytes whose offsets rise, from the first offset to before the last
 
@@ -266,125 +252,3 @@ sought_rise blocks owner at name block =
     let uses = uses_rise cut.0 end (map without_front (items_after 44 (rest_of text))) items in
     let kept = kept_rise cut.0 end (λ (found : UseSeen). is_sought blocks (one_name owner name) found.name) (uses_of block) uses in
     spans_append 0 cut.0 end (cond (owner == at) (own_spans name block) []) (used_parts blocks (one_name owner name) block) head kept
-
--- ---- the ranges of a block
-
-abbrev Follows : Position → Position → List Range → Type 0
-Follows low high [] = IsUpTo low high
-Follows low high (range ∷ ranges) = IsUpTo low range.start × IsUpTo range.start range.end × Follows range.end high ranges
-
-follows_lower : (low less high : Position) (ranges : List Range) → IsUpTo low less → Follows less high ranges → Follows low high ranges
-follows_lower low less high [] le r = up_up low less high le r
-follows_lower low less high (range ∷ ranges) le r = (up_up low less range.start le r.0, r.1, r.2)
-
-follows_append : (low middle high : Position) (one other : List Range) → Follows low middle one → Follows middle high other → Follows low high (one ++ other)
-follows_append low middle high [] other p q = follows_lower low middle high other p q
-follows_append low middle high (range ∷ ranges) other p q = (p.0, p.1, follows_append range.end middle high ranges other p.2 q)
-
-follows_in : (line : ℕ) (block : List ℕ) (low high : ℕ) (spans : List Part) → SpansRise low high spans
-    → Follows (place_in line block low) (place_in line block high) (map (range_in line block) spans)
-follows_in line block low high [] r = rises_in line block low high r
-follows_in line block low high (span ∷ spans) r =
-    (rises_in line block low span.start r.0, rises_in line block span.start span.end r.1, follows_in line block span.end high spans r.2)
-
--- ---- the end of a block is the start of the next line
-
--- the start of a line
-abbrev start_of : ℕ → Position
-start_of line = record { line = line; column = 0 }
-
--- a place after a byte is at the start of a line if the byte ends one
-abbrev IsStart : ℕ → Position → Type 0
-IsStart before place = before ≡ 10 → place.column ≡ 0
-
-step_line : (newline ends : Bool) (place : Position) (n : ℕ)
-    → (cond newline (record { line = place.line + 1; column = 0 }) (cond ends place (record { line = place.line; column = place.column + n }))).line
-    ≡ place.line + cond newline 1 0
-step_line true ends place n = refl
-step_line false true place n = omega arith
-step_line false false place n = omega arith
-
-step_start : (newline ends : Bool) (place : Position) (n : ℕ) → newline ≡ true
-    → (cond newline (record { line = place.line + 1; column = 0 }) (cond ends place (record { line = place.line; column = place.column + n }))).column ≡ 0
-step_start true ends place n e = refl
-step_start false ends place n e = absurd cc
-
-pub lines_more : (byte : ℕ) (bytes : List ℕ) → line_count (byte ∷ bytes) ≡ cond (byte == 10) 1 0 + line_count bytes
-lines_more byte bytes = sum_by-cons (λ (x : ℕ). cond (x == 10) 1 0) byte bytes
-
-ends_at : (place : Position) (before : ℕ) (text : List ℕ) → last_byte before text ≡ 10 → IsStart before place
-    → ((place_after place text (length text)).line ≡ place.line + line_count text) × ((place_after place text (length text)).column ≡ 0)
-ends_at place before [] last start = (omega arith, start last)
-ends_at place before (byte ∷ bytes) last start =
-    let next = step_over (byte ∷ bytes) place in
-    let begins : IsStart byte next = λ e. step_start (byte == 10) (ends_line (byte ∷ bytes)) place (units byte) (eq-eqb byte 10 e) in
-    let h = ends_at next byte bytes last begins in
-    (omega (arith, h.0, step_line (byte == 10) (ends_line (byte ∷ bytes)) place (units byte), lines_more byte bytes), h.1)
-
-block_end : (line : ℕ) (block : List ℕ) → last_byte 0 block ≡ 10 → IsUpTo (place_in line block (length block)) (start_of (line + line_count block))
-block_end line block last =
-    let h = ends_at (start_of 0) 0 block last (λ e. refl) in
-    inr (omega (arith, h.0), omega (arith, h.1))
-
-block_start : (line : ℕ) (block : List ℕ) → IsUpTo (start_of line) (place_in line block 0)
-block_start line [] = inr (omega arith, omega arith)
-block_start line (byte ∷ bytes) = inr (omega arith, omega arith)
-
--- ---- all blocks
-
-all_follow : (blocks : List (List ℕ)) (owner : ℕ) (name : List ℕ) (at line : ℕ) (rest : List (List ℕ)) → All IsShortBlock rest
-    → (high : Position) × Follows (start_of line) high (ranges_from blocks (one_name owner name) at line rest)
-all_follow blocks owner name at line [] short = (start_of line, inr (refl, omega arith))
-all_follow blocks owner name at line (block ∷ rest) short =
-    let sought = one_name owner name in
-    let next = line + line_count block in
-    let end = place_in line block (length block) in
-    let later = all_follow blocks owner name (suc at) next rest (All-tail IsShortBlock block rest short) in
-    let here = ranges_in blocks sought at line block in
-    let before = follows_lower (start_of line) (place_in line block 0) end here (block_start line block)
-    (follows_in line block 0 (length block) (parts_in blocks sought at block) (sought_rise blocks owner at name block)) in
-    let after = follows_lower end (start_of next) later.0 (ranges_from blocks sought (suc at) next rest)
-    (block_end line block (All-head IsShortBlock block rest short).1.ends) later.1 in
-    (later.0, follows_append (start_of line) end later.0 here (ranges_from blocks sought (suc at) next rest) before after)
-
-from_start : (low high : Position) (ranges : List Range) → Follows low high ranges → FollowFrom low ranges
-from_start low high [] r = tt
-from_start low high (range ∷ ranges) r = (r.0, r.1, from_start range.end high ranges r.2)
-
-from_first : (low less : Position) (ranges : List Range) → IsUpTo low less → FollowFrom less ranges → FollowFrom low ranges
-from_first low less [] le r = tt
-from_first low less (range ∷ ranges) le r = (up_up low less range.start le r.0, r.1, r.2)
-
-line_up : (line : ℕ) → IsUpTo (start_of 0) (start_of line)
-line_up zero = inr (refl, omega arith)
-line_up (suc line) = inl (omega arith)
-
--- ---- what is renamed
-
-abbrev IsInOrder : List Range → Type 0
-IsInOrder ranges = FollowFrom (start_of 0) ranges
-
-ranges_follow : HeldBlocksFit → (text : List ℕ) (owner : ℕ) (name : List ℕ) → IsInOrder (ranges_of text (one_name owner name))
-ranges_follow fit text owner name =
-    let line = head_line text in
-    let ranges = ranges_of text (one_name owner name) in
-    let all = all_follow (held text) owner name 0 line (held text) (fit text).1 in
-    from_first (start_of 0) (start_of line) ranges (line_up line) (from_start (start_of line) all.0 ranges all.1)
-
-of_failure : HeldBlocksFit → (text : List ℕ) (at : ℕ) (name : List ℕ) (failure : Option Failure) (parts : List Range)
-    → option_map_or refuses failure (renames (ranges_of text (one_name at name))) ≡ renames parts → IsInOrder parts
-of_failure fit text at name None parts e = let same : ranges_of text (one_name at name) ≡ parts = cc in subst IsInOrder same (ranges_follow fit text at name)
-of_failure fit text at name (Some failure) parts e = absurd cc
-
-of_owner : HeldBlocksFit → (text new name : List ℕ) (owner : Option ℕ) (parts : List Range)
-    → option_map_or (λ at. renamed text at name new) owner renames_nothing ≡ renames parts → IsInOrder parts
-of_owner fit text new name None parts e = absurd cc
-of_owner fit text new name (Some at) parts e = of_failure fit text at name (failure_of (held text) at new) parts e
-
-of_touched : HeldBlocksFit → (text new : List ℕ) (found : Option TouchedSeen) (parts : List Range)
-    → option_map_or (renamed_touched text new) found renames_nothing ≡ renames parts → IsInOrder parts
-of_touched fit text new None parts e = absurd cc
-of_touched fit text new (Some touched) parts e = of_owner fit text new (name_of touched.subject) (owner_of (held text) touched) parts e
-
-pub renamed_follow : HeldBlocksFit → RenamedPartsFollow
-renamed_follow fit text place new parts e = of_touched fit text new (touched_at text place) parts e

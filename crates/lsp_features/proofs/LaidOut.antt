@@ -3,7 +3,7 @@ use Rattle.std.proofs.Common.{◌≡◌, ℕ, Bool, true, false, cond, List, [],
 use Rattle.std.proofs.Common.{refl, sym, ap, ap₂, ◌∙◌, arith}
 use Rattle.std.specs.Prelude.{max}
 use Rattle.std.proofs.lemmas.List.{append-nil, drop_all}
-use Rattle.lsp_format.specs.Layout.{formatted_text}
+use Rattle.lsp_format.specs.Sources.{formatted_source}
 use Rattle.lsp_places.specs.Position.{PositionsAreInverse, is_start, offset_of, position_of}
 use Rattle.lsp_places.specs.Splicing.{spliced}
 use Rattle.lsp_features.specs.Formatting.{EditsLayOut, LayoutSeen, client_laid, whole_edit}
@@ -38,7 +38,7 @@ all_exchanged text new start end first last =
 
 pub edits_lay : PositionsAreInverse → EditsLayOut
 edits_lay inverse text edit begins e =
-    let laid = formatted_text 80 text in
+    let laid = formatted_source 80 text in
     let is : whole_edit text laid ≡ edit = edit_is _ _ laid (whole_edit text) edit e in
     let first : offset_of text (record { line = 0; column = 0 }) ≡ 0 =
     ap (offset_of text) (sym (first_place text)) ∙ inverse text 0 (omega arith) begins in

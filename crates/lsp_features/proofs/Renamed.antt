@@ -218,20 +218,20 @@ uses_lead blocks others at name new a place block used there u =
 
 -- ---- what blocks say
 
-same_length : (name new : List ℕ) (at k : ℕ) (blocks others : List Reading) → AreRenamed name new at k blocks others → length others ≡ length blocks
+pub same_length : (name new : List ℕ) (at k : ℕ) (blocks others : List Reading) → AreRenamed name new at k blocks others → length others ≡ length blocks
 same_length name new at k [] [] r = refl
 same_length name new at k [] (other ∷ others) r = absurd r
 same_length name new at k (block ∷ blocks) [] r = absurd r
 same_length name new at k (block ∷ blocks) (other ∷ others) r = ap (λ (n : ℕ). suc n) (same_length name new at (suc k) blocks others r.1)
 
 -- the block at a position after the rename
-record After (name new : List ℕ) (others : List Reading) (place : ℕ) (block : Reading) : Type 0 where
-  own : Bool
-  other : Reading
-  there : slice_get others place ≡ Some other
-  is : IsRenamed name new own block other
+pub record After (name new : List ℕ) (others : List Reading) (place : ℕ) (block : Reading) : Type 0 where
+  pub own : Bool
+  pub other : Reading
+  pub there : slice_get others place ≡ Some other
+  pub is : IsRenamed name new own block other
 
-after_at : (name new : List ℕ) (at k : ℕ) (blocks others : List Reading) (place : ℕ) (block : Reading) → AreRenamed name new at k blocks others
+pub after_at : (name new : List ℕ) (at k : ℕ) (blocks others : List Reading) (place : ℕ) (block : Reading) → AreRenamed name new at k blocks others
     → slice_get blocks place ≡ Some block
     → After name new others place block
 after_at name new at k [] others place block r there = absurd cc

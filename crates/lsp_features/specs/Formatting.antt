@@ -4,7 +4,7 @@ use Rattle.std.specs.Prelude.{ℕ, ◌≡◌, true, List, Option, None, Some, le
 use Rattle.std.specs.Str.{bytes_eq, is_utf8}
 use Rattle.std.specs.String.{string_bytes}
 use Rattle.lsp_types.specs.declared.places.Range.{Range}
-use Rattle.lsp_format.specs.Layout.{formatted_text}
+use Rattle.lsp_format.specs.Sources.{formatted_source}
 use Rattle.lsp_places.specs.Position.{is_start, offset_of, position_of}
 use Rattle.lsp_places.specs.Splicing.{spliced}
 use Rattle.lsp_features.specs.declared.formatting.LayoutEdit.{LayoutEdit}
@@ -36,7 +36,7 @@ layout_edit text laid = if bytes_eq laid text then None else option_map (whole_e
 
 -- the edit that gives a text the layout of lines of 80 columns
 abbrev pub layout_of : List ℕ → Option LayoutSeen
-layout_of text = layout_edit text (formatted_text 80 text)
+layout_of text = layout_edit text (formatted_source 80 text)
 
 -- a text once the client has made an edit
 abbrev pub client_laid : List ℕ → LayoutSeen → List ℕ
@@ -46,4 +46,4 @@ client_laid text edit = spliced text (offset_of text edit.range.start) (offset_o
 abbrev pub EditsLayOut : Type 0
 EditsLayOut =
     (text : List ℕ) (edit : LayoutSeen) → is_start 0 text 0 ≡ true → layout_of text ≡ Some edit
-    → client_laid text edit ≡ formatted_text 80 text
+    → client_laid text edit ≡ formatted_source 80 text

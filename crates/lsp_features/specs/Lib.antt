@@ -5,8 +5,11 @@ pub mod Explaining
 pub mod Formatting
 pub mod Hovers
 pub mod Meanings
+pub mod NameEdits
 pub mod Names
 pub mod Renamed
 pub mod Renaming
+pub mod Signatures
 pub mod UserMeanings
+pub mod UserRenamed
 pub mod inside

@@ -1,2 +1,3 @@
 -- Words that only private functions and proofs use.
 pub mod Seeking
+pub mod Starting

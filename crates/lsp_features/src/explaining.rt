@@ -19,8 +19,8 @@ use std::alloc::{AllocError, Global};
 use ti_caps::{Cap, name};
 use ti_source::{What, parse};
 
-// How many bytes of a folded text are from one offset of a block up to another.
-fn bytes_between(text: &[(u8, usize)], from: usize, to: usize) -> usize
+/// How many bytes of a folded text are from one offset of a block up to another.
+pub(crate) fn bytes_between(text: &[(u8, usize)], from: usize, to: usize) -> usize
     ensures { result ≡ bytes_between from to text.now }
 {
     text.iter().filter(|x| from <= x.1 && x.1 < to).count()
@@ -34,8 +34,8 @@ fn rest_from(text: &[u8], place: usize) -> &[u8]
     &text[start..]
 }
 
-// The text of the value of an item: what is after its name and the byte after that.
-fn value_text(item: &Item) -> &[u8]
+/// The text of the value of an item: what is after its name and the byte after that.
+pub(crate) fn value_text(item: &Item) -> &[u8]
     ensures { result.now ≡ value_text (item_seen item.now) }
 {
     let name = item.name.as_slice();

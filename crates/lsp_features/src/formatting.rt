@@ -5,7 +5,7 @@ ghost use Rattle.lsp_features.specs.Formatting as spec;
 ghost use Rattle.lsp_features.specs.Formatting.{layout_edit, layout_seen, utf8_of};
 
 use lsp_document::Document;
-use lsp_format::formatted;
+use lsp_format::formatted_source;
 use lsp_places::position_of;
 use lsp_types::{Position, Range};
 use std::alloc::{AllocError, Global};
@@ -32,8 +32,8 @@ fn whole_of(text: &[u8]) -> Range
     }
 }
 
-// Bytes as a text, if they are UTF-8.
-fn utf8_of(bytes: Vec<u8>) -> Option<String>
+/// Bytes as a text, if they are UTF-8.
+pub(crate) fn utf8_of(bytes: Vec<u8>) -> Option<String>
     ensures { option_map string_bytes result ≡ utf8_of bytes.items }
 {
     match String::from_utf8(bytes) {
@@ -58,8 +58,8 @@ fn layout_edit(text: &[u8], laid: Vec<u8>) -> Option<LayoutEdit>
     }
 }
 
-/// The edit that gives a document the layout of `ti-fmt`, in lines of 80 columns; `None` if it has
-/// that layout, or would not be UTF-8 then.
+/// The edit that gives a document the layout of `ti-fmt`, in lines of 80 columns, with the line ends
+/// and the byte order mark that it has; `None` if it has that layout, or would not be UTF-8 then.
 ///
 /// # Errors
 /// Out of memory.
@@ -67,7 +67,7 @@ pub fn layout_of(alloc: Global, document: &Document) -> Result<Option<LayoutEdit
     ensures { IfOk result (λ edit. option_map layout_seen edit ≡ spec.layout_of document.now) }
 {
     let text = document.text();
-    let laid = formatted(alloc, COLUMNS, text)?;
+    let laid = formatted_source(alloc, COLUMNS, text)?;
     Ok(layout_edit(text, laid))
 }
 

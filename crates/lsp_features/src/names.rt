@@ -121,8 +121,11 @@ fn is_sought(database: &Database, sought: Sought<'_>, name: &[u8]) -> bool
     }
 }
 
-// The parts of the head of a block at that position that are sought.
-fn head_parts(
+/// The parts of the head of a block at that position that are sought.
+///
+/// # Errors
+/// Out of memory.
+pub(crate) fn head_parts(
     alloc: Global,
     sought: Sought<'_>,
     at: usize,
@@ -180,9 +183,12 @@ fn any_sought_use(database: &Database, sought: Sought<'_>, items: &[Item]) -> bo
     false
 }
 
-// Adds the uses in the block at that position that are sought. Its text is gone through only if one
-// of its items, as they were read, is such a use.
-fn push_uses_at(
+/// Adds the uses in the block at that position that are sought. Its text is gone through only if one
+/// of its items, as they were read, is such a use.
+///
+/// # Errors
+/// Out of memory.
+pub(crate) fn push_uses_at(
     alloc: Global,
     parts: &mut Vec<Part>,
     database: &Database,

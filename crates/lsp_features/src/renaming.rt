@@ -1,15 +1,22 @@
 //! What an editor renames: a name of an entry, with its uses.
-ghost use Rattle.std.specs.Prelude.{◌≡◌, ◌<◌, IfOk, map};
+ghost use Rattle.std.specs.Prelude.{◌≡◌, ◌<◌, ◌+◌, ◌++◌, ◌^◌, IfOk, None, Some, length, map, option_map, true, if◌then◌else◌};
+ghost use Rattle.std.specs.List.{list_all};
 ghost use Rattle.std.specs.Str.{bytes_eq};
 ghost use Rattle.ti_source.specs.Reading.{item_of, said_of};
 ghost use Rattle.base_meaning.specs.Owner.{owner, readings};
 ghost use Rattle.base_meaning.specs.Reaching.{any_use, use_passes, used_name};
+ghost use Rattle.lsp_document.specs.Diagnostics.{text_at};
+ghost use Rattle.lsp_blocks.specs.Counting.{CanCount};
 ghost use Rattle.lsp_features.specs.Edited.{RenamesAreApplied};
+ghost use Rattle.lsp_features.specs.NameEdits.{can_be_put, edits_in, name_edit_seen, rename_seen};
 ghost use Rattle.lsp_features.specs.Renamed.{BlocksSayWhatTheyDid, EntriesHoldWhatTheyDid, UsesLeadWhereTheyDid};
+ghost use Rattle.lsp_features.specs.UserRenamed.{BlocksSayOfUsersWhatTheyDid, UserValuesStay};
 ghost use Rattle.lsp_features.specs.Renaming as spec;
-ghost use Rattle.lsp_features.specs.Renaming.{failure_of, is_taken, is_used, renamed, renaming_seen};
+ghost use Rattle.lsp_features.specs.Renaming.{can_be_renamed, edits_from, failure_of, is_taken, is_used, placed_edit, rename_edit_seen, renamed, renaming_seen};
 
-use crate::names::{Sought, name_of, owner_of, push_all, touched_at};
+use crate::formatting::utf8_of;
+use crate::name_edits::{NameEdit, Rename, edits_in, is_in_line};
+use crate::names::{name_of, owner_of, touched_at};
 use lsp_blocks::{can_be_given, head_line, range_in, spot_at};
 use lsp_document::Document;
 use lsp_spans::subject_at;
@@ -17,6 +24,16 @@ use lsp_types::{Failure, Position, Range};
 use std::alloc::{AllocError, Global};
 use ti_base::Database;
 use ti_source::{Item, What};
+use ti_text::count_lines;
+
+/// A text that takes the place of a part of a document, within a line.
+#[derive(Debug, Drop)]
+pub struct RenameEdit {
+    /// The part.
+    pub range: Range,
+    /// Its new text.
+    pub text: String,
+}
 
 /// What comes of a rename.
 #[derive(Drop)]
@@ -25,8 +42,9 @@ pub enum Renaming {
     Nothing,
     /// The new name is refused.
     Refused(Failure),
-    /// These parts of the document get the new name, in the order of the text.
-    Parts(Vec<Range>),
+    /// These edits put the new name in the place of the old one, in the order of the text: one for
+    /// each, or one for each line of a name that is folded over lines.
+    Edits(Vec<RenameEdit>),
 }
 
 // Whether what an item says is that it uses a name.
@@ -94,30 +112,112 @@ fn failure_of(
     Ok(None)
 }
 
-// What comes of a rename of a name that the block at a position owns.
-fn renamed(
+// An edit of a block that begins on that line, as one of the text, if it can be put in its place.
+fn put(
     alloc: Global,
-    document: &Document,
-    owner: usize,
-    name: &[u8],
-    new: &[u8],
-) -> Result<Renaming, AllocError>
-    ensures { IfOk result (λ renaming. renaming_seen renaming ≡ renamed document.now owner name.now new.now) }
+    line: usize,
+    block: &[u8],
+    edit: NameEdit<'_>,
+) -> Result<Option<RenameEdit>, AllocError>
+    requires { line + length block.now < 2 ^ 64 }
+    ensures { IfOk result (λ found. option_map rename_edit_seen found
+        ≡ (if can_be_put block.now (name_edit_seen edit.entry) then Some (placed_edit line block.now (name_edit_seen edit.entry)) else None)) }
+{
+    if !is_in_line(block, edit) {
+        return Ok(None);
+    }
+    match utf8_of(Vec::from_slice(alloc, edit.text)?) {
+        Some(text) => Ok(Some(RenameEdit {
+            range: range_in(line, block, edit.part),
+            text,
+        })),
+        None => Ok(None),
+    }
+}
+
+// Adds edits of a block that begins on that line, and tells whether each can be put in its place.
+fn push_edits(
+    alloc: Global,
+    edits: &mut Vec<RenameEdit>,
+    line: usize,
+    block: &[u8],
+    found: &[NameEdit<'_>],
+) -> Result<bool, AllocError>
+    requires { line + length block.now < 2 ^ 64 }
+    ensures all { IfOk result (λ all. all ≡ list_all (can_be_put block.now) (map name_edit_seen found.now)) }
+    ensures edits { IfOk result (λ all. all ≡ true → map rename_edit_seen edits.new.items
+        ≡ map rename_edit_seen edits.old.items ++ map (placed_edit line block.now) (map name_edit_seen found.now)) }
+{
+    for edit in found {
+        match put(alloc, line, block, *edit)? {
+            Some(edit) => edits.push(edit)?,
+            None => return Ok(false),
+        }
+    }
+    Ok(true)
+}
+
+// The same of the edits of a rename in the block at that position.
+fn push_edits_at(
+    alloc: Global,
+    edits: &mut Vec<RenameEdit>,
+    database: &Database,
+    rename: Rename<'_>,
+    line: usize,
+    at: usize,
+) -> Result<bool, AllocError>
+    requires within { at < length database.now }
+    requires room { line + length (text_at database.now at) < 2 ^ 64 }
+    ensures all { IfOk result (λ all. all ≡ list_all (can_be_put (text_at database.now at)) (edits_in (rename_seen rename.entry) at (text_at database.now at))) }
+    ensures edits { IfOk result (λ all. all ≡ true → map rename_edit_seen edits.new.items ≡ map rename_edit_seen edits.old.items
+        ++ map (placed_edit line (text_at database.now at)) (edits_in (rename_seen rename.entry) at (text_at database.now at))) }
+{
+    let found = edits_in(alloc, database, rename, at)?;
+    push_edits(alloc, edits, line, database.text(at), &found)
+}
+
+// The edits of a rename in all blocks, of which the first begins on that line, if each can be put in
+// its place.
+fn all_edits(
+    alloc: Global,
+    database: &Database,
+    rename: Rename<'_>,
+    first: usize,
+) -> Result<Option<Vec<RenameEdit>>, AllocError>
+    requires { CanCount first database.now }
+    ensures { IfOk result (λ found. option_map (λ edits. map rename_edit_seen edits.items) found
+        ≡ (if can_be_renamed (rename_seen rename.entry) 0 database.now then Some (edits_from (rename_seen rename.entry) 0 first database.now) else None)) }
+{
+    let mut edits = Vec::new(alloc);
+    let mut line = first;
+    for at in 0..database.len() {
+        if !push_edits_at(alloc, &mut edits, database, rename, line, at)? {
+            return Ok(None);
+        }
+        line += count_lines(database.text(at));
+    }
+    Ok(Some(edits))
+}
+
+// What comes of a rename of a name that a block owns.
+fn renamed(alloc: Global, document: &Document, rename: Rename<'_>) -> Result<Renaming, AllocError>
+    ensures { IfOk result (λ renaming. renaming_seen renaming ≡ renamed document.now (rename_seen rename.entry)) }
 {
     let database = document.database();
-    if let Some(failure) = failure_of(alloc, database, owner, new)? {
+    if let Some(failure) = failure_of(alloc, database, rename.owner, rename.new)? {
         return Ok(Renaming::Refused(failure));
     }
-    let mut parts = Vec::new(alloc);
-    let sought = Sought::Name { owner, name };
-    push_all(alloc, &mut parts, database, sought, head_line(document))?;
-    Ok(Renaming::Parts(parts))
+    match all_edits(alloc, database, rename, head_line(document))? {
+        Some(edits) => Ok(Renaming::Edits(edits)),
+        None => Ok(Renaming::Refused(Failure::NoName)),
+    }
 }
 
 /// What comes of a rename at a place: the name that it is on, in a head or in an item `use=`, gets
 /// another name in the head of the block that owns it, and in all items `use=` of that name. The
 /// new name is refused if a source cannot give it, if another block owns it, or if no block has it
-/// and an item uses it.
+/// and an item uses it; and if it cannot be put in the place of the old one within lines, or an
+/// editor cannot exchange that.
 ///
 /// # Errors
 /// Out of memory.
@@ -132,8 +232,9 @@ pub fn renaming_of(
     let Some(touched) = touched_at(alloc, document, place)? else {
         return Ok(Renaming::Nothing);
     };
+    let name = name_of(&touched.subject);
     match owner_of(document.database(), &touched.subject) {
-        Some(owner) => renamed(alloc, document, owner, name_of(&touched.subject), new),
+        Some(owner) => renamed(alloc, document, Rename { owner, name, new }),
         None => Ok(Renaming::Nothing),
     }
 }
@@ -162,7 +263,8 @@ pub fn renamable_at(
     Ok(Some(range_in(spot.line, block, touched.name)))
 }
 
-/// A law, with no code: what is renamed is in the order of the text, and no two parts of it overlap.
+/// A law, with no code: the edits of a rename are in the order of the text, and no two of them
+/// overlap.
 pub fn renamed_parts_follow()
     ensures { spec.RenamedPartsFollow }
 {
@@ -170,13 +272,22 @@ pub fn renamed_parts_follow()
 }
 
 /// A law, with no code: the client that makes the edits of a rename that is accepted has each block
-/// with the name exchanged in its head, if it is the owner, and in its uses, if an editor can
-/// exchange each of these parts, and no more and no less; what is before the blocks is as it was.
+/// with the name exchanged in its head, if it is the owner, and in its uses; what is before the
+/// blocks is as it was. Each comment and each blank line is as it was, on the line that it was on.
 pub fn renames_are_applied()
     ensures { RenamesAreApplied }
 {
     lsp_document::laws::held_blocks_fit();
+    lsp_keeping::laws::edits_keep_lines();
 }
+
+/// A law, with no code, on the texts of blocks before and after a rename that is accepted: each says
+/// of user-defined capabilities what it said once its uses are expanded, and so has the values that
+/// it had.
+pub fn renames_keep_user_values()
+    ensures sayings { BlocksSayOfUsersWhatTheyDid }
+    ensures values { UserValuesStay }
+{}
 
 /// A law, with no code, on blocks as they are read before and after a rename that is accepted: each
 /// use leads to the block that it led to, each block says what it said once its uses are expanded,

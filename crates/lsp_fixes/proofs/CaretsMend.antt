@@ -20,9 +20,11 @@ use Rattle.lsp_fixes.specs.Edits.{EditSeen, advises_caret, caret_in, carets}
 use Rattle.lsp_fixes.specs.Healing.{LosesFault, Stays, block_after}
 use Rattle.lsp_fixes.specs.Laws.{IsInOrder, edited}
 use Rattle.lsp_fixes.specs.Pieces.{value_of, written_name}
+use Rattle.lsp_fixes.specs.Shown.{shown}
 use Rattle.lsp_fixes.proofs.CaretsHeal.{Lasts, carets_heal, last_byte_is, last_found, lasts, no_byte}
 use Rattle.lsp_fixes.proofs.Changing.{item_changes, loses_caret, refused_item}
 use Rattle.lsp_fixes.proofs.Exchanging.{edited_at, no_edit, only_edit}
+use Rattle.lsp_fixes.proofs.Fitting.{Fits}
 use Rattle.lsp_fixes.proofs.ItemParts.{replaced_part}
 use Rattle.lsp_fixes.proofs.Placing.{item_in_order, text_replaces}
 
@@ -78,6 +80,7 @@ caret_replaces front last was =
 pub carets_mend : (block : List ℕ) (ordinal : ℕ) (item : List PlacedByte) (edit : EditSeen) → OneBlock block
     → slice_get (items_of (folded_of block)) ordinal ≡ Some item
     → fault_at block ordinal ≡ Some code.BadString → Contains (carets item) edit → LosesFault block (block_after block edit) ordinal × Stays block edit
+    × Fits item edit
 carets_mend block ordinal item edit single there had has =
     let size = length (written_name item) + 1 in
     let cut = caret_cut (value_of item) edit (lasts (value_of item)) has in
@@ -96,4 +99,5 @@ carets_mend block ordinal item edit single there had has =
           (item_changes block ordinal item edit.part edit.text (edited item edit) single there is)
           (carets_heal item edit (item_in_order block ordinal item there) (refused_item block ordinal item code.BadString there had (λ e. cc)) has),
       replaced_part block ordinal item edit.part edit.text (edited item edit) single there is,
+      record { printed = subst (λ (e : EditSeen). shown e.text ≡ e.text) cut.is refl; how = inr (edited item edit, is) },
     )

@@ -76,7 +76,7 @@ visible_item text ordinal (x ∷ xs) there =
     let found = found_raw (slice_get raws ordinal) (x ∷ xs) (sym (slice_get-map without_front raws ordinal) ∙ there) in
     begins_visible found.0 x xs found.2
 
-text_there : (block : List ℕ) (ordinal : ℕ) (item : List PlacedByte) → slice_get (items_of (folded_of block)) ordinal ≡ Some item
+pub text_there : (block : List ℕ) (ordinal : ℕ) (item : List PlacedByte) → slice_get (items_of (folded_of block)) ordinal ≡ Some item
     → slice_get (item_texts block) ordinal ≡ Some (bytes item)
 text_there block ordinal item there = slice_get-map bytes (items_of (folded_of block)) ordinal ∙ ap (option_map bytes) there
 

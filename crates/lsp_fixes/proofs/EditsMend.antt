@@ -1,5 +1,5 @@
 -- Each edit that is offered for an item of a block heals the item.
-use Rattle.std.proofs.Common.{◌≡◌, ℕ, ◌==◌, All, true, Contains, List, [], ◌∷◌, Option, None, Some, get_or, is_none, slice_get, inl, inr, refl, sym, ap}
+use Rattle.std.proofs.Common.{◌≡◌, ℕ, ◌<◌, ◌==◌, length, All, true, Contains, List, [], ◌∷◌, ◌++◌, Option, None, Some, get_or, is_none, slice_get, inl, inr, refl, sym, ap}
 use Rattle.std.proofs.Common.{subst, ◌∙◌, suc}
 use Rattle.std.specs.List.{find}
 use Rattle.std.specs.Option.{option_and_then, option_map}
@@ -26,12 +26,14 @@ use Rattle.lsp_spans.specs.declared.parts.Part.{Part}
 use Rattle.lsp_document.specs.Diagnostics.{text_at}
 use Rattle.lsp_blocks.specs.Giving.{can_be_given}
 use Rattle.lsp_fixes.specs.Edits.{EditSeen, edits_for, renames}
-use Rattle.lsp_fixes.specs.Fixes.{given_names, other_names, text_said, used_edits, value_at}
-use Rattle.lsp_fixes.specs.Healing.{EditsHeal, GetsOwner, LosesFault, Stays, block_after}
+use Rattle.lsp_fixes.specs.Fixes.{given_names, item_edits, other_names, text_said, used_edits, value_at}
+use Rattle.lsp_fixes.specs.Healing.{EditsHeal, GetsOwner, Heals, LosesFault, Stays, block_after}
 use Rattle.lsp_fixes.specs.Laws.{IsRead}
+use Rattle.lsp_fixes.specs.UserNames.{user_renames}
 use Rattle.lsp_fixes.proofs.CaretsMend.{carets_mend}
 use Rattle.lsp_fixes.proofs.Changing.{faulty_item}
 use Rattle.lsp_fixes.proofs.Exchanging.{no_edit}
+use Rattle.lsp_fixes.proofs.Fitting.{Fits}
 use Rattle.lsp_fixes.proofs.Given.{IsGiven, given}
 use Rattle.lsp_fixes.proofs.ItemParts.{item_bytes}
 use Rattle.lsp_fixes.proofs.NamesFit.{each_edit}
@@ -40,6 +42,7 @@ use Rattle.lsp_fixes.proofs.NamesKept.{owner_kept}
 use Rattle.lsp_fixes.proofs.OthersOwn.{others_own}
 use Rattle.lsp_fixes.proofs.SignsHeal.{signs_heal}
 use Rattle.lsp_fixes.proofs.SpellingsHeal.{spellings_heal}
+use Rattle.lsp_fixes.proofs.UserNamesMend.{user_names_mend}
 use Rattle.lsp_fixes.proofs.UsesMend.{uses_mend}
 use Rattle.lsp_blocks.proofs.Outlines.{text_got}
 
@@ -82,6 +85,7 @@ by_value : ValuesAreSound → WrittenSpells → (block : List ℕ) (ordinal : �
     → slice_get (items_of (folded_of block)) ordinal ≡ Some item → fault_at block ordinal ≡ Some code.UnknownEscape
     → value_at ordinal (reading_of_text block).items ≡ v
     → Contains (edits_for item (Some code.UnknownEscape) v) edit → LosesFault block (block_after block edit) ordinal × Stays block edit
+    × Fits item edit
 by_value sound writes block ordinal item edit None single are there had is has = absurd (no_edit edit has)
 by_value sound writes block ordinal item edit (Some value) single are there had is has =
     let odd = odd_item block ordinal item value there had is in
@@ -91,6 +95,7 @@ by_code : ValuesAreSound → WrittenSpells → (block : List ℕ) (ordinal : ℕ
     → AreBytes block
     → slice_get (items_of (folded_of block)) ordinal ≡ Some item → fault_at block ordinal ≡ o
     → Contains (edits_for item o (value_at ordinal (reading_of_text block).items)) edit → LosesFault block (block_after block edit) ordinal × Stays block edit
+    × Fits item edit
 by_code sound writes block ordinal item edit None single are there had has = absurd (no_edit edit has)
 by_code sound writes block ordinal item edit (Some code.UnknownCapability) single are there had has = names_heal block ordinal item edit single there had has
 by_code sound writes block ordinal item edit (Some code.WrongKind) single are there had has = signs_heal block ordinal item edit single there had has
@@ -132,6 +137,7 @@ by_use : EachIsWellRead → (blocks : List (List ℕ)) (at ordinal : ℕ) (item 
     → All OneBlock blocks → OneBlock (text_at blocks at)
     → slice_get (items_of (folded_of (text_at blocks at))) ordinal ≡ Some item → used_name item ≡ o → Contains (used_edits blocks at o) edit
     → GetsOwner blocks at (text_at blocks at) (block_after (text_at blocks at) edit) ordinal × Stays (text_at blocks at) edit
+    × Fits item edit
 by_use well blocks at ordinal item edit None all single there is has = absurd (no_edit edit has)
 by_use well blocks at ordinal item edit (Some name) all single there is has =
     let block = text_at blocks at in
@@ -157,15 +163,36 @@ by_use well blocks at ordinal item edit (Some name) all single there is has =
               apart = owned.2;
             },
             now.1,
+            now.2,
           )
+    ]
+
+-- each edit does that, and its new text fits the item
+abbrev pub EditsFit : Type 0
+EditsFit =
+    (blocks : List (List ℕ)) (at ordinal : ℕ) (item : List PlacedByte) (edit : EditSeen) → All OneBlock blocks → at < length blocks
+    → AreBytes (text_at blocks at)
+    → slice_get (items_of (folded_of (text_at blocks at))) ordinal ≡ Some item
+    → Contains (item_edits blocks at ordinal (reading_of_text (text_at blocks at)) item) edit
+    → Heals blocks at (text_at blocks at) (block_after (text_at blocks at) edit) ordinal × Stays (text_at blocks at) edit × Fits item edit
+
+pub edits_fit : ValuesAreSound → WrittenSpells → EachIsWellRead → EditsFit
+edits_fit sound writes well blocks at ordinal item edit all within are there has =
+    let block = text_at blocks at in
+    let single : OneBlock block = subst OneBlock (sym (text_got blocks at within)) (all at [] within) in
+    elim (Contains-append_cases (edits_for item (fault_at block ordinal) (value_at ordinal (reading_of_text block).items))
+    (used_edits blocks at (used_name item) ++ user_renames item) edit has) [
+      | inl first ↦
+          let mended = by_code sound writes block ordinal item edit (fault_at block ordinal) single are there refl first in (inl mended.0, mended.1, mended.2)
+      | inr second ↦
+          elim (Contains-append_cases (used_edits blocks at (used_name item)) (user_renames item) edit second) [
+            | inl used ↦
+                let mended = by_use well blocks at ordinal item edit (used_name item) all single there refl used in (inr (inl mended.0), mended.1, mended.2)
+            | inr renamed ↦ let mended = user_names_mend block ordinal item edit single there renamed in (inr (inr mended.0), mended.1, mended.2)
+          ]
     ]
 
 pub edits_mend : ValuesAreSound → WrittenSpells → EachIsWellRead → EditsHeal
 edits_mend sound writes well blocks at ordinal item edit all within are there has =
-    let block = text_at blocks at in
-    let single : OneBlock block = subst OneBlock (sym (text_got blocks at within)) (all at [] within) in
-    elim (Contains-append_cases (edits_for item (fault_at block ordinal) (value_at ordinal (reading_of_text block).items))
-    (used_edits blocks at (used_name item)) edit has) [
-      | inl first ↦ let mended = by_code sound writes block ordinal item edit (fault_at block ordinal) single are there refl first in (inl mended.0, mended.1)
-      | inr second ↦ let mended = by_use well blocks at ordinal item edit (used_name item) all single there refl second in (inr mended.0, mended.1)
-    ]
+    let fits = edits_fit sound writes well blocks at ordinal item edit all within are there has in
+    (fits.0, fits.1)

@@ -1,5 +1,5 @@
 -- An item, once its block is edited.
-use Rattle.std.proofs.Common.{◌≡◌, ℕ, zero, suc, Contains, get_or, length, ◌<◌, ◌≤◌, Bool, true, false, List, [], ◌∷◌, ◌++◌, append_assoc, filter, map}
+use Rattle.std.proofs.Common.{◌≡◌, ℕ, zero, suc, Contains, get_or, length, ◌<◌, ◌≤◌, ◌&&◌, Bool, true, false, List, [], ◌∷◌, ◌++◌, append_assoc, filter, map}
 use Rattle.std.proofs.Common.{nat_le, nat_lt, Some, refl, ap, arith, subst, ◌∙◌}
 use Rattle.std.specs.List.{AllByRecursion}
 use Rattle.std.proofs.lemmas.Bool.{le-leb, le-ltb, lt-leb, lt-ltb}
@@ -57,6 +57,20 @@ back_kept start end front middle back cut =
       none_kept p middle (mapped (λ x. (start ≤ x.1) × (x.1 < end)) (λ x. p x ≡ false) middle (λ x l. lt-leb end x.1 l.1) cut.within),
       all_kept p back (mapped (λ x. end ≤ x.1) (λ x. p x ≡ true) back (λ x l. le-leb end x.1 l) cut.after),
     ) refl)
+
+pub middle_kept : (start end : ℕ) (front middle back : List PlacedByte) → IsCutAt start end front middle back
+    → filter (λ (x : PlacedByte). nat_le start x.1 && nat_lt x.1 end) (front ++ (middle ++ back)) ≡ middle
+middle_kept start end front middle back cut =
+    let p : PlacedByte → Bool = λ x. nat_le start x.1 && nat_lt x.1 end in
+    three_filtered p front middle back
+    ∙ (rw (
+      none_kept p front (mapped (λ x. x.1 < start) (λ x. p x ≡ false) front (λ x l. rw (lt-leb start x.1 l) refl) cut.before),
+      all_kept p middle
+          (mapped (λ x. (start ≤ x.1) × (x.1 < end)) (λ x. p x ≡ true) middle (λ x l. rw (le-leb start x.1 l.0, lt-ltb x.1 end l.1) refl) cut.within),
+      none_kept p back (mapped (λ x. end ≤ x.1) (λ x. p x ≡ false) back
+          (λ x l. rw (le-leb start x.1 (let f = cut.forward in omega (arith, f, l)), le-ltb x.1 end l) refl) cut.after),
+    )
+    (append-nil middle))
 
 -- the part is exchanged
 pub edited_cut : (edit : EditSeen) (front middle back : List PlacedByte) → IsCutAt edit.part.start edit.part.end front middle back

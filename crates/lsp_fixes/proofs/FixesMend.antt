@@ -1,13 +1,13 @@
 -- Each fix of a text heals its item in the text as the client has it after the edit.
-use Rattle.std.proofs.Common.{◌≡◌, ◌≢◌, ℕ, zero, suc, ◌+◌, ◌-◌, ◌<◌, ◌==◌, nat_lt, All, Bool, true, false, Contains, List, [], ◌∷◌, ◌++◌, append_assoc}
+use Rattle.std.proofs.Common.{◌≡◌, ◌≢◌, ℕ, zero, suc, ◌+◌, ◌-◌, ◌<◌, ◌≤◌, ◌==◌, nat_lt, All, Bool, true, false, Contains, List, [], ◌∷◌, ◌++◌, append_assoc}
 use Rattle.std.proofs.Common.{cond, drop, filter, flat_map, get_or, length, map, take, Option, None, Some, slice_get, slice_set, sum_by, inl, inr, refl}
 use Rattle.std.proofs.Common.{sym, ap, ap₂, subst, ◌∙◌, arith, zero-add}
 use Rattle.std.specs.List.{concat, enumerate_from}
 use Rattle.std.specs.Prelude.{option_and_then, option_map}
 use Rattle.std.specs.Option.{option_map_or}
-use Rattle.std.proofs.lemmas.Bool.{and_parts, cases_Bool, eq-eqb, lt-ltb, ltb-true, ne_eqb}
+use Rattle.std.proofs.lemmas.Bool.{and_parts, cases_Bool, eq-eqb, leb-true, lt-ltb, ltb-true, ne_eqb}
 use Rattle.std.proofs.lemmas.List.{append-nil}
-use Rattle.std.proofs.lemmas.List.Elements.{All-cons, All-head, All-nil, All-tail, Contains-append_cases, Contains-append_right}
+use Rattle.std.proofs.lemmas.List.Elements.{All-cons, All-head, All-nil, All-tail, Contains-append_cases, Contains-append_left, Contains-append_right}
 use Rattle.std.proofs.lemmas.List.Sums.{sum_by-append}
 use Rattle.std.proofs.lemmas.Option.{same_Some}
 use Rattle.ti_text.specs.Lines.{line_count}
@@ -33,15 +33,21 @@ use Rattle.lsp_blocks.specs.Spots.{head_line, settled, spot_at, spot_from}
 use Rattle.lsp_blocks.specs.declared.spots.Spot.{Spot}
 use Rattle.lsp_spans.specs.declared.parts.Part.{Part}
 use Rattle.lsp_blocks.specs.Places.{can_be_exchanged, missing_newline}
+use Rattle.lsp_keeping.specs.Keeping.{EditsInLinesKeepLines, KeepsLines, stays_in_line}
 use Rattle.lsp_fixes.specs.Applied.{AsciiPlacesAreStarts, FixesHeal, IsHealing, client_edited}
 use Rattle.lsp_fixes.specs.Edits.{EditSeen, edits_for}
-use Rattle.lsp_fixes.specs.Fixes.{FixSeen, code_unless, edits_in, fault_of_item, fix_of, fixes_from, is_allowed, item_edits, item_edits_by, stretch_to, touched_edits, touches}
+use Rattle.lsp_fixes.specs.Narrowing.{can_be_made, narrowed}
+use Rattle.lsp_fixes.specs.UserNames.{user_renames, user_renames_by}
+use Rattle.lsp_fixes.specs.Fixes.{FixSeen, code_by, code_unless, edits_in, fault_of_item, fix_of, fixes_from, is_allowed, item_edits, item_edits_by, stretch_to, touched_edits, touches}
 use Rattle.lsp_fixes.specs.Fixes.{used_edits, value_at}
 use Rattle.lsp_diagnostics.specs.declared.capabilities.Capabilities.{Capabilities}
-use Rattle.lsp_fixes.specs.Healing.{EditsHeal, IsInLine, IsPartOf, block_after}
+use Rattle.lsp_diagnostics.specs.declared.capabilities.Capabilities.TheVariants.{Profile, UserDefined}
+use Rattle.lsp_fixes.specs.Healing.{IsInLine, IsPartOf, block_after}
 use Rattle.lsp_fixes.specs.declared.fixes.Stretch.{Stretch}
 use Rattle.lsp_blocks.proofs.Placing.{IsMissing, ended_with, missing_is}
-use Rattle.lsp_fixes.proofs.Applying.{IsPlaced, applied_in, exchanged_in, still_open}
+use Rattle.lsp_fixes.proofs.Applying.{IsPlaced, applied_in, exchanged_in, lines_held, still_open}
+use Rattle.lsp_fixes.proofs.EditsMend.{EditsFit}
+use Rattle.lsp_fixes.proofs.Narrows.{HealsNarrowed, narrowed_heals}
 use Rattle.lsp_blocks.proofs.Outlines.{text_got}
 
 -- ---- an element of a list that is made of another
@@ -311,11 +317,13 @@ record IsMade (text front block back : List ℕ) (edit : EditSeen) (fix : FixSee
   applied : client_edited text fix ++ missing_newline text ≡ front ++ (block_after block edit ++ back)
   ended_so : last_byte 10 (front ++ (block_after block edit ++ back)) ≡ 10 → with_last_newline (client_edited text fix) ≡ front
       ++ (block_after block edit ++ back)
+  lines : KeepsLines text (client_edited text fix)
 
-made_at : (text front block back : List ℕ) (line : ℕ) (edit : EditSeen) → with_last_newline text ≡ front ++ (block ++ back) → line ≡ line_count front
+made_at : EditsInLinesKeepLines → (text front block back : List ℕ) (line : ℕ) (edit : EditSeen) → with_last_newline text ≡ front ++ (block ++ back) → line ≡ line_count front
     → last_byte 10 front ≡ 10 → last_byte 10 block ≡ 10
-    → IsPlaced block edit.part → IsInLine block edit.part edit.text → IsMade text front block back edit (fix_of line block edit)
-made_at text front block back line edit whole counts ends one placed in_line =
+    → IsPlaced block edit.part → IsInLine block edit.part edit.text → edit.part.start ≤ edit.part.end
+    → stays_in_line block edit.part.start edit.part.end edit.text ≡ true → IsMade text front block back edit (fix_of line block edit)
+made_at keeps text front block back line edit whole counts ends one placed in_line forward stays =
     let more = missing_newline text in
     let after = front ++ (block_after block edit ++ back) in
     let joined : text ++ more ≡ front ++ (block ++ back) = sym (ended_with text) ∙ whole in
@@ -335,7 +343,10 @@ made_at text front block back line edit whole counts ends one placed in_line =
           (still_open text front block back edit.text more edit.part unended joined ends placed.is in_line is.within) in
           still_ended client still ∙ ap (λ (m : List ℕ). client ++ m) (sym newline) ∙ is.applied
     ] in
-    subst (λ (l : ℕ). IsMade text front block back edit (fix_of l block edit)) (sym counts) (record { applied = is.applied; ended_so = closed })
+    let within = placed.within in
+    let kept = lines_held keeps text more front block back edit.part edit.text joined ends forward (omega (arith, within)) is.within stays in
+    subst (λ (l : ℕ). IsMade text front block back edit (fix_of l block edit)) (sym counts)
+    (record { applied = is.applied; ended_so = closed; lines = subst (KeepsLines text) (sym is.is_spliced) kept })
 
 -- what is offered for an item in a source with some capabilities is offered for it in the profile
 unless_allowed : (item : List PlacedByte) (value : Option (List ℕ)) (used : List EditSeen) (code : Code) (edit : EditSeen) (b : Bool)
@@ -349,19 +360,32 @@ by_fault : (capabilities : Capabilities) (item : List PlacedByte) (value : Optio
 by_fault capabilities item value used None edit has = has
 by_fault capabilities item value used (Some fault) edit has = unless_allowed item value used fault.code edit (is_allowed capabilities fault) has
 
+by_names : (capabilities : Capabilities) (item : List PlacedByte) (first used : List EditSeen) (edit : EditSeen)
+    → Contains (first ++ (used ++ user_renames_by capabilities item)) edit → Contains (first ++ (used ++ user_renames item)) edit
+by_names UserDefined item first used edit has = has
+by_names Profile item first used edit has =
+    elim (Contains-append_cases first (used ++ []) edit has) [
+      | inl before ↦ Contains-append_left first (used ++ user_renames item) edit before
+      | inr after ↦
+          Contains-append_right first (used ++ user_renames item) edit
+          (Contains-append_left used (user_renames item) edit (subst (λ (l : List EditSeen). Contains l edit) (append-nil used) after))
+    ]
+
 -- an item that a stretch touches
 touched : (capabilities : Capabilities) (blocks : List (List ℕ)) (stretch : Stretch) (block : Reading) (placed : ℕ × List PlacedByte) (edit : EditSeen) (b : Bool)
     → Contains (cond b (item_edits_by capabilities blocks stretch.at placed.0 block placed.1) []) edit
     → Contains (item_edits blocks stretch.at placed.0 block placed.1) edit
 touched capabilities blocks stretch block placed edit true has =
-    by_fault capabilities placed.1 (value_at placed.0 block.items) (used_edits blocks stretch.at (used_name placed.1)) (fault_of_item placed.0 block.faults)
-    edit has
+    by_fault capabilities placed.1 (value_at placed.0 block.items) (used_edits blocks stretch.at (used_name placed.1) ++ user_renames placed.1)
+    (fault_of_item placed.0 block.faults) edit
+    (by_names capabilities placed.1 (edits_for placed.1 (code_by capabilities placed.0 block.faults) (value_at placed.0 block.items))
+    (used_edits blocks stretch.at (used_name placed.1)) edit has)
 touched capabilities blocks stretch block placed edit false has = let less = has.1 in absurd (omega (arith, less))
 
-by_spot : EditsHeal → HeldBlocksFit → (capabilities : Capabilities) (text : List ℕ) (range : Range) (fix : FixSeen) (o : Option Spot) → AreBytes text → spot_at text range.start ≡ o
+by_spot : EditsFit → HeldBlocksFit → EditsInLinesKeepLines → (capabilities : Capabilities) (text : List ℕ) (range : Range) (fix : FixSeen) (o : Option Spot) → AreBytes text → spot_at text range.start ≡ o
     → Contains (option_map_or (fixes_from capabilities (held text) range.end) o []) fix → IsHealing text fix
-by_spot heals fit capabilities text range fix None are e has = let less = has.1 in absurd (omega (arith, less))
-by_spot heals fit capabilities text range fix (Some spot) are e has =
+by_spot heals fit keeps capabilities text range fix None are e has = let less = has.1 in absurd (omega (arith, less))
+by_spot heals fit keeps capabilities text range fix (Some spot) are e has =
     let blocks = held text in
     let at = spot.at in
     let s = spot_is 0 (head_line text) (settled text range.start) blocks spot e in
@@ -378,11 +402,17 @@ by_spot heals fit capabilities text range fix (Some spot) are e has =
     let items = items_of (folded_of block) in
     let reading = reading_of_text block in
     let edits = edits_in capabilities blocks stretch in
-    let can = λ (e : EditSeen). can_be_exchanged block e.part in
-    let made = mapped_at (fix_of spot.line block) (filter can edits) fix has.0 has.1 has.2 in
+    let can = can_be_made block in
+    let narrow = narrowed (folded_of block) in
+    let made = mapped_at (fix_of spot.line block) (filter can (map narrow edits)) fix has.0 has.1 has.2 in
     let edit = made.of in
-    let kept = kept_at can edits edit made.has.0 made.has.1 made.has.2 in
-    let one = of_one (touched_edits capabilities blocks stretch reading) (enumerate_from 0 items) edit kept.0 in
+    let kept = kept_at can (map narrow edits) edit made.has.0 made.has.1 made.has.2 in
+    let kept_has = kept.0 in
+    let from = mapped_at narrow edits edit kept_has.0 kept_has.1 kept_has.2 in
+    let wide = from.of in
+    let can_parts = and_parts _ _ kept.1 in
+    let can_stay = and_parts _ _ can_parts.1 in
+    let one = of_one (touched_edits capabilities blocks stretch reading) (enumerate_from 0 items) wide from.has in
     let placed = one.of in
     let numbered = numbered_at 0 items placed one.has.0 one.has.1 one.has.2 in
     let ordinal : placed.0 ≡ numbered.0 = numbered.1 ∙ zero-add numbered.0 in
@@ -390,12 +420,14 @@ by_spot heals fit capabilities text range fix (Some spot) are e has =
     let joined : text ++ missing_newline text ≡ front ++ (block ++ back) = sym (ended_with text) ∙ cut.whole in
     let all_bytes = subst AreBytes joined (bytes_both text (missing_newline text) are (missing_bytes (missing_newline text) (missing_is text))) in
     let block_bytes : AreBytes block = bytes_front block back (bytes_back front (block ++ back) all_bytes) in
-    let healed = heals blocks at placed.0 placed.1 edit (λ i d w. ((fit text).1 i d w).1) within block_bytes there
-    (touched capabilities blocks stretch reading placed edit (touches stretch placed.1) one.is) in
+    let fits = heals blocks at placed.0 placed.1 wide (λ i d w. ((fit text).1 i d w).1) within block_bytes there
+    (touched capabilities blocks stretch reading placed wide (touches stretch placed.1) one.is) in
+    let healed : HealsNarrowed blocks at placed.0 edit =
+    subst (HealsNarrowed blocks at placed.0) from.is (narrowed_heals blocks at placed.0 placed.1 wide single there fits.0 fits.1 fits.2) in
     let now : IsMade text front block back edit fix =
     subst (IsMade text front block back edit) made.is
-    (made_at text front block back spot.line edit cut.whole line cut.ends (block_ends block single)
-    (placed_part block edit.part kept.1 healed.1.0) healed.1.2) in
+    (made_at keeps text front block back spot.line edit cut.whole line cut.ends (block_ends block single)
+    (placed_part block edit.part can_parts.0 healed.1.0) healed.1.2 (leb-true edit.part.start edit.part.end can_stay.0) can_stay.1) in
     let set = blocks_with text at (block_after block edit) within single healed.1.1 in
     record {
       at = at;
@@ -408,10 +440,12 @@ by_spot heals fit capabilities text range fix (Some spot) are e has =
       heals = healed.0;
       applied = now.applied;
       cut = ap (blocks_from_head 10) (now.ended_so set.ends) ∙ set.blocks;
+      lines = now.lines;
     }
 
-pub fixes_mend : EditsHeal → HeldBlocksFit → FixesHeal
-fixes_mend heals fit capabilities text range fix are has = by_spot heals fit capabilities text range fix (spot_at text range.start) are refl has
+pub fixes_mend : EditsFit → HeldBlocksFit → EditsInLinesKeepLines → FixesHeal
+fixes_mend heals fit keeps capabilities text range fix are has =
+    by_spot heals fit keeps capabilities text range fix (spot_at text range.start) are refl has
 
 -- ---- places in ASCII
 

@@ -111,6 +111,12 @@ unfolding From
 in_order low [] from = tt
 in_order low (x ∷ xs) from = (above x.1 (suc x.1) xs (omega arith) from.1, in_order (suc x.1) xs from.1)
 
+-- the bytes of a block as it is read
+pub folded_in_order : (block : List ℕ) → IsInOrder (folded_of block)
+folded_in_order block =
+    in_order 0 (folded_of block)
+    (breaks_from 0 false (without_comments false 10 (bytes_at 0 block)) (comments_from 0 false 10 (bytes_at 0 block) (bytes_from 0 block)))
+
 fronts_in_order : (parts : List (List PlacedByte)) → EachFrom 0 parts → AllByRecursion IsInOrder (map without_front parts)
 unfolding EachFrom
 fronts_in_order [] each = tt

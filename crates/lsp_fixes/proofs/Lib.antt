@@ -1,3 +1,4 @@
+pub mod Alike
 pub mod Applying
 pub mod CaretsHeal
 pub mod CaretsMend
@@ -6,6 +7,7 @@ pub mod EditsMend
 pub mod Ending
 pub mod Exchanging
 pub mod FixesMend
+pub mod Fitting
 pub mod Given
 pub mod InOrder
 pub mod ItemParts
@@ -14,6 +16,7 @@ pub mod Marks
 pub mod NamesFit
 pub mod NamesHeal
 pub mod NamesKept
+pub mod Narrows
 pub mod OthersOwn
 pub mod Placing
 pub mod Printing
@@ -21,12 +24,14 @@ pub mod Putting
 pub mod Ranging
 pub mod Readings
 pub mod Returns
+pub mod Shrinking
 pub mod SignsFit
 pub mod SignsHeal
 pub mod SpellingsHeal
 pub mod SpellingsRead
 pub mod Staying
 pub mod TakenOut
+pub mod UserNamesMend
 pub mod UsesMend
 pub mod Verdicts
 pub mod Wholes

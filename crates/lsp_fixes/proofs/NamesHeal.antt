@@ -1,5 +1,5 @@
 -- An item with a name that no capability has is healed by a name that is offered for it.
-use Rattle.std.proofs.Common.{◌≡◌, ℕ, ◌==◌, true, Contains, List, [], ◌∷◌, ◌++◌, Some, append_assoc, slice_get, inl, inr, refl, sym, ap, subst, ◌∙◌}
+use Rattle.std.proofs.Common.{◌≡◌, ℕ, ◌==◌, All, true, Contains, List, [], ◌∷◌, ◌++◌, Some, append_assoc, slice_get, inl, inr, refl, sym, ap, subst, ◌∙◌}
 use Rattle.std.proofs.lemmas.Bool.{cases_Bool, eqb-true}
 use Rattle.ti_text.specs.Texts.{last_byte}
 use Rattle.ti_text.specs.WhiteSpace.{is_white_space}
@@ -12,23 +12,24 @@ use Rattle.lsp_spans.specs.Replacing.{BeginsPlain, Replaces, fault_at, is_plain}
 use Rattle.lsp_spans.specs.Subjects.{items_of, without_end}
 use Rattle.lsp_spans.proofs.Plain.{plain_replace}
 use Rattle.lsp_fixes.specs.Candidates.{names_for}
-use Rattle.lsp_fixes.specs.Edits.{EditSeen, known_names}
+use Rattle.lsp_fixes.specs.Edits.{EditSeen, known_names, renames}
 use Rattle.lsp_fixes.specs.Healing.{LosesFault, Stays, block_after}
 use Rattle.lsp_fixes.specs.Laws.{IsInOrder, edited}
 use Rattle.lsp_fixes.specs.Pieces.{after_name, written_name}
 use Rattle.lsp_fixes.proofs.Changing.{item_changes, loses_unknown}
 use Rattle.lsp_fixes.proofs.Exchanging.{edited_at}
+use Rattle.lsp_fixes.proofs.Fitting.{Fits}
 use Rattle.lsp_fixes.proofs.ItemParts.{replaced_part}
 use Rattle.lsp_fixes.proofs.Marks.{MarkSays, cancel_of, end_split, has_mark, has_none, mark_says, name_cut, plain_name}
 use Rattle.lsp_fixes.proofs.NamesFit.{names_fit}
 use Rattle.lsp_fixes.proofs.Placing.{item_in_order}
-use Rattle.lsp_fixes.proofs.Putting.{each_for, renamed_at}
+use Rattle.lsp_fixes.proofs.Putting.{IsPut, each_for, renamed_at}
 
 -- an item is its name and what begins with a plain byte, if there is more
-record IsNamed (item : List PlacedByte) : Type 0 where
-  rest : List PlacedByte
-  whole : item ≡ written_name item ++ rest
-  plain : BeginsPlain (bytes rest)
+pub record IsNamed (item : List PlacedByte) : Type 0 where
+  pub rest : List PlacedByte
+  pub whole : item ≡ written_name item ++ rest
+  pub plain : BeginsPlain (bytes rest)
 
 mark_plain : (mark : ℕ) → is_mark mark ≡ true → is_plain mark ≡ true
 mark_plain mark is =
@@ -75,29 +76,52 @@ named _ (has_none item none) =
       }
     ]
 
-name_replaces : (block : List ℕ) (ordinal : ℕ) (item : List PlacedByte) (edit : EditSeen) → slice_get (items_of (folded_of block)) ordinal ≡ Some item
-    → IsNamed item → Contains (known_names item) edit
-    → Replaces item edit.part edit.text (edited item edit)
-name_replaces block ordinal item edit there is has =
+pub item_named : (item : List PlacedByte) → IsNamed item
+item_named item = named item (mark_says item)
+
+-- another name in place of an item's
+pub name_replaces : (block : List ℕ) (ordinal : ℕ) (item : List PlacedByte) (others : List (List ℕ)) (edit : EditSeen)
+    → slice_get (items_of (folded_of block)) ordinal ≡ Some item → (is : IsNamed item) → All IsPut others
+    → Contains (renames (written_name item) others) edit → Replaces item edit.part edit.text (edit.text ++ bytes is.rest)
+name_replaces block ordinal item others edit there is put has =
     let name = written_name item in
-    let at = renamed_at name (names_for (after_name item)) edit (each_for (after_name item)) has in
+    let at = renamed_at name others edit put has in
     let whole : item ≡ [] ++ (name ++ is.rest) = is.whole in
-    let text : edited item edit ≡ bytes [] ++ (edit.text ++ bytes is.rest) =
-    ap (λ (i : List PlacedByte). edited i edit) whole
-    ∙ edited_at edit [] name is.rest (subst (λ (i : List PlacedByte). IsInOrder i) whole (item_in_order block ordinal item there)) at.there in
     let replaces = plain_replace block ordinal [] name is.rest edit.part edit.text (there ∙ ap (λ (i : List PlacedByte). Some i) whole) at.there tt
     at.put.plain at.put.visible is.plain in
-    subst (λ (i : List PlacedByte). Replaces i edit.part edit.text (edited item edit)) (sym whole)
-    (subst (Replaces ([] ++ (name ++ is.rest)) edit.part edit.text) (sym text) replaces)
+    subst (λ (i : List PlacedByte). Replaces i edit.part edit.text (edit.text ++ bytes is.rest)) (sym whole) replaces
+
+name_edited : (block : List ℕ) (ordinal : ℕ) (item : List PlacedByte) (others : List (List ℕ)) (edit : EditSeen)
+    → slice_get (items_of (folded_of block)) ordinal ≡ Some item → (is : IsNamed item) → All IsPut others
+    → Contains (renames (written_name item) others) edit → edited item edit ≡ edit.text ++ bytes is.rest
+name_edited block ordinal item others edit there is put has =
+    let name = written_name item in
+    let at = renamed_at name others edit put has in
+    let whole : item ≡ [] ++ (name ++ is.rest) = is.whole in
+    ap (λ (i : List PlacedByte). edited i edit) whole
+    ∙ edited_at edit [] name is.rest (subst (λ (i : List PlacedByte). IsInOrder i) whole (item_in_order block ordinal item there)) at.there
+
+capability_replaces : (block : List ℕ) (ordinal : ℕ) (item : List PlacedByte) (edit : EditSeen) → slice_get (items_of (folded_of block)) ordinal ≡ Some item
+    → IsNamed item → Contains (known_names item) edit
+    → Replaces item edit.part edit.text (edited item edit)
+capability_replaces block ordinal item edit there is has =
+    let others = names_for (after_name item) in
+    let put = each_for (after_name item) in
+    subst (Replaces item edit.part edit.text) (sym (name_edited block ordinal item others edit there is put has))
+    (name_replaces block ordinal item others edit there is put has)
 
 pub names_heal : (block : List ℕ) (ordinal : ℕ) (item : List PlacedByte) (edit : EditSeen) → OneBlock block
     → slice_get (items_of (folded_of block)) ordinal ≡ Some item
     → fault_at block ordinal ≡ Some code.UnknownCapability → Contains (known_names item) edit → LosesFault block (block_after block edit) ordinal
-    × Stays block edit
+    × Stays block edit × Fits item edit
 names_heal block ordinal item edit single there had has =
-    let replaces = name_replaces block ordinal item edit there (named item (mark_says item)) has in (
+    let replaces = capability_replaces block ordinal item edit there (item_named item) has in (
       loses_unknown block (block_after block edit) ordinal (edited item edit) had
           (item_changes block ordinal item edit.part edit.text (edited item edit) single there replaces)
           (names_fit item edit (item_in_order block ordinal item there) has),
       replaced_part block ordinal item edit.part edit.text (edited item edit) single there replaces,
+      record {
+        printed = (renamed_at (written_name item) (names_for (after_name item)) edit (each_for (after_name item)) has).put.is_shown;
+        how = inr (edited item edit, replaces);
+      },
     )

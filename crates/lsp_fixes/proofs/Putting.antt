@@ -26,7 +26,7 @@ use Rattle.lsp_fixes.proofs.Exchanging.{no_edit}
 use Rattle.lsp_fixes.proofs.NamesFit.{each_edit}
 
 -- whether a name has plain bytes alone, begins with no white space, and is shown as it is
-well_put : List ℕ → Bool
+unfoldable pub well_put : List ℕ → Bool
 well_put [] = false
 well_put (x ∷ xs) = bytes_eq (shown (x ∷ xs)) (x ∷ xs) && list_all is_plain (x ∷ xs) && not (is_white_space x)
 
@@ -46,7 +46,7 @@ all_plain : (text : List ℕ) → list_all is_plain text ≡ true → IsPlain te
 all_plain [] all = tt
 all_plain (x ∷ xs) all = let both = and_parts _ _ all in (both.0, all_plain xs both.1)
 
-put_of : (name : List ℕ) → well_put name ≡ true → IsPut name
+pub put_of : (name : List ℕ) → well_put name ≡ true → IsPut name
 unfolding well_put
 put_of [] well = cc
 put_of (x ∷ xs) well =

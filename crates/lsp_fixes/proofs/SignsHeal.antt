@@ -21,6 +21,7 @@ use Rattle.lsp_fixes.specs.Healing.{LosesFault, Stays, StaysOne, block_after}
 use Rattle.lsp_fixes.specs.Laws.{IsOfCapability}
 use Rattle.lsp_fixes.proofs.Changing.{item_changes, loses_kind, refused_item}
 use Rattle.lsp_fixes.proofs.Exchanging.{no_edit, only_edit}
+use Rattle.lsp_fixes.proofs.Fitting.{Fits, sign_fits}
 use Rattle.lsp_fixes.proofs.ItemParts.{exchanged_part}
 use Rattle.lsp_fixes.proofs.Marks.{empty_end, mark_enabled}
 use Rattle.lsp_fixes.proofs.Placing.{byte_replaces}
@@ -111,6 +112,8 @@ by_kind block ordinal edit Text item s single there had kind has =
 pub signs_heal : (block : List ℕ) (ordinal : ℕ) (item : List PlacedByte) (edit : EditSeen) → OneBlock block
     → slice_get (items_of (folded_of block)) ordinal ≡ Some item
     → fault_at block ordinal ≡ Some code.WrongKind → Contains (kind_signs item) edit → LosesFault block (block_after block edit) ordinal × Stays block edit
+    × Fits item edit
 signs_heal block ordinal item edit single there had has =
     let s = signed_item item edit (refused_item block ordinal item code.WrongKind there had (λ e. cc)) has in
-    by_kind block ordinal edit s.capability.kind item s single (there ∙ ap (λ (i : List PlacedByte). Some i) s.whole) had refl s.has
+    let healed = by_kind block ordinal edit s.capability.kind item s single (there ∙ ap (λ (i : List PlacedByte). Some i) s.whole) had refl s.has in
+    (healed.0, healed.1, sign_fits s.capability.kind (bytes (without_end s.value)) s.name s.value item s.mark edit s.whole s.has)

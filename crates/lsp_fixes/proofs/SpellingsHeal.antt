@@ -1,5 +1,5 @@
 -- A string with an odd escape is healed by the spelling that is offered for it.
-use Rattle.std.proofs.Common.{◌≡◌, ℕ, suc, ◌<◌, ◌==◌, Bool, true, Contains, List, [], ◌∷◌, ◌++◌, append_assoc, Some, slice_get, refl, sym, ap, subst, ◌∙◌}
+use Rattle.std.proofs.Common.{◌≡◌, ℕ, suc, ◌<◌, ◌==◌, Bool, true, Contains, List, [], ◌∷◌, ◌++◌, append_assoc, Some, inr, slice_get, refl, sym, ap, subst, ◌∙◌}
 use Rattle.std.proofs.lemmas.List.{append-nil, map-append}
 use Rattle.ti_text.specs.Texts.{AreBytes}
 use Rattle.ti_caps.specs.Tables.{Capability}
@@ -26,6 +26,7 @@ use Rattle.lsp_fixes.specs.Pieces.{without_last}
 use Rattle.lsp_fixes.specs.Shown.{shown}
 use Rattle.lsp_fixes.proofs.Changing.{item_changes, loses_escape, said_item}
 use Rattle.lsp_fixes.proofs.Exchanging.{edited_at, only_edit}
+use Rattle.lsp_fixes.proofs.Fitting.{Fits, printed_spelling}
 use Rattle.lsp_fixes.proofs.ItemParts.{replaced_part}
 use Rattle.lsp_fixes.proofs.Placing.{item_in_order, last_pushed, plain_pushed, text_replaces}
 use Rattle.lsp_fixes.proofs.Putting.{capability_put}
@@ -108,11 +109,15 @@ spelling_put block ordinal name _ mark value edit there plain is are some (spell
     put block ordinal name mark v vs (x ∷ []) ends.first ends.rest edit there plain is front_bytes safe
     (subst (λ (f : List ℕ). Contains (spelling_in f (spanned (v ∷ vs))) edit) front_is has)
 
+spelled_printed : (raw : List PlacedByte) (value : List ℕ) (edit : EditSeen) → IsSpelled raw value edit → shown edit.text ≡ edit.text
+spelled_printed _ value edit (spelled_whole v vs has) = printed_spelling value (spanned (v ∷ vs)) edit has
+spelled_printed _ value edit (spelled_front v vs x return ends has) = printed_spelling (without_last value) (spanned (v ∷ vs)) edit has
+
 pub spellings_heal : ValuesAreSound → WrittenSpells → (block : List ℕ) (ordinal : ℕ) (item : List PlacedByte) (c : Capability) (value : List ℕ)
     (edit : EditSeen) → OneBlock block
     → AreBytes (bytes item) → slice_get (items_of (folded_of block)) ordinal ≡ Some item → fault_at block ordinal ≡ Some code.UnknownEscape
     → IsRead (bytes item) (accepted_odd (said_text c value)) → Contains (spellings item value) edit → LosesFault block (block_after block edit) ordinal
-    × Stays block edit
+    × Stays block edit × Fits item edit
 spellings_heal sound writes block ordinal item c value edit single are there had read has =
     let o = odd_item item c value edit are read has in
     let put = capability_put (bytes o.name) c o.named in
@@ -126,4 +131,5 @@ spellings_heal sound writes block ordinal item c value edit single are there had
           (item_changes block ordinal item edit.part edit.text (edited item edit) single there moved)
           (spellings_read sound writes item c value edit (item_in_order block ordinal item there) are read has),
       replaced_part block ordinal item edit.part edit.text (edited item edit) single there moved,
+      record { printed = spelled_printed o.raw value edit o.has; how = inr (edited item edit, moved) },
     )

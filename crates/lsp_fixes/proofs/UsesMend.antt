@@ -25,6 +25,7 @@ use Rattle.lsp_fixes.specs.Edits.{EditSeen}
 use Rattle.lsp_fixes.specs.Healing.{OneItemChanges, Stays, block_after}
 use Rattle.lsp_fixes.specs.Laws.{IsRead}
 use Rattle.lsp_fixes.proofs.Changing.{item_changes, no_fault, said_item}
+use Rattle.lsp_fixes.proofs.Fitting.{Fits}
 use Rattle.lsp_fixes.proofs.Given.{AreNameLike, HasNone, IsGiven, none_both, none_goes, none_named, none_white, outer_dropped, used_bytes}
 use Rattle.lsp_fixes.proofs.ItemParts.{replaced_part}
 use Rattle.lsp_fixes.proofs.Marks.{end_split}
@@ -158,6 +159,7 @@ pub record UsesAnother (block after : List ℕ) (ordinal : ℕ) (name other : Li
 pub uses_mend : (block : List ℕ) (ordinal : ℕ) (item name : List PlacedByte) (edit : EditSeen) → OneBlock block
     → slice_get (items_of (folded_of block)) ordinal ≡ Some item → used_name item ≡ Some name
     → spanned name ≡ Some edit.part → IsGiven edit.text → UsesAnother block (block_after block edit) ordinal (bytes name) edit.text × Stays block edit
+    × Fits item edit
 uses_mend block ordinal item name edit single there is span given =
     let u = use_cut item name is in
     let new = edit.text in
@@ -183,4 +185,5 @@ uses_mend block ordinal item name edit single there is span given =
         sound = after.1;
       },
       replaced_part block ordinal item edit.part new text single there replaces,
+      record { printed = given.is_shown; how = inr (text, replaces) },
     )

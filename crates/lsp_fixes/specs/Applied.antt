@@ -12,6 +12,7 @@ use Rattle.lsp_diagnostics.specs.declared.capabilities.Capabilities.{Capabilitie
 use Rattle.lsp_places.specs.Position.{is_start, offset_of}
 use Rattle.lsp_places.specs.Splicing.{spliced}
 use Rattle.lsp_blocks.specs.Places.{missing_newline}
+use Rattle.lsp_keeping.specs.Keeping.{KeepsLines}
 use Rattle.lsp_fixes.specs.Edits.{EditSeen}
 use Rattle.lsp_fixes.specs.Fixes.{FixSeen, fixes_of}
 use Rattle.lsp_fixes.specs.Healing.{Heals, block_after}
@@ -20,11 +21,12 @@ use Rattle.lsp_fixes.specs.Healing.{Heals, block_after}
 abbrev pub client_edited : List ℕ → FixSeen → List ℕ
 client_edited text fix = spliced text (offset_of text fix.range.start) (offset_of text fix.range.end) fix.text
 
--- A fix is of a block of the text, of which an item has a fault or uses a name that no block has:
--- once the edit is made the item is healed, and all other items of the block are as they were. The
--- client that makes it at the range of the fix has the block so, and what is before and after the
--- block as it was, and lacks a newline at the end if it did. The blocks of the text are those that
--- it had but for this one.
+-- A fix is of a block of the text, of which an item has a fault, uses a name that no block has, or
+-- has a user-defined name that is not known: once the edit is made the item is healed, and all other
+-- items of the block are as they were. The client that makes it at the range of the fix has the
+-- block so, and what is before and after the block as it was, and lacks a newline at the end if it
+-- did. The blocks of the text are those that it had but for this one. Each comment and each blank
+-- line of the text is as it was, on the line that it was on.
 pub record IsHealing (text : List ℕ) (fix : FixSeen) : Type 0 where
   pub at : ℕ
   pub ordinal : ℕ
@@ -36,6 +38,7 @@ pub record IsHealing (text : List ℕ) (fix : FixSeen) : Type 0 where
   pub heals : Heals (held text) at (text_at (held text) at) (block_after (text_at (held text) at) edit) ordinal
   pub applied : client_edited text fix ++ missing_newline text ≡ front ++ (block_after (text_at (held text) at) edit ++ back)
   pub cut : source_texts (client_edited text fix) ≡ slice_set (held text) at (block_after (text_at (held text) at) edit)
+  pub lines : KeepsLines text (client_edited text fix)
 
 -- each fix of a text is so
 abbrev pub FixesHeal : Type 0

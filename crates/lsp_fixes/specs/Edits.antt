@@ -1,6 +1,6 @@
 -- What is offered against the fault of an item, as edits of its block (own): which names are near,
 -- the sign of another kind, and the spelling that reads back.
-use Rattle.std.specs.Prelude.{ℕ, suc, ◌==◌, ◌&&◌, not, nat_le, nat_lt, Bool, List, [], ◌∷◌, codes, length, map, Option, None, Some, if◌then◌else◌}
+use Rattle.std.specs.Prelude.{ℕ, suc, ◌==◌, ◌&&◌, not, nat_le, nat_lt, Bool, false, true, List, [], ◌∷◌, codes, length, map, Option, None, Some, if◌then◌else◌}
 use Rattle.std.specs.List.{list_all}
 use Rattle.std.specs.Option.{option_map_or}
 use Rattle.std.specs.String.{string_bytes}
@@ -28,7 +28,7 @@ use Rattle.lsp_fixes.specs.declared.edits.Edit.{Edit}
 -- what is advised, as plain data: another name in place of this one, the sign of a kind, the string
 -- as it is read, or a backslash before a `^`
 pub data AdviceSeen : Type 0 where
-  advises_name : List ℕ → AdviceSeen
+  advises_name : (name other : List ℕ) → AdviceSeen
   advises_sign : Kind → AdviceSeen
   advises_spelling : AdviceSeen
   advises_caret : AdviceSeen
@@ -41,10 +41,19 @@ pub record EditSeen : Type 0 where
 
 -- advice that holds its name in memory, as plain data
 abbrev pub advice_seen : Advice → AdviceSeen
-advice_seen (advice.Name name) = advises_name (string_bytes name)
+advice_seen (advice.Name name other) = advises_name (string_bytes name) (string_bytes other)
 advice_seen (advice.Sign kind) = advises_sign kind
 advice_seen advice.Spelling = advises_spelling
 advice_seen advice.Caret = advises_caret
+
+-- whether advice is certain: it is the one way to heal what it is against, and keeps what the item
+-- is about. Another name is a guess, and an odd escape (W3) is healed without its backslash or with
+-- two.
+abbrev pub is_certain : AdviceSeen → Bool
+is_certain (advises_name name other) = false
+is_certain (advises_sign kind) = true
+is_certain advises_spelling = false
+is_certain advises_caret = true
 
 -- an edit that holds its texts in memory, as plain data
 abbrev pub edit_seen : Edit → EditSeen
@@ -54,7 +63,7 @@ edit_seen edit = record { advice = advice_seen edit.advice; part = edit.part; te
 
 -- another name in place of one that is in that part
 abbrev pub rename : List ℕ → Part → List ℕ → EditSeen
-rename name part other = record { advice = advises_name (shown name); part = part; text = shown other }
+rename name part other = record { advice = advises_name (shown name) (shown other); part = part; text = shown other }
 
 -- the nearest of some names in place of one that is in that part
 abbrev pub renames_in : List ℕ → List (List ℕ) → Option Part → List EditSeen

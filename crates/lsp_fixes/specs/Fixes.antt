@@ -1,7 +1,7 @@
 -- What an editor offers against the faults of a document's items (own; Language Server Protocol
 -- 3.17, "Code Action Request").
 use Rattle.ti_text.specs.Ascii as ascii
-use Rattle.std.specs.Prelude.{ℕ, ◌==◌, ◌&&◌, not, nat_le, nat_lt, is_none, Bool, false, List, [], ◌++◌, filter, flat_map, map, Option, None, Some}
+use Rattle.std.specs.Prelude.{ℕ, ◌==◌, ◌&&◌, not, nat_le, nat_lt, is_none, is_some, Bool, false, List, [], ◌++◌, filter, flat_map, map, Option, None, Some}
 use Rattle.std.specs.Prelude.{option_and_then, option_map, if◌then◌else◌}
 use Rattle.std.specs.List.{enumerate_from, find}
 use Rattle.std.specs.Option.{option_map_or}
@@ -13,6 +13,7 @@ use Rattle.ti_source.specs.Parsing.{reading_of_text}
 use Rattle.ti_source.specs.Reading.{Reading, ReadFault, ReadItem, Said, said_text}
 use Rattle.ti_source.specs.declared.code.Code.{Code}
 use Rattle.user_items.specs.Laws.{is_local_warning}
+use Rattle.lsp_descriptions.specs.UserDescriptions.{user_described}
 use Rattle.base_meaning.specs.OwnNames.{own_names}
 use Rattle.base_meaning.specs.Owner.{owner, readings}
 use Rattle.lsp_spans.specs.Folding.{folded_of}
@@ -27,10 +28,11 @@ use Rattle.lsp_diagnostics.specs.declared.capabilities.Capabilities.TheVariants.
 use Rattle.lsp_document.specs.Documents.{held}
 use Rattle.lsp_places.specs.Position.{units}
 use Rattle.lsp_blocks.specs.Giving.{can_be_given}
-use Rattle.lsp_blocks.specs.Places.{can_be_exchanged}
 use Rattle.lsp_blocks.specs.Spots.{offset_in, range_in, spot_at}
 use Rattle.lsp_blocks.specs.declared.spots.Spot.{Spot}
 use Rattle.lsp_fixes.specs.Edits.{AdviceSeen, EditSeen, advice_seen, edits_for, renames}
+use Rattle.lsp_fixes.specs.Narrowing.{can_be_made, narrowed}
+use Rattle.lsp_fixes.specs.UserNames.{user_renames, user_renames_by}
 use Rattle.lsp_fixes.specs.declared.fixes.Fix.{Fix}
 use Rattle.lsp_fixes.specs.declared.fixes.Stretch.{Stretch}
 
@@ -54,16 +56,23 @@ fault_of_item ordinal faults = find (λ (fault : ReadFault). fault.ordinal == or
 abbrev pub code_at : ℕ → List ReadFault → Option Code
 code_at ordinal faults = option_map (λ (fault : ReadFault). fault.code) (fault_of_item ordinal faults)
 
--- whether a fault is none of a source with these capabilities: the warning of a user-defined name
+-- whether what a fault is about is the name of a user-defined capability that is known
+abbrev pub is_of_known_name : Option (List ℕ) → Bool
+is_of_known_name None = false
+is_of_known_name (Some name) = is_some (user_described name)
+
+-- whether nothing is offered against a fault in a source with these capabilities: it is the warning
+-- of a user-defined name that is known. One that is not known is most likely misspelled (N8).
 abbrev pub is_allowed : Capabilities → ReadFault → Bool
 is_allowed Profile fault = false
-is_allowed UserDefined fault = is_local_warning fault
+is_allowed UserDefined fault = is_local_warning fault && is_of_known_name fault.detail
 
--- its code, if it is one
+-- its code, if something is
 abbrev pub code_unless : Capabilities → ReadFault → Option Code
 code_unless capabilities fault = if is_allowed capabilities fault then None else Some fault.code
 
--- the fault of the item in a source with these capabilities, if it has one
+-- the fault of the item against which something is offered in a source with these capabilities, if
+-- it has one
 abbrev pub code_by : Capabilities → ℕ → List ReadFault → Option Code
 code_by capabilities ordinal faults = option_and_then (code_unless capabilities) (fault_of_item ordinal faults)
 
@@ -98,15 +107,17 @@ used_edits blocks at (Some name) = if is_none (owner (readings blocks) (bytes na
 
 -- ---- the items of a block
 
--- what is offered for an item of that place in the block at that position, which is read as this
+-- what is offered for an item of that place in the block at that position, which is read as this,
+-- whatever the capabilities
 abbrev pub item_edits : List (List ℕ) → (at ordinal : ℕ) → Reading → List PlacedByte → List EditSeen
 item_edits blocks at ordinal block item =
-    edits_for item (code_at ordinal block.faults) (value_at ordinal block.items) ++ used_edits blocks at (used_name item)
+    edits_for item (code_at ordinal block.faults) (value_at ordinal block.items) ++ (used_edits blocks at (used_name item) ++ user_renames item)
 
 -- the same in a source with these capabilities
 abbrev pub item_edits_by : Capabilities → List (List ℕ) → (at ordinal : ℕ) → Reading → List PlacedByte → List EditSeen
 item_edits_by capabilities blocks at ordinal block item =
-    edits_for item (code_by capabilities ordinal block.faults) (value_at ordinal block.items) ++ used_edits blocks at (used_name item)
+    edits_for item (code_by capabilities ordinal block.faults) (value_at ordinal block.items)
+    ++ (used_edits blocks at (used_name item) ++ user_renames_by capabilities item)
 
 -- whether a stretch touches an item of its block: an offset just after the last byte of an item is
 -- on it
@@ -138,9 +149,10 @@ begins_character before byte = nat_lt 0 (units byte) && not (before == ascii.car
 abbrev pub fix_of : ℕ → List ℕ → EditSeen → FixSeen
 fix_of line block edit = record { advice = edit.advice; range = range_in line block edit.part; text = edit.text }
 
--- those edits of a block that begins on that line that an editor can make, as fixes of the text
+-- edits of a block that begins on that line as fixes of the text, without the bytes that they leave
+-- as they are: those that an editor can make, and that are within a line of items
 abbrev pub fixes_in : ℕ → List ℕ → List EditSeen → List FixSeen
-fixes_in line block edits = map (fix_of line block) (filter (λ (edit : EditSeen). can_be_exchanged block edit.part) edits)
+fixes_in line block edits = map (fix_of line block) (filter (can_be_made block) (map (narrowed (folded_of block)) edits))
 
 -- the stretch of a block from a place in it to another place, or to the block's end if that is
 -- after it

@@ -1,6 +1,7 @@
 -- What a fix makes of the block of its item once the client has made the edit (own; Language Server
--- Protocol 3.17, "TextEdit"): that item has lost its fault, and the others are as they were.
-use Rattle.std.specs.Prelude.{ℕ, ◌≡◌, ◌≢◌, ◌≤◌, ◌<◌, ◌⊎◌, All, Contains, List, ◌++◌, length, None, Some, slice_get, slice_set, take}
+-- Protocol 3.17, "TextEdit"): that item has lost its fault or its unknown name, and the others are
+-- as they were.
+use Rattle.std.specs.Prelude.{ℕ, ◌≡◌, ◌≢◌, ◌≤◌, ◌<◌, ◌⊎◌, All, Contains, List, ◌++◌, is_some, length, None, Some, slice_get, slice_set, take, true}
 use Rattle.ti_text.specs.Ascii as ascii
 use Rattle.ti_text.specs.Texts.{AreBytes, last_byte}
 use Rattle.ti_source.specs.Cutting.{OneBlock}
@@ -16,6 +17,8 @@ use Rattle.lsp_spans.specs.Replacing.{IsReadBy, exchanged, fault_at, item_texts,
 use Rattle.lsp_spans.specs.Subjects.{head_text, items_of}
 use Rattle.lsp_spans.specs.declared.parts.Part.{Part}
 use Rattle.lsp_document.specs.Diagnostics.{text_at}
+use Rattle.lsp_descriptions.specs.UserDescriptions.{user_described}
+use Rattle.lsp_hints.specs.Unknown.{is_unknown_name}
 use Rattle.lsp_fixes.specs.Edits.{EditSeen}
 use Rattle.lsp_fixes.specs.Fixes.{item_edits}
 use Rattle.lsp_fixes.specs.Laws.{IsOfCapability, IsRead}
@@ -83,9 +86,20 @@ pub record GetsOwner (blocks : List (List ℕ)) (at : ℕ) (block after : List �
   pub leads : owner (readings (slice_set blocks at after)) other ≡ Some place
   pub apart : place ≢ at
 
--- either of these
+-- an item with a user-defined name that is not known has a known one in its place (N8), what is
+-- after the name stays, and no other item has changed
+pub record GetsKnownName (block after : List ℕ) (ordinal : ℕ) : Type 0 where
+  pub name : List ℕ
+  pub other : List ℕ
+  pub rest : List ℕ
+  pub had : slice_get (item_texts block) ordinal ≡ Some (name ++ rest)
+  pub unknown : is_unknown_name name ≡ true
+  pub known : is_some (user_described other) ≡ true
+  pub changes : OneItemChanges block after ordinal (other ++ rest)
+
+-- one of these
 abbrev pub Heals : (blocks : List (List ℕ)) (at : ℕ) (block after : List ℕ) (ordinal : ℕ) → Type 0
-Heals blocks at block after ordinal = LosesFault block after ordinal ⊎ GetsOwner blocks at block after ordinal
+Heals blocks at block after ordinal = LosesFault block after ordinal ⊎ (GetsOwner blocks at block after ordinal ⊎ GetsKnownName block after ordinal)
 
 -- each edit that is offered for an item of a block is of a part of the block, which stays one
 -- block, and heals that item

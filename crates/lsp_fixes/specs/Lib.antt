@@ -6,7 +6,9 @@ pub mod Edits
 pub mod Fixes
 pub mod Healing
 pub mod Laws
+pub mod Narrowing
 pub mod Nearest
 pub mod Pieces
 pub mod Resolving
 pub mod Shown
+pub mod UserNames

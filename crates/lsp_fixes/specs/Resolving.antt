@@ -17,8 +17,8 @@ use Rattle.lsp_fixes.specs.Fixes.{FixSeen}
 -- whether a problem is one that the advice is against: another name is one against a name that no
 -- capability has (W1) or that no block has (E6)
 abbrev pub is_against : AdviceSeen → Problem → Bool
-is_against (advises_name name) (Fault code.UnknownCapability) = true
-is_against (advises_name name) (Fault code.MissingUse) = true
+is_against (advises_name name other) (Fault code.UnknownCapability) = true
+is_against (advises_name name other) (Fault code.MissingUse) = true
 is_against (advises_sign kind) (Fault code.WrongKind) = true
 is_against advises_spelling (Fault code.UnknownEscape) = true
 is_against advises_caret (Fault code.BadString) = true

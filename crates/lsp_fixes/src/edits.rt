@@ -4,7 +4,7 @@ ghost use Rattle.std.specs.List.{list_all};
 ghost use Rattle.ti_source.specs.Items.{bytes};
 ghost use Rattle.lsp_spans.specs.Parts.{spanned};
 ghost use Rattle.lsp_fixes.specs.Edits as spec;
-ghost use Rattle.lsp_fixes.specs.Edits.{carets, edit_seen, edits_for, is_digit, keeps_return, kind_signs, known_names, rename, renames, sign_for, signs};
+ghost use Rattle.lsp_fixes.specs.Edits.{advice_seen, carets, edit_seen, edits_for, is_certain, is_digit, keeps_return, kind_signs, known_names, rename, renames, sign_for, signs};
 ghost use Rattle.lsp_fixes.specs.Edits.{spelling_in, spellings};
 
 use crate::candidates::names_for;
@@ -20,14 +20,33 @@ use ti_source::{Code, escape};
 /// What is advised.
 #[derive(Debug, Drop)]
 pub enum Advice {
-    /// Another name in place of this one, in ASCII.
-    Name(String),
+    /// Another name in place of a name.
+    Name {
+        /// The name, in ASCII.
+        name: String,
+        /// The other name, in ASCII.
+        other: String,
+    },
     /// The sign of a kind: none of a boolean, `#` of a number, `=` of a string.
     Sign(Kind),
     /// The string as it is read.
     Spelling,
     /// A backslash before the `^` at the end of a string, which takes nothing.
     Caret,
+}
+
+impl Advice {
+    /// Whether it is certain: it is the one way to heal what it is against, and keeps what the item
+    /// is about. Another name is a guess, and an odd escape is healed without its backslash or with
+    /// two.
+    pub fn is_certain(&self) -> bool
+        ensures { result ≡ is_certain (advice_seen self.now) }
+    {
+        match self {
+            Advice::Name { .. } | Advice::Spelling => false,
+            Advice::Sign(_) | Advice::Caret => true,
+        }
+    }
 }
 
 /// An edit of a block.
@@ -46,7 +65,10 @@ fn rename(alloc: Global, name: &[u8], part: Part, other: &[u8]) -> Result<Edit, 
     ensures { IfOk result (λ edit. edit_seen edit ≡ rename name.now part other.now) }
 {
     Ok(Edit {
-        advice: Advice::Name(shown(alloc, name)?),
+        advice: Advice::Name {
+            name: shown(alloc, name)?,
+            other: shown(alloc, other)?,
+        },
         part,
         text: shown(alloc, other)?,
     })

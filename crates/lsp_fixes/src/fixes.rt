@@ -1,24 +1,32 @@
 //! What is offered for the items that a range touches.
 ghost use Rattle.std.specs.Prelude.{◌≡◌, ◌<◌, ◌+◌, ◌++◌, ◌^◌, All, IfOk, OnOk, Some, length, map, option_map};
+ghost use Rattle.std.specs.Rc.{rc_slice_items};
 ghost use Rattle.ti_source.specs.Reading.{fault_of, item_of, reading_of, said_of};
 ghost use Rattle.ti_source.specs.Cutting.{OneBlock};
+ghost use Rattle.lsp_spans.specs.Folding.{folded_of};
 ghost use Rattle.lsp_spans.specs.Parts.{IsWithin, part_of};
 ghost use Rattle.lsp_document.specs.Diagnostics.{text_at};
 ghost use Rattle.lsp_document.specs.Documents.{IsShortBlock};
 ghost use Rattle.lsp_fixes.specs.Edits.{edit_seen};
 ghost use Rattle.lsp_fixes.specs.Fixes as spec;
 ghost use Rattle.lsp_blocks.specs.Places.{can_be_exchanged, is_place};
+ghost use Rattle.lsp_fixes.specs.Narrowing.{can_be_made};
 ghost use Rattle.lsp_fixes.specs.Fixes.{begins_character, fix_seen, fixes_in, stretch_to, text_said, touched_edits};
 
 use crate::edits::{Advice, Edit, push_edits};
+use crate::narrowing::narrowed;
 use crate::pieces::span;
 use crate::texts::last_byte;
+use crate::user_names::push_user_names;
 use crate::uses::push_used;
 use lsp_blocks::{Spot, offset_in, range_in, spot_at};
+use lsp_descriptions::is_known;
 use lsp_document::{Capabilities, Document};
+use lsp_keeping::stays_in_line;
 use lsp_spans::{Part, folded, visible_items};
 use lsp_types::{Position, Range};
 use std::alloc::{AllocError, Global};
+use std::rc::RcSlice;
 use ti_base::Database;
 use ti_source::{Code, Item, Local, Parsed, What, parse};
 use user_items::is_user_warning;
@@ -45,17 +53,30 @@ pub(crate) struct Stretch {
     end: usize,
 }
 
-// Whether a fault is none of a source with these capabilities: the warning of a user-defined name.
+// Whether what a fault is about is the name of a user-defined capability that is known.
+fn is_of_known_name(detail: &Option<RcSlice<u8>>) -> bool
+    ensures { result ≡ spec.is_of_known_name (option_map rc_slice_items detail.now) }
+{
+    match detail {
+        Some(name) => is_known(name.as_slice()),
+        None => false,
+    }
+}
+
+// Whether nothing is offered against a fault in a source with these capabilities: it is the warning
+// of a user-defined name that is known.
 fn is_allowed(capabilities: Capabilities, fault: &Local) -> bool
     ensures { result ≡ spec.is_allowed capabilities (fault_of fault.now) }
 {
     match capabilities {
         Capabilities::Profile => false,
-        Capabilities::UserDefined => is_user_warning(fault.code, &fault.detail),
+        Capabilities::UserDefined => {
+            is_user_warning(fault.code, &fault.detail) && is_of_known_name(&fault.detail)
+        }
     }
 }
 
-// The code of a fault, if it is one of a source with these capabilities.
+// The code of a fault, if something is offered against it in a source with these capabilities.
 fn code_unless(capabilities: Capabilities, fault: &Local) -> Option<Code>
     ensures { result ≡ spec.code_unless capabilities (fault_of fault.now) }
 {
@@ -66,8 +87,8 @@ fn code_unless(capabilities: Capabilities, fault: &Local) -> Option<Code>
     }
 }
 
-// The fault of the item of that place among the items of its block, in a source with these
-// capabilities.
+// The fault of the item of that place among the items of its block, against which something is
+// offered in a source with these capabilities.
 fn code_by(capabilities: Capabilities, faults: &[Local], ordinal: usize) -> Option<Code>
     ensures { result ≡ spec.code_by capabilities ordinal (map fault_of faults.now) }
 {
@@ -133,7 +154,8 @@ fn push_item(
     let code = code_by(capabilities, &parsed.faults, ordinal);
     let value = value_at(&parsed.items, ordinal);
     push_edits(alloc, edits, item, code, value)?;
-    push_used(alloc, edits, database, stretch.at, item)
+    push_used(alloc, edits, database, stretch.at, item)?;
+    push_user_names(alloc, edits, capabilities, item)
 }
 
 // What is offered for the items of a block that a stretch of it touches.
@@ -169,28 +191,29 @@ fn edits_of(
     Ok(edits)
 }
 
-// What is offered for the items that a stretch touches.
+// What is offered for the items that a stretch touches, of a block with this folded text.
 fn edits_in(
     alloc: Global,
     capabilities: Capabilities,
     database: &Database,
     stretch: Stretch,
+    text: &[(u8, usize)],
 ) -> Result<Vec<Edit>, AllocError>
     requires short { All IsShortBlock database.now }
     requires within { stretch.at < length database.now }
+    requires folded { text.now ≡ folded_of (text_at database.now stretch.at) }
+    requires offsets { All (λ x. x.1 < 2 ^ 63) text.now }
     ensures { IfOk result (λ edits. map edit_seen edits.items ≡ spec.edits_in capabilities database.now stretch) }
 {
-    let block = database.text(stretch.at);
-    let parsed = parse(alloc, block)?;
-    let text = folded(alloc, block)?;
-    let items = visible_items(alloc, &text)?;
+    let parsed = parse(alloc, database.text(stretch.at))?;
+    let items = visible_items(alloc, text)?;
     edits_of(
         alloc,
         capabilities,
         database,
         stretch,
         &parsed,
-        &text,
+        text,
         &items,
     )
 }
@@ -219,20 +242,34 @@ fn can_be_exchanged(block: &[u8], part: Part) -> bool
     is_place(block, part.start) && is_place(block, part.end)
 }
 
-// Those edits of a block that an editor can make, as fixes of the text, if the block begins on that
-// line.
+// Whether an editor can make an edit of a block, and the edit is within a line of items.
+fn can_be_made(block: &[u8], edit: &Edit) -> bool
+    ensures { result ≡ can_be_made block.now (edit_seen edit.now) }
+{
+    let Part { start, end } = edit.part;
+    can_be_exchanged(block, edit.part)
+        && start <= end
+        && stays_in_line(block, start, end, edit.text.as_bytes())
+}
+
+// Those edits of a block with this folded text that an editor can make, and that are within a line
+// of items, as fixes of the text, if the block begins on that line.
 fn fixes_of_edits(
     alloc: Global,
     line: usize,
     block: &[u8],
+    text: &[(u8, usize)],
     edits: Vec<Edit>,
 ) -> Result<Vec<Fix>, AllocError>
-    requires { line + length block.now < 2 ^ 64 }
+    requires room { line + length block.now < 2 ^ 64 }
+    requires folded { text.now ≡ folded_of block.now }
+    requires offsets { All (λ x. x.1 < 2 ^ 63) text.now }
     ensures { IfOk result (λ fixes. map fix_seen fixes.items ≡ fixes_in line block.now (map edit_seen edits.items)) }
 {
     let mut fixes = Vec::new(alloc);
-    for edit in edits {
-        if can_be_exchanged(block, edit.part) {
+    for wide in edits {
+        let edit = narrowed(alloc, text, wide)?;
+        if can_be_made(block, &edit) {
             fixes.push(Fix {
                 advice: edit.advice,
                 range: range_in(line, block, edit.part),
@@ -268,14 +305,19 @@ fn fixes_from(
     ensures { IfOk result (λ fixes. map fix_seen fixes.items ≡ spec.fixes_from capabilities database.now end spot) }
 {
     let block = database.text(spot.at);
-    let edits = edits_in(alloc, capabilities, database, stretch_to(block, end, spot))?;
-    fixes_of_edits(alloc, spot.line, block, edits)
+    let text = folded(alloc, block)?;
+    let stretch = stretch_to(block, end, spot);
+    let edits = edits_in(alloc, capabilities, database, stretch, &text)?;
+    fixes_of_edits(alloc, spot.line, block, &text, edits)
 }
 
 /// What is offered against the faults of the items that a range touches, of the block in which it
-/// begins, in their order. A range touches an item also just after its last byte. Nothing is offered
-/// in place of a part that ends between a CR and its LF, or within a character: no editor has such
-/// a place. No name is offered in place of a user-defined one if the source may have those.
+/// begins, in their order. A range touches an item also just after its last byte. A fix exchanges
+/// the bytes that change, and no line break: each comment and each blank line stays as it is. So
+/// nothing is offered that would change bytes in several lines. Nothing is offered either in place
+/// of a part that ends between a CR and its LF, or within a character: no editor has such a place.
+/// If the source may have user-defined capabilities, no name is offered in place of one that is
+/// known, and the nearest known ones in place of one that is not.
 ///
 /// # Errors
 /// Out of memory.

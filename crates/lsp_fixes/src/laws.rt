@@ -45,8 +45,8 @@ pub fn items_are_in_order()
     ensures { ItemsAreInOrder }
 {}
 
-/// An edit that is offered for an item of a block, once it is made, has taken the fault of the item
-/// away, and has changed no other item.
+/// An edit that is offered for an item of a block, once it is made, has taken the fault or the
+/// unknown name of the item away, and has changed no other item.
 pub fn edits_heal()
     ensures { EditsHeal }
 {
@@ -56,12 +56,17 @@ pub fn edits_heal()
 }
 
 /// A fix of a text, once the client has made the edit at the range of the fix, has taken the fault
-/// of its item away, and has changed no other item, whether a newline ends the text or not. In ASCII
-/// with no CR each place is the start of a character, so that no edit is left out there.
+/// or the unknown name of its item away, and has changed no other item, whether a newline ends the
+/// text or not. Each comment and each blank line is as it was, on the line that it was on. In ASCII
+/// with no CR each place is the start of a character, so that no edit is left out there for its
+/// places.
 pub fn fixes_heal()
     ensures fixes { FixesHeal }
     ensures ascii { AsciiPlacesAreStarts }
 {
     lsp_document::laws::held_blocks_fit();
-    edits_heal();
+    lsp_keeping::laws::edits_keep_lines();
+    ti_source::laws::one_outcome();
+    ti_source::laws::written_spells();
+    ti_source::laws::each_is_well_read();
 }

@@ -20,7 +20,7 @@ fn is_against(advice: &Advice, problem: Problem) -> bool
     ensures { result ≡ is_against (advice_seen advice.now) problem }
 {
     match (advice, problem) {
-        (Advice::Name(_), Problem::Fault(Code::UnknownCapability | Code::MissingUse)) => true,
+        (Advice::Name { .. }, Problem::Fault(Code::UnknownCapability | Code::MissingUse)) => true,
         (Advice::Sign(_), Problem::Fault(Code::WrongKind)) => true,
         (Advice::Spelling, Problem::Fault(Code::UnknownEscape)) => true,
         (Advice::Caret, Problem::Fault(Code::BadString)) => true,

@@ -76,8 +76,8 @@ fn other_names(alloc: Global, database: &Database, own: usize) -> Result<Vec<&[u
     Ok(names)
 }
 
-/// Adds the nearest lookup names that a source can give in place of one that an item of the block at that position uses,
-/// if no block has it.
+/// Adds the nearest lookup names that a source can give in place of one that an item of the block at
+/// that position uses, if no block has it.
 pub(crate) fn push_used(
     alloc: Global,
     edits: &mut Vec<Edit>,

@@ -1,7 +1,7 @@
 -- Blocks with the same names field and items of the same texts are read alike, and a formatted source
--- is read as before and stays as it is.
+-- is read as before, keeps its comments and blank lines, fits its width and stays as it is.
 use Rattle.std.proofs.Common.{◌≡◌, ℕ, ◌+◌, List, [], ◌∷◌, ◌++◌, map, Option, Some, None, refl, sym, ap, subst, ◌∙◌}
-use Rattle.std.specs.List.{concat, flat_map}
+use Rattle.std.specs.List.{AllByRecursion, concat, flat_map}
 use Rattle.std.proofs.lemmas.List.{map-append}
 use Rattle.std.proofs.lemmas.List.Concat.{flat_map-cons}
 use Rattle.ti_text.specs.Texts.{last_byte}
@@ -19,9 +19,11 @@ use Rattle.ti_source.specs.inside.Parsing.{block_field, judged_as, judged_of}
 use Rattle.ti_source.specs.inside.Verdicts.{verdict_of}
 use Rattle.ti_source.proofs.CutLemmas.{cut_is_computed, each_has_cut}
 use Rattle.lsp_format.specs.Layout.{block_text, formatted_text}
-use Rattle.lsp_format.specs.Laws.{FormattingIsSettled, FormattingKeepsReading, IsReadAlike, ReadAlike, ReadsAlike, item_texts, unplaced, unplaced_fault}
-use Rattle.lsp_format.specs.Laws.{unplaced_item}
+use Rattle.lsp_format.specs.Laws.{FitsWidth, FormattedLinesFit, FormattingIsSettled, FormattingKeepsReading, ReadAlike, ReadsAlike}
+use Rattle.lsp_format.specs.Laws.{item_texts, kept_texts, unplaced, unplaced_fault, unplaced_item}
 use Rattle.lsp_format.proofs.Headed.{block_again, block_ends, block_one_head, field_again, texts_again}
+use Rattle.lsp_format.proofs.Standing.{blocks_kept, kept_of_blocks, standing_again}
+use Rattle.lsp_format.proofs.Widths.{blocks_fit}
 
 -- ---- items and faults without their lines
 
@@ -89,6 +91,7 @@ alike width block head =
     let texts = texts_again width block head in
     record {
       texts = sym texts;
+      standing = sym (standing_again width block head);
       reading = reading_so block ∙ ap (λ (f : List ℕ). reading_with f (item_texts block)) (sym field)
           ∙ ap (reading_with (block_field (block_text width block))) (sym texts) ∙ sym (reading_so (block_text width block));
     }
@@ -128,11 +131,28 @@ written_cut width source =
       each = written_blocks width (last_byte 10 preface) (last_byte 10 preface) bs c.each (λ e. e);
     }
 
+stays_kept : (width : ℕ) (source : List ℕ) → kept_texts (formatted_text width source) ≡ kept_texts source
+stays_kept width source =
+    let preface = front_of 10 source in
+    let bs = blocks_from_head 10 source in
+    let old = each_has_cut source in
+    let new = written_cut width source in
+    ap kept_texts new.whole ∙ kept_of_blocks preface (map (block_text width) bs) new.each
+    ∙ ap (λ (ts : List (List ℕ)). kept_texts preface ++ ts) (blocks_kept width (last_byte 10 preface) bs old.each)
+    ∙ sym (kept_of_blocks preface bs old.each) ∙ sym (ap kept_texts old.whole)
+
+pub lines_fit : FormattedLinesFit
+lines_fit width source =
+    let bs = blocks_from_head 10 source in
+    let parts = cut_is_computed (formatted_text width source) (front_of 10 source) (map (block_text width) bs) (written_cut width source) in
+    subst (AllByRecursion (FitsWidth width)) (sym parts.1) (blocks_fit width (last_byte 10 (front_of 10 source)) bs (each_has_cut source).each)
+
 pub keeps_reading : FormattingKeepsReading
 keeps_reading width source =
     let written = map (block_text width) (blocks_from_head 10 source) in
     let parts = cut_is_computed (formatted_text width source) (front_of 10 source) written (written_cut width source) in
     record {
+      kept = sym (stays_kept width source);
       preface = sym parts.0;
       blocks = subst (λ (bs : List (List ℕ)). ReadAlike (blocks_from_head 10 source) bs) (sym parts.1)
           (all_alike width (last_byte 10 (front_of 10 source)) (blocks_from_head 10 source) (each_has_cut source).each);

@@ -1,6 +1,5 @@
 -- Where items end, and what is read of one on a line.
-use Rattle.std.proofs.Common.{◌≡◌, ℕ, Bool, true, false, ◌==◌, List, [], ◌∷◌, ◌++◌, map, refl, sym, ap, ◌∙◌}
-use Rattle.ti_text.specs.WhiteSpace.{is_white_space}
+use Rattle.std.proofs.Common.{◌≡◌, ℕ, true, false, List, [], ◌∷◌, ◌++◌, refl, ap}
 use Rattle.ti_source.specs.Folding.{PlacedByte}
 use Rattle.ti_source.specs.Items.{ItemPiece, bytes, item_piece, piece_of}
 use Rattle.ti_source.specs.inside.Folding.{folding_of}

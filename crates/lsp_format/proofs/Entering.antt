@@ -1,18 +1,17 @@
 -- What is read of any block: its pieces are fine and in order, and have the texts of its items.
-use Rattle.std.proofs.Common.{◌≡◌, ◌≢◌, ℕ, ◌+◌, ◌==◌, ◌||◌, ◌&&◌, Bool, true, false, cond, List, [], ◌∷◌, ◌++◌, map, refl, sym, ap, subst, ◌∙◌, inl, inr, arith}
+use Rattle.std.proofs.Common.{◌≡◌, ℕ, ◌+◌, ◌==◌, ◌||◌, ◌&&◌, Bool, true, false, List, [], ◌∷◌, ◌++◌, map, refl, sym, ap, subst, ◌∙◌, inl, inr, arith}
 use Rattle.std.specs.Prelude.{nat_lt}
 use Rattle.std.proofs.lemmas.Bool.{cases_Bool, eqb-true}
-use Rattle.ti_text.specs.Texts.{is_empty}
 use Rattle.ti_text.specs.WhiteSpace.{is_white_space}
 use Rattle.ti_source.specs.Folding.{HasNoNewline, PlacedByte}
 use Rattle.ti_source.specs.Items.{ItemPiece, bytes, line_of, piece_of, without_front}
 use Rattle.ti_source.specs.Walking.{block_items}
 use Rattle.ti_source.specs.inside.Folding.{bytes_on_lines, folding_of, without_breaks, without_comments}
-use Rattle.ti_source.specs.inside.Items.{after_field, field_of}
+use Rattle.ti_source.specs.inside.Items.{after_field}
 use Rattle.ti_source.proofs.ItemLaws.{BeginsVisible}
 use Rattle.lsp_spans.specs.Parts.{with_first}
 use Rattle.lsp_spans.proofs.Escaping.{Escape, backslash, caret, cuts, escape_after, items_of, nothing}
-use Rattle.lsp_format.specs.Pieces.{Entry, KeptLine, Piece, item, kept, entries, entries_of, is_kept, kept_from, kept_lines, kept_piece, lines_before}
+use Rattle.lsp_format.specs.Pieces.{Entry, KeptLine, Piece, item, entries, entries_of, is_kept, kept_from, kept_lines, kept_piece, lines_before}
 use Rattle.lsp_format.specs.Pieces.{lines_from}
 use Rattle.lsp_format.specs.Pieces.{lines_of, merged, pieces_of, with_first_byte}
 use Rattle.lsp_format.specs.Laws.{item_texts}

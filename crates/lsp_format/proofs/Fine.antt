@@ -1,5 +1,5 @@
 -- What pieces are as they are read.
-use Rattle.std.proofs.Common.{◌≡◌, ◌≢◌, ℕ, Bool, true, false, List, [], ◌∷◌, ◌++◌}
+use Rattle.std.proofs.Common.{◌≡◌, ◌≢◌, ℕ, Bool, true, false, List, [], ◌∷◌}
 use Rattle.ti_source.proofs.ItemLaws.{BeginsVisible}
 use Rattle.lsp_spans.proofs.Escaping.{nothing}
 use Rattle.lsp_format.specs.Pieces.{Piece, item, kept, is_kept}

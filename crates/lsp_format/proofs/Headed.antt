@@ -1,5 +1,5 @@
 -- The names field of a block, and what is read of a block as it is written.
-use Rattle.std.proofs.Common.{◌≡◌, ℕ, ◌+◌, ◌==◌, ◌&&◌, ◌||◌, not, Bool, true, false, cond, List, [], ◌∷◌, ◌++◌, map, append_assoc, refl, sym, ap}
+use Rattle.std.proofs.Common.{◌≡◌, ℕ, ◌==◌, Bool, true, false, List, [], ◌∷◌, ◌++◌, map, append_assoc, refl, sym, ap}
 use Rattle.std.proofs.Common.{subst, ◌∙◌, inl, inr}
 use Rattle.std.specs.List.{list_all}
 use Rattle.std.proofs.lemmas.Bool.{cases_Bool, and_parts}
@@ -18,10 +18,10 @@ use Rattle.ti_source.specs.inside.Parsing.{block_field}
 use Rattle.lsp_spans.proofs.Escaping.{items_of, nothing}
 use Rattle.lsp_format.specs.Layout.{block_text, item_bytes, laid, line_start}
 use Rattle.lsp_format.specs.Laws.{item_texts}
-use Rattle.lsp_format.specs.Pieces.{Entry, Piece, entries, entries_of, is_kept, item, kept, kept_from, kept_lines, lines_of, merged, pieces_of}
+use Rattle.lsp_format.specs.Pieces.{Entry, Piece, entries_of, is_kept, kept_from, kept_lines, lines_of, merged, pieces_of}
 use Rattle.lsp_format.proofs.Cut.{bytes-on_line, items_computed}
 use Rattle.lsp_format.proofs.Entering.{block_fine, block_ordered, block_texts, map_texts, no_breaks}
-use Rattle.lsp_format.proofs.Fine.{AreFine, IsFine, fine_ended, fine_last, texts_of}
+use Rattle.lsp_format.proofs.Fine.{AreFine}
 use Rattle.lsp_format.proofs.Folded.{IsOneLine, folded, fresh, inline, inline-byte, inline-run, one_line-append}
 use Rattle.lsp_format.proofs.Laying.{Laying, kept_line, laid_lays, line_ends, line_item, next_item, no_piece}
 use Rattle.lsp_format.proofs.Numbered.{all_merged, item_line, lines_kept, lines_of-line, numbered}
@@ -137,11 +137,11 @@ lines_left field s f =
 -- ---- a block as it is written, read again
 
 -- the names field of a block, as it is read
-field_read : (block : List ℕ) → (reading_of_text block).field ≡ block_field block
+pub field_read : (block : List ℕ) → (reading_of_text block).field ≡ block_field block
 unfolding reading_of_text
 field_read block = refl
 
-known_field : (block : List ℕ) → HasOneHead block → Field (reading_of_text block).field
+pub known_field : (block : List ℕ) → HasOneHead block → Field (reading_of_text block).field
 known_field block head = subst Field (sym (field_read block)) (block_head block head)
 
 module _ (width : ℕ) (block : List ℕ) (head : HasOneHead block) where

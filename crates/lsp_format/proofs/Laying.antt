@@ -1,9 +1,9 @@
 -- How pieces lie in a text, whatever the width is.
-use Rattle.std.proofs.Common.{◌≡◌, ◌≢◌, ℕ, ◌+◌, Bool, true, false, not, ◌==◌, List, [], ◌∷◌, ◌++◌, length, refl, subst, arith}
+use Rattle.std.proofs.Common.{◌≡◌, ℕ, ◌+◌, Bool, true, false, not, ◌==◌, List, [], ◌∷◌, ◌++◌, subst, arith}
 use Rattle.std.proofs.lemmas.Bool.{ne_eqb}
 use Rattle.lsp_format.specs.Pieces.{Piece, item, kept}
 use Rattle.lsp_format.specs.Kinds.{kind_of}
-use Rattle.lsp_format.specs.Layout.{Place, column_after, gap, goes_on, item_bytes, laid, line_end, line_start, place_after}
+use Rattle.lsp_format.specs.Layout.{Place, column_after, columns, gap, goes_on, item_bytes, laid, line_end, line_start, place_after}
 
 -- pieces are a text; a line is begun before it, or none is
 pub data Laying : Bool → List Piece → List ℕ → Type 0 where
@@ -30,7 +30,7 @@ at_end : (start : Bool) → Laying (not start) [] (line_end start)
 at_end true = no_piece
 at_end false = line_ends no_piece
 
-begun : (start on : Bool) (column size : ℕ) → (column_after start on column size == 0) ≡ false
+pub begun : (start on : Bool) (column size : ℕ) → (column_after start on column size == 0) ≡ false
 begun true on column size = ne_eqb (8 + size) 0 (λ e. absurd (omega arith))
 begun false true column size = ne_eqb (column + 1 + size) 0 (λ e. absurd (omega arith))
 begun false false column size = ne_eqb (8 + size) 0 (λ e. absurd (omega arith))
@@ -38,7 +38,7 @@ begun false false column size = ne_eqb (8 + size) 0 (λ e. absurd (omega arith))
 pub laid_lays : (width : ℕ) (place : Place) (ps : List Piece) → Laying (not (place.column == 0)) ps (laid width place ps)
 laid_lays width place [] = at_end (place.column == 0)
 laid_lays width place (item text ended ∷ ps) =
-    let size = length (item_bytes text ended) in
+    let size = columns (item_bytes text ended) in
     let on = goes_on width place (kind_of text) size in
     let next = place_after width place (kind_of text) size in
     let rest : Laying (not (next.column == 0)) ps (laid width next ps) = laid_lays width next ps in

@@ -1,3 +1,4 @@
+pub mod Columns
 pub mod Folded
 pub mod Cut
 pub mod Laying
@@ -6,5 +7,9 @@ pub mod Placed
 pub mod Numbered
 pub mod Entering
 pub mod Headed
+pub mod Rising
+pub mod Standing
+pub mod Widths
 pub mod Alike
+pub mod OtherSystems
 pub mod Stepping

@@ -1,6 +1,6 @@
 -- The kept lines of laid pieces are those of the pieces, and items and kept lines are in the order
 -- of the pieces.
-use Rattle.std.proofs.Common.{◌≡◌, ◌≢◌, ℕ, ◌+◌, ◌<◌, ◌≤◌, ◌==◌, ◌&&◌, ◌||◌, Bool, true, false, List, [], ◌∷◌, ◌++◌, map, append_assoc, refl, sym, ap}
+use Rattle.std.proofs.Common.{◌≡◌, ◌≢◌, ℕ, ◌+◌, ◌<◌, ◌≤◌, Bool, true, false, List, [], ◌∷◌, ◌++◌, append_assoc, refl, sym, ap}
 use Rattle.std.proofs.Common.{◌∙◌, arith}
 use Rattle.std.specs.Prelude.{nat_lt}
 use Rattle.std.proofs.lemmas.Bool.{le-ltb, lt-ltb}
@@ -8,7 +8,7 @@ use Rattle.std.proofs.lemmas.List.{append-nil}
 use Rattle.ti_text.specs.WhiteSpace.{is_white_space}
 use Rattle.ti_source.proofs.ItemLaws.{BeginsVisible}
 use Rattle.lsp_format.specs.Layout.{item_bytes}
-use Rattle.lsp_format.specs.Pieces.{Entry, KeptLine, Piece, item, kept, is_kept, kept_from, kept_piece, lines_before, lines_from, lines_of, merged}
+use Rattle.lsp_format.specs.Pieces.{Entry, KeptLine, Piece, item, kept, is_kept, kept_from, lines_of, merged}
 use Rattle.lsp_format.specs.Pieces.{with_first_byte}
 use Rattle.lsp_format.proofs.Fine.{AreFine, AreOrdered, BeginsFull, IsFine, fine_ended, fine_last}
 use Rattle.lsp_format.proofs.Folded.{IsOneLine, one_line-append}

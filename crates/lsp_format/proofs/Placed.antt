@@ -1,5 +1,5 @@
 -- The items that are read of laid pieces are those of the pieces.
-use Rattle.std.proofs.Common.{◌≡◌, ◌≢◌, ℕ, ◌+◌, Bool, true, false, List, [], ◌∷◌, ◌++◌, map, append_assoc, refl, sym, ap, ◌∙◌}
+use Rattle.std.proofs.Common.{◌≡◌, ℕ, ◌+◌, Bool, true, false, List, [], ◌∷◌, ◌++◌, map, append_assoc, refl, sym, ap, ◌∙◌}
 use Rattle.std.proofs.lemmas.List.{append-nil}
 use Rattle.ti_source.specs.Folding.{PlacedByte}
 use Rattle.ti_source.specs.Items.{ItemPiece, item_piece, piece_of}
@@ -8,8 +8,8 @@ use Rattle.ti_source.proofs.ItemLaws.{BeginsVisible}
 use Rattle.lsp_spans.specs.Parts.{with_first}
 use Rattle.lsp_spans.proofs.Escaping.{items_of, nothing}
 use Rattle.lsp_format.specs.Layout.{item_bytes}
-use Rattle.lsp_format.specs.Pieces.{Entry, Piece, item, kept, entries_of}
-use Rattle.lsp_format.proofs.Cut.{Ends, Goes, ends_after_space, goes_after_space, item_and_rest, one_item, piece_after_space, piece_on_line, placed_piece}
+use Rattle.lsp_format.specs.Pieces.{Entry, Piece, item, entries_of}
+use Rattle.lsp_format.proofs.Cut.{ends_after_space, goes_after_space, item_and_rest, one_item, piece_after_space, piece_on_line, placed_piece}
 use Rattle.lsp_format.proofs.Fine.{AreFine, HasNoItem, IsFine, fine_ended, fine_last, texts_of}
 use Rattle.lsp_format.proofs.Folded.{IsOneLine, fresh, fresh-item, fresh-kept, inline, inline-byte, inline-run}
 use Rattle.lsp_format.proofs.Laying.{Laying, kept_line, line_ends, line_item, next_item, no_piece}

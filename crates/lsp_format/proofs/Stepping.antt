@@ -1,9 +1,9 @@
 -- The steps of reading the lines and items of a block, and of writing them.
 use Rattle.std.proofs.Common.{◌≡◌, ◌≢◌, ℕ, zero, suc, ◌+◌, ◌<◌, ◌≤◌, ◌==◌, Bool, true, false, cond, List, [], ◌∷◌, ◌++◌, length, take, drop, get_or}
 use Rattle.std.proofs.Common.{map, Some, None, refl, sym, ap, ◌∙◌}
-use Rattle.std.proofs.Common.{append_assoc, inl, inr, arith, add-one, drop-cons}
+use Rattle.std.proofs.Common.{append_assoc, arith, add-one, drop-cons}
 use Rattle.memchr.specs.Find.{IsFirstByte, is_byte}
-use Rattle.std.proofs.lemmas.Bool.{cases_Bool, ne_eqb}
+use Rattle.std.proofs.lemmas.Bool.{ne_eqb}
 use Rattle.std.proofs.lemmas.List.{append-nil, map-append}
 use Rattle.ti_text.specs.Texts.{is_empty}
 use Rattle.ti_source.specs.Folding.{PlacedByte}

@@ -1,7 +1,7 @@
 -- The layout of a source (own, as a listing of infocmp(1) has it): the names field on a line of its
 -- own, and the items on lines that begin with a tab, with a space between two of them.
 use Rattle.ti_text.specs.Ascii as ascii
-use Rattle.std.specs.Prelude.{ℕ, ◌+◌, ◌==◌, ◌&&◌, nat_le, Bool, true, false, if◌then◌else◌, List, [], ◌∷◌, ◌++◌, length, flat_map}
+use Rattle.std.specs.Prelude.{ℕ, ◌+◌, ◌==◌, ◌&&◌, nat_le, Bool, true, false, if◌then◌else◌, List, [], ◌∷◌, ◌++◌, flat_map}
 use Rattle.ti_source.specs.Cutting.{blocks_from_head, front_of}
 use Rattle.ti_source.specs.Parsing.{reading_of_text}
 use Rattle.lsp_format.specs.Kinds.{kind_of, kind_after, together}
@@ -13,6 +13,15 @@ use Rattle.lsp_format.specs.declared.kinds.Kind.TheVariants as kind
 abbrev pub item_bytes : List ℕ → Bool → List ℕ
 item_bytes text ended = if ended then text ++ ascii.comma ∷ [] else text
 
+-- the columns that a byte takes: 8 if it is a tab, and else one
+abbrev pub byte_columns : ℕ → ℕ
+byte_columns byte = if byte == ascii.tab then 8 else 1
+
+-- the columns that a text takes
+abbrev pub columns : List ℕ → ℕ
+columns [] = 0
+columns (byte ∷ text) = byte_columns byte + columns text
+
 -- where the next item comes: how many columns of the line are taken, 0 if none is begun, and the
 -- kind of its items
 pub record Place : Type 0 where
@@ -23,18 +32,18 @@ pub record Place : Type 0 where
 abbrev pub line_start : Place
 line_start = record { column = 0; kind = kind.Any }
 
--- whether an item of so many bytes goes on the line, after a space: it is of the line's kind and
+-- whether an item of so many columns goes on the line, after a space: it is of the line's kind and
 -- does not bring the line past the width
 abbrev pub goes_on : ℕ → Place → Kind → ℕ → Bool
 goes_on width place new size = together place.kind new && nat_le (place.column + 1 + size) width
 
--- what is written before an item; a tab takes 8 columns
+-- what is written before an item
 abbrev pub gap : Bool → Bool → List ℕ
 gap true on = ascii.tab ∷ []
 gap false true = ascii.space ∷ []
 gap false false = ascii.newline ∷ ascii.tab ∷ []
 
--- the columns that are taken after an item
+-- the columns that are taken after an item; the tab before it takes 8
 abbrev pub column_after : Bool → Bool → ℕ → ℕ → ℕ
 column_after true on column size = 8 + size
 column_after false true column size = column + 1 + size
@@ -46,7 +55,7 @@ line_kind true on old new = new
 line_kind false true old new = kind_after old new
 line_kind false false old new = new
 
--- the place after an item of this kind and so many bytes
+-- the place after an item of this kind and so many columns
 abbrev pub place_after : ℕ → Place → Kind → ℕ → Place
 place_after width place new size = record {
   column = column_after (place.column == 0) (goes_on width place new size) place.column size;
@@ -62,7 +71,7 @@ line_end false = ascii.newline ∷ []
 abbrev pub laid : ℕ → Place → List Piece → List ℕ
 laid width place [] = line_end (place.column == 0)
 laid width place (item text ended ∷ ps) =
-    let size = length (item_bytes text ended) in
+    let size = columns (item_bytes text ended) in
     gap (place.column == 0) (goes_on width place (kind_of text) size)
     ++ item_bytes text ended ++ laid width (place_after width place (kind_of text) size) ps
 laid width place (kept line ∷ ps) = line_end (place.column == 0) ++ line ++ ascii.newline ∷ laid width line_start ps

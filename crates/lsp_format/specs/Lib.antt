@@ -3,5 +3,6 @@ pub mod Pieces
 pub mod Kinds
 pub mod Layout
 pub mod Laws
+pub mod Sources
 pub mod Folds
 pub mod inside

@@ -1,6 +1,6 @@
 //! A source as it is written.
 ghost use Rattle.std.specs.Prelude.{◌≡◌, ◌++◌, IfOk, OnOk, map};
-ghost use Rattle.lsp_format.specs.Laws.{IsReadAlike};
+ghost use Rattle.lsp_format.specs.Laws.{IsReadAlike, LinesFit};
 ghost use Rattle.lsp_format.specs.Layout as spec;
 ghost use Rattle.lsp_format.specs.Pieces.{merged};
 ghost use Rattle.lsp_format.specs.inside.Steps.{entry_seen, line_seen};
@@ -51,19 +51,21 @@ fn push_block(
 
 /// A source in the layout of a listing (infocmp(1)), in lines of `width` columns. The names field of
 /// each block has a line of its own. Its items follow in their order, on lines that begin with a
-/// tab, which counts as 8 columns, with a space between two of them. A line is ended before an item
-/// that would bring it past the width, and before one of another kind: a boolean, a number, a string
-/// or a use. Comments and blank lines stay as they are, before the first item that began after them.
-/// What is before the first block stays too. The text ends with a newline if it has a block.
+/// tab, with a space between two of them; a tab counts as 8 columns, and each other byte as one. A
+/// line is ended before an item that would bring it past the width, and before one of another kind: a
+/// boolean, a number, a string or a use. Comments and blank lines stay as they are, before the first
+/// item that began after them. What is before the first block stays too. The text ends with a newline
+/// if it has a block.
 ///
 /// # Errors
 /// Out of memory.
 pub fn formatted(alloc: Global, width: usize, source: &[u8]) -> Result<Vec<u8>, AllocError>
     ensures text { IfOk result (λ text. text.items ≡ spec.formatted_text width source.now) }
     ensures alike { IfOk result (λ text. IsReadAlike source.now text.items) }
+    ensures fits { IfOk result (λ text. LinesFit width text.items) }
     ensures settled { IfOk result (λ text. spec.formatted_text width text.items ≡ text.items) }
 {
-    // Laws, with no code: they give the clauses `alike` and `settled` of what is computed.
+    // Laws, with no code: they give the clauses `alike`, `fits` and `settled` of what is computed.
     laws::formatting_is_faithful();
     let mut cut = blocks(source);
     let mut out = Vec::new(alloc);

@@ -6,6 +6,7 @@
 //! - `entries`: the items of a block, each with its line
 //! - `places`: where on a line an item comes; `writing`: pieces as they are written
 //! - `formatting`: a source as it is written
+//! - `sources`: the same of a source with a byte order mark, or lines that end in CR LF, which stay
 //! - `folding`: the lines of a source that an editor may fold
 //! - `laws`: a formatted source is read as before, and stays as it is
 #![tactic(auto)]
@@ -17,7 +18,9 @@ mod kinds;
 pub mod laws;
 mod lines;
 mod places;
+mod sources;
 mod writing;
 
 pub use folding::{Fold, folds_of};
 pub use formatting::formatted;
+pub use sources::formatted_source;

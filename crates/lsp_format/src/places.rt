@@ -1,18 +1,37 @@
 //! Where on a line an item comes.
-ghost use Rattle.std.specs.Prelude.{◌≡◌, ◌+◌, ◌<◌, ◌≤◌, ◌^◌, ◌==◌, true};
+ghost use Rattle.std.specs.Prelude.{◌≡◌, ◌+◌, ◌*◌, ◌<◌, ◌≤◌, ◌^◌, ◌==◌, length, true};
 ghost use Rattle.lsp_format.specs.Layout as spec;
 ghost use Rattle.lsp_format.specs.inside.Steps.{place_seen};
 
 use crate::kinds::Kind;
 
 // The columns that a tab takes.
-const TAB: usize = 8;
+const TAB: u128 = 8;
+
+// The columns that a byte takes.
+fn byte_columns(byte: u8) -> u128
+    ensures { result ≡ spec.byte_columns byte }
+{
+    if byte == b'\t' { TAB } else { 1 }
+}
+
+/// The columns that a text takes. A text of tabs may take more than a `usize` holds.
+pub(crate) fn columns(text: &[u8]) -> u128
+    ensures size { result ≡ spec.columns text.now }
+    ensures bound { result ≤ 8 * length text.now }
+{
+    let mut columns = 0;
+    for byte in text {
+        columns += byte_columns(*byte);
+    }
+    columns
+}
 
 /// How far a line is written.
 #[derive(Clone, Copy)]
 pub(crate) struct Place {
     /// How many of its columns are taken; 0 if no line is begun.
-    pub(crate) column: usize,
+    pub(crate) column: u128,
     /// The kind of its items.
     pub(crate) kind: Kind,
 }
@@ -35,17 +54,18 @@ impl Place {
         self.column == 0
     }
 
-    /// Whether an item of this kind and so many bytes goes on the line, after a space.
-    pub(crate) fn goes_on(self, width: usize, kind: Kind, size: usize) -> bool
+    /// Whether an item of this kind and so many columns goes on the line, after a space.
+    pub(crate) fn goes_on(self, width: usize, kind: Kind, size: u128) -> bool
         ensures on { result ≡ spec.goes_on width (place_seen self) kind size }
         ensures room { result ≡ true → self.column + 1 + size ≤ width }
     {
+        let width = width as u128;
         self.kind.together(kind) && self.column < width && size < width - self.column
     }
 
-    /// The place after an item of this kind and so many bytes.
-    pub(crate) fn after(self, width: usize, kind: Kind, size: usize) -> Place
-        requires { size ≤ 2 ^ 63 }
+    /// The place after an item of this kind and so many columns.
+    pub(crate) fn after(self, width: usize, kind: Kind, size: u128) -> Place
+        requires { size ≤ 2 ^ 67 }
         ensures { place_seen result ≡ spec.place_after width (place_seen self) kind size }
     {
         let start = self.is_start();
@@ -57,10 +77,10 @@ impl Place {
     }
 }
 
-// The columns that are taken after an item of so many bytes.
-fn column_after(start: bool, on: bool, column: usize, size: usize) -> usize
+// The columns that are taken after an item of so many.
+fn column_after(start: bool, on: bool, column: u128, size: u128) -> u128
     requires room { on ≡ true → column + 1 + size < 2 ^ 64 }
-    requires small { size ≤ 2 ^ 63 }
+    requires small { size ≤ 2 ^ 67 }
     ensures { result ≡ spec.column_after start on column size }
 {
     if on && !start {

@@ -7,7 +7,7 @@ ghost use Rattle.ti_text.specs.Ascii as ascii;
 
 use crate::kinds::kind_of;
 use crate::lines::KeptLine;
-use crate::places::Place;
+use crate::places::{Place, columns};
 use std::alloc::AllocError;
 
 // What comes before an item: at the start of a line, or after a space if `on`, or on a new line.
@@ -36,12 +36,16 @@ fn push_text(out: &mut Vec<u8>, text: &[u8], ended: bool) -> Result<(), AllocErr
     Ok(())
 }
 
-// How many bytes an item has with its comma.
-fn item_size(text: &[u8], ended: bool) -> usize
-    ensures size { result ≡ length (spec.item_bytes text.now ended) }
-    ensures bound { result ≤ 2 ^ 63 }
+// How many columns an item takes with its comma.
+fn item_columns(text: &[u8], ended: bool) -> u128
+    ensures size { result ≡ spec.columns (spec.item_bytes text.now ended) }
+    ensures bound { result ≤ 2 ^ 67 }
 {
-    if ended { text.len() + 1 } else { text.len() }
+    if ended {
+        columns(text) + 1
+    } else {
+        columns(text)
+    }
 }
 
 /// Writes an item, and gives the place after it.
@@ -58,7 +62,7 @@ pub(crate) fn push_item(
     ensures { IfOk result (λ after. Lays width out.old.items (place_seen place) (item text.now ended ∷ []) out.new.items (place_seen after)) }
 {
     let kind = kind_of(text);
-    let size = item_size(text, ended);
+    let size = item_columns(text, ended);
     push_gap(out, place.is_start(), place.goes_on(width, kind, size))?;
     push_text(out, text, ended)?;
     Ok(place.after(width, kind, size))

@@ -1,6 +1,6 @@
 //! Frames: a header that announces how long the body is, and the body ("Base Protocol").
 ghost use Rattle.std.specs.Prelude.{◌≡◌, ◌+◌, ◌<◌, ◌≤◌, ◌++◌, ◌∷◌, [], ℕ, List, IfErr, IfOk, MatchOption, OnOk, Some, drop, length, option_map};
-ghost use Rattle.tools_devices.specs.Counted.{observation};
+ghost use Rattle.tools_devices.specs.Counted.{observation, IsFlushed};
 ghost use Rattle.tools_devices.specs.Writing.{TakesAll, TakesFront};
 ghost use Rattle.lsp_frames.specs.Frames.{HasNoNewline, IsHeader, IsLengthLine, Waits, are_blank, digits_number, framed, line_end, number_of};
 ghost use Rattle.lsp_frames.specs.Inputs.{Gives};
@@ -319,6 +319,7 @@ pub fn write_flushed<W: Write>(writer: &mut Counted<W>, bytes: &[u8]) -> Result<
     ensures written { OnOk result (TakesAll (observation W.contents writer.old) (observation W.contents writer.new) bytes.now) }
     ensures cut { IfErr result (λ fault. (fault ≡ Broken)
         × TakesFront (observation W.contents writer.old) (observation W.contents writer.new) bytes.now) }
+    ensures flushed { OnOk result (IsFlushed writer.new) }
 {
     let Ok(()) = write_out(writer, bytes) else {
         return Err(FrameError::Broken);

@@ -1,6 +1,1 @@
-pub mod Counting
-pub mod Filling
-pub mod Reading
-pub mod Saying
 pub mod Shapes
-pub mod Using

@@ -5,9 +5,9 @@ use Rattle.std.specs.Option.{option_map}
 use Rattle.ti_text.specs.Ascii as ascii
 use Rattle.ti_text.specs.WhiteSpace.{is_white_space}
 use Rattle.lsp_hints.specs.Merging.{merged}
-use Rattle.lsp_hints.specs.declared.hint.Hint.{Hint}
-use Rattle.lsp_hints.specs.declared.hint.HintKind.{HintKind}
-use Rattle.lsp_hints.specs.declared.hint.HintKind.TheVariants as kind
+use Rattle.lsp_block_hints.specs.declared.hint.Hint.{Hint}
+use Rattle.lsp_block_hints.specs.declared.hint.HintKind.{HintKind}
+use Rattle.lsp_block_hints.specs.declared.hint.HintKind.TheVariants as kind
 use Rattle.lsp_hints.specs.declared.file_form.Shape.{Shape}
 use Rattle.lsp_hints.specs.declared.file_form.Shape.TheVariants.{Returns, Comment}
 

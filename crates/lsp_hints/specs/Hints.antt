@@ -1,9 +1,9 @@
 -- All hints on a block.
 use Rattle.std.specs.Prelude.{ℕ, Bool, List, if◌then◌else◌}
-use Rattle.lsp_hints.specs.Blocks.{block_hints}
+use Rattle.lsp_block_hints.specs.Blocks.{block_hints}
 use Rattle.lsp_hints.specs.Merging.{merged}
 use Rattle.lsp_hints.specs.Unknown.{unknown_names}
-use Rattle.lsp_hints.specs.declared.hint.Hint.{Hint}
+use Rattle.lsp_block_hints.specs.declared.hint.Hint.{Hint}
 
 -- the hints on a block in the order in which they begin, with those on unknown names if it may have
 -- user-defined capabilities: without, these are faults

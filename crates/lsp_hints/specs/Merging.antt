@@ -1,6 +1,6 @@
 -- Hints of one text in the order in which they begin (own).
 use Rattle.std.specs.Prelude.{ℕ, nat_lt, List, [], ◌∷◌, ◌++◌, if◌then◌else◌}
-use Rattle.lsp_hints.specs.declared.hint.Hint.{Hint}
+use Rattle.lsp_block_hints.specs.declared.hint.Hint.{Hint}
 
 -- those at the front that begin before an offset
 abbrev pub leading : ℕ → List Hint → List Hint

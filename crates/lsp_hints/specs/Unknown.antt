@@ -11,8 +11,8 @@ use Rattle.lsp_spans.specs.Parts.{spanned}
 use Rattle.lsp_spans.specs.Subjects.{items_of, span_or_start, without_end}
 use Rattle.lsp_spans.specs.Touching.{name_of}
 use Rattle.lsp_spans.specs.declared.parts.Part.{Part}
-use Rattle.lsp_hints.specs.declared.hint.Hint.{Hint}
-use Rattle.lsp_hints.specs.declared.hint.HintKind.TheVariants.{UnknownName}
+use Rattle.lsp_block_hints.specs.declared.hint.Hint.{Hint}
+use Rattle.lsp_block_hints.specs.declared.hint.HintKind.TheVariants.{UnknownName}
 
 -- a name is user-defined, and is not known
 abbrev pub is_unknown_name : List ℕ → Bool

@@ -4,8 +4,8 @@ ghost use Rattle.std.specs.Prelude.{◌≡◌, ◌<◌, ◌≤◌, ◌^◌, IfOk
 ghost use Rattle.lsp_hints.specs.FileForms as spec;
 ghost use Rattle.lsp_hints.specs.FileForms.{begins_with, hints_at};
 
-use crate::hint::{Hint, HintKind};
 use crate::merging::merged;
+use lsp_block_hints::{Hint, HintKind};
 use memchr::memchr;
 use std::alloc::{AllocError, Global};
 use ti_text::is_white_space;

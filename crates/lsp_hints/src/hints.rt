@@ -2,10 +2,9 @@
 ghost use Rattle.std.specs.Prelude.{◌≡◌, IfOk};
 ghost use Rattle.lsp_hints.specs.Hints.{hints_of};
 
-use crate::block::hints_of_block;
-use crate::hint::Hint;
 use crate::merging::merged;
 use crate::unknown::unknown_names;
+use lsp_block_hints::{Hint, hints_of_block};
 use std::alloc::{AllocError, Global};
 
 /// The hints on a block, in the order in which they begin. If it may have user-defined

@@ -3,7 +3,7 @@ ghost use Rattle.std.specs.Prelude.{◌≡◌, ◌++◌, ◌≤◌, IfOk, OnOk, 
 ghost use Rattle.lsp_hints.specs.Merging as spec;
 ghost use Rattle.lsp_hints.specs.Merging.{following, leading};
 
-use crate::hint::Hint;
+use lsp_block_hints::Hint;
 use std::alloc::{AllocError, Global};
 
 // Adds the hints that begin before an offset, of those from a place on, and gives the place of the

@@ -5,14 +5,14 @@ ghost use Rattle.std.specs.Option.{option_to_list};
 ghost use Rattle.lsp_hints.specs.Unknown as spec;
 ghost use Rattle.lsp_hints.specs.Unknown.{unknown_if, unknown_in};
 
-use crate::hint::{Hint, HintKind};
+use lsp_block_hints::{Hint, HintKind};
 use lsp_descriptions::is_known;
 use lsp_spans::{Part, folded, name_of, span_of, visible_items, without_end};
 use std::alloc::{AllocError, Global};
 use user_items::is_user_defined_name;
 
-// Whether a name is user-defined, and is not known.
-fn is_unknown_name(name: &[u8]) -> bool
+/// Whether a name is user-defined, and is not known.
+pub fn is_unknown_name(name: &[u8]) -> bool
     ensures { result ≡ spec.is_unknown_name name.now }
 {
     is_user_defined_name(name) && !is_known(name)

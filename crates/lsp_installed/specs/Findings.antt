@@ -41,7 +41,17 @@ abbrev pub found_in : List ℕ → List Shown → List (List ℕ) → Found
 found_in text all [] = record { faults = all; uses = [] }
 found_in text all (name ∷ names) = found_with all (name ∷ names) (diagnostics_by UserDefined (completed text (name ∷ names)))
 
+-- the text that is kept for the next time: the one with a block of each of these names, else what was
+-- kept before
+abbrev pub kept_text : List ℕ → List (List ℕ) → List ℕ → List ℕ
+kept_text text [] before = before
+kept_text text (name ∷ names) before = completed text (name ∷ names)
+
 -- what is wrong with a text where these names are installed
 abbrev pub findings_of : List (List ℕ) → List ℕ → Found
 findings_of installed text =
     found_in text (diagnostics_by UserDefined text) (missed_names installed (diagnostics_by UserDefined text))
+
+-- the text that is kept, where these names are installed
+abbrev pub kept_of : List (List ℕ) → List ℕ → List ℕ → List ℕ
+kept_of installed text before = kept_text text (missed_names installed (diagnostics_by UserDefined text)) before

@@ -5,6 +5,7 @@ use Rattle.std.specs.Str.{bytes_eq}
 use Rattle.ti_source.specs.declared.code.Code.TheVariants.{MissingUse}
 use Rattle.lsp_types.specs.declared.places.Range.{Range}
 use Rattle.lsp_diagnostics.specs.Diagnostics.{Shown, fault_message}
+use Rattle.lsp_diagnostics.specs.declared.capabilities.Capabilities.TheVariants.{UserDefined}
 use Rattle.lsp_diagnostics.specs.declared.diagnostics.Problem.{Problem}
 use Rattle.lsp_diagnostics.specs.declared.diagnostics.Problem.TheVariants.{Fault}
 
@@ -15,7 +16,7 @@ is_missing _ = false
 
 -- what is said where a name is used that no block has
 abbrev pub missing_message : List ℕ → List ℕ
-missing_message name = fault_message MissingUse (Some name)
+missing_message name = fault_message UserDefined MissingUse (Some name)
 
 -- whether a diagnostic is of a use for which that is said
 abbrev pub misses : List ℕ → Shown → Bool

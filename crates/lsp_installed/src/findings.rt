@@ -6,7 +6,7 @@ ghost use Rattle.lsp_document.specs.Diagnostics.{diagnostic_seen, diagnostics_by
 ghost use Rattle.lsp_diagnostics.specs.declared.capabilities.Capabilities.TheVariants.{UserDefined};
 ghost use Rattle.lsp_installed.specs.Completed.{completed};
 ghost use Rattle.lsp_installed.specs.Findings as spec;
-ghost use Rattle.lsp_installed.specs.Findings.{findings_of, findings_seen, is_refusal, refuses};
+ghost use Rattle.lsp_installed.specs.Findings.{findings_of, findings_seen, is_refusal, kept_of, kept_text, refuses};
 
 use crate::completed::completed;
 use crate::missed::{missed_names, missed_uses};
@@ -46,7 +46,8 @@ fn completed_faults(
     names: &[String],
     place: &mut Document,
 ) -> Result<Vec<Diagnostic>, AllocError>
-    ensures { IfOk result (λ all. map diagnostic_seen all.items ≡ diagnostics_by UserDefined (completed text.now (map string_bytes names.now))) }
+    ensures all { IfOk result (λ all. map diagnostic_seen all.items ≡ diagnostics_by UserDefined (completed text.now (map string_bytes names.now))) }
+    ensures kept { OnOk result (place.new ≡ completed text.now (map string_bytes names.now)) }
 {
     place.set(completed(alloc, text, names)?)?;
     place.diagnostics_by(alloc, Capabilities::UserDefined)
@@ -60,7 +61,8 @@ fn found_in(
     names: &[String],
     place: &mut Document,
 ) -> Result<Findings, AllocError>
-    ensures { IfOk result (λ found. findings_seen found ≡ spec.found_in text.now (map diagnostic_seen all.items) (map string_bytes names.now)) }
+    ensures found { IfOk result (λ found. findings_seen found ≡ spec.found_in text.now (map diagnostic_seen all.items) (map string_bytes names.now)) }
+    ensures kept { OnOk result (place.new ≡ kept_text text.now (map string_bytes names.now) place.old) }
 {
     if !names.is_empty() {
         let more = completed_faults(alloc, text, names, place)?;
@@ -78,7 +80,8 @@ fn found_in(
 /// What is wrong with a source that may have user-defined capabilities, and where it uses names of
 /// installed entries that no block of it has. It is read as if it had a block of each of these names
 /// at its end, by which no use of it is an error; where it has no room for these, as without them.
-/// `completed` holds the source with these blocks, and is kept for the next time.
+/// `completed` holds the source with these blocks from then on, so that the next time only what is
+/// new is read. If the source misses no name, it stays.
 ///
 /// # Errors
 /// Out of memory.
@@ -90,6 +93,7 @@ pub fn source_findings(
 ) -> Result<Findings, AllocError>
     ensures found { IfOk result (λ found. findings_seen found ≡ findings_of installed.now document.old) }
     ensures text { OnOk result (document.new ≡ document.old) }
+    ensures kept { OnOk result (completed.new ≡ kept_of installed.now document.old completed.old) }
 {
     let all = document.diagnostics_by(alloc, Capabilities::UserDefined)?;
     let names = missed_names(alloc, installed, &all)?;

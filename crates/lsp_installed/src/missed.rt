@@ -7,8 +7,8 @@ ghost use Rattle.lsp_installed.specs.Missed as spec;
 ghost use Rattle.lsp_installed.specs.Missed.{if_missed, if_said, is_missed_by, is_missing, missing_message, misses, misses_one};
 
 use crate::names::Installed;
-use lsp_document::{Diagnostic, Problem, shown_detail};
-use lsp_spans::sentence;
+use lsp_diagnostics::sentence_by;
+use lsp_document::{Capabilities, Diagnostic, Problem, shown_detail};
 use lsp_types::Range;
 use std::alloc::{AllocError, Global};
 use ti_source::Code;
@@ -30,7 +30,7 @@ fn missing_message(alloc: Global, name: &str) -> Result<String, AllocError>
     message.push(' ')?;
     message.push_str(&shown)?;
     message.push_str(": ")?;
-    message.push_str(sentence(Code::MissingUse))?;
+    message.push_str(sentence_by(Capabilities::UserDefined, Code::MissingUse))?;
     Ok(message)
 }
 

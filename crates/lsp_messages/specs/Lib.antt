@@ -1,3 +1,5 @@
 pub mod Bodies
+pub mod Laws
 pub mod Messages
+pub mod Pieces
 pub mod Views

@@ -21,6 +21,7 @@ pub record Edit : Type 0 where
 pub data Query : Type 0 where
   completion : Position → Query
   hover : Position → Query
+  signature : Position → Query
   definition : Position → Query
   references : Position → Bool → Query
   symbols : Query
@@ -146,6 +147,7 @@ abbrev pub topic_of : List ℕ → Option Topic
 topic_of method =
     if bytes_eq method (codes "textDocument/completion") then Some asks.Completion
     else (if bytes_eq method (codes "textDocument/hover") then Some asks.Hover
+    else (if bytes_eq method (codes "textDocument/signatureHelp") then Some asks.Signature
     else (if bytes_eq method (codes "textDocument/definition") then Some asks.Definition
     else (if bytes_eq method (codes "textDocument/references") then Some asks.References
     else (if bytes_eq method (codes "textDocument/documentSymbol") then Some asks.Symbols
@@ -154,7 +156,7 @@ topic_of method =
     else (if bytes_eq method (codes "textDocument/formatting") then Some asks.Formatting
     else (if bytes_eq method (codes "textDocument/rename") then Some asks.Rename
     else (if bytes_eq method (codes "textDocument/prepareRename") then Some asks.PrepareRename
-    else (if bytes_eq method (codes "textDocument/codeAction") then Some asks.Fixes else None))))))))))
+    else (if bytes_eq method (codes "textDocument/codeAction") then Some asks.Fixes else None)))))))))))
 
 -- "TextDocumentPositionParams"
 abbrev pub asked_place : Data → Option Position
@@ -203,6 +205,7 @@ fixes_of params = do
 abbrev pub question_of : Topic → Data → Option Query
 question_of asks.Completion params = option_map completion (asked_place params)
 question_of asks.Hover params = option_map hover (asked_place params)
+question_of asks.Signature params = option_map signature (asked_place params)
 question_of asks.Definition params = option_map definition (asked_place params)
 question_of asks.References params = references_of params
 question_of asks.Symbols params = Some symbols

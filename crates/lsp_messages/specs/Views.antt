@@ -9,7 +9,7 @@ use Rattle.lsp_messages.specs.declared.messages.Call.TheVariants as call
 use Rattle.lsp_messages.specs.declared.messages.Notice.{Notice}
 use Rattle.lsp_messages.specs.declared.messages.Notice.TheVariants.{Exited, Opened, Changed, Closed, Unreadable, Nothing}
 use Rattle.lsp_messages.specs.declared.messages.Question.{Question}
-use Rattle.lsp_messages.specs.declared.messages.Question.TheVariants.{Completion, Hover, Definition, References, Symbols, Highlights, Folding, Formatting, Rename, PrepareRename, Fixes}
+use Rattle.lsp_messages.specs.declared.messages.Question.TheVariants.{Completion, Hover, Signature, Definition, References, Symbols, Highlights, Folding, Formatting, Rename, PrepareRename, Fixes}
 use Rattle.lsp_messages.specs.declared.messages.Message.{Message}
 use Rattle.lsp_messages.specs.declared.messages.Message.TheVariants.{Request, Notification, Response, Faulty}
 
@@ -20,6 +20,7 @@ edit_view change = record { range = change.range; text = change.text.now }
 abbrev pub question_view : Question → Query
 question_view (Completion place) = means.completion place
 question_view (Hover place) = means.hover place
+question_view (Signature place) = means.signature place
 question_view (Definition place) = means.definition place
 question_view (References place with_declaration) = means.references place with_declaration
 question_view Symbols = means.symbols

@@ -16,6 +16,8 @@ pub(crate) enum Topic {
     Completion,
     /// What is at a place.
     Hover,
+    /// Which parameters what is written at a place takes.
+    Signature,
     /// Where a name is defined.
     Definition,
     /// Where a name is used.
@@ -43,6 +45,7 @@ pub(crate) fn topic_of(method: &str) -> Option<Topic>
     match method {
         "textDocument/completion" => Some(Topic::Completion),
         "textDocument/hover" => Some(Topic::Hover),
+        "textDocument/signatureHelp" => Some(Topic::Signature),
         "textDocument/definition" => Some(Topic::Definition),
         "textDocument/references" => Some(Topic::References),
         "textDocument/documentSymbol" => Some(Topic::Symbols),
@@ -125,6 +128,7 @@ fn read_question(topic: Topic, params: &Value) -> Option<Question<'_>>
     match topic {
         Topic::Completion => Some(Question::Completion(position_at(params, "position")?)),
         Topic::Hover => Some(Question::Hover(position_at(params, "position")?)),
+        Topic::Signature => Some(Question::Signature(position_at(params, "position")?)),
         Topic::Definition => Some(Question::Definition(position_at(params, "position")?)),
         Topic::References => read_references(params),
         Topic::Symbols => Some(Question::Symbols),

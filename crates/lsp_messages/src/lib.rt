@@ -4,11 +4,13 @@
 //! - `messages`: what a client asks for or reports; `reading` reads it from values, with `members`
 //!   and `asking`
 //! - `clients`: what a client can do
+//! - `laws`: what a repair of a body exchanges
 #![tactic(auto)]
 
 mod asking;
 mod bodies;
 pub mod clients;
+pub mod laws;
 mod members;
 pub mod messages;
 pub mod reading;

@@ -19,6 +19,8 @@ pub enum Question<'a> {
     Completion(Position),
     /// What is at a place ("Hover Request").
     Hover(Position),
+    /// Which parameters what is written at a place takes ("Signature Help Request").
+    Signature(Position),
     /// Where the name at a place is defined ("Goto Definition Request").
     Definition(Position),
     /// Where the name at a place is used ("Find References Request").

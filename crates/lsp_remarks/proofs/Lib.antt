@@ -1,2 +1,4 @@
 pub mod Lines
 pub mod Stepping
+pub mod Remarked
+pub mod Ordered

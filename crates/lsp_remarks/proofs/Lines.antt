@@ -3,9 +3,9 @@ use Rattle.std.proofs.Common.{◌≡◌, ℕ, suc, zero, ◌+◌, ◌<◌, ◌�
 use Rattle.std.specs.Prelude.{if◌then◌else◌}
 use Rattle.lsp_types.specs.declared.places.Position.{Position}
 use Rattle.lsp_places.specs.Position.{ends_line, place_after, position_of, step_over, units}
-use Rattle.lsp_hints.specs.declared.hint.Hint.{Hint}
+use Rattle.lsp_block_hints.specs.declared.hint.Hint.{Hint}
 use Rattle.lsp_hints.specs.Hints.{hints_of}
-use Rattle.lsp_hints.specs.declared.hint.HintKind.TheVariants.{WrongFormat}
+use Rattle.lsp_block_hints.specs.declared.hint.HintKind.TheVariants.{WrongFormat}
 use Rattle.lsp_remarks.specs.Hints.{block_marks, mark_of}
 use Rattle.lsp_remarks.specs.declared.marks.HintMark.{HintMark}
 

@@ -6,6 +6,7 @@ use Rattle.std.specs.List.{slice_range}
 use Rattle.std.specs.String.{string_bytes}
 use Rattle.base_meaning.specs.Report.{detail_text, lines_before}
 use Rattle.tools_sources.specs.Sources.{first_line}
+use Rattle.lsp_plain.specs.Reading.{plain_source}
 use Rattle.lsp_types.specs.declared.places.Range.{Range}
 use Rattle.lsp_places.specs.LineTexts.{line_of, until_end}
 use Rattle.lsp_places.specs.Position.{position_of}
@@ -15,9 +16,9 @@ use Rattle.lsp_diagnostics.specs.declared.capabilities.Capabilities.TheVariants.
 use Rattle.lsp_document.specs.Documents.{held}
 use Rattle.lsp_hints.specs.FileForms.{file_hints}
 use Rattle.lsp_hints.specs.Hints.{hints_of}
-use Rattle.lsp_hints.specs.Words.{name_of, sentence_of}
-use Rattle.lsp_hints.specs.declared.hint.Hint.{Hint}
-use Rattle.lsp_hints.specs.declared.hint.HintKind.{HintKind}
+use Rattle.lsp_block_hints.specs.Words.{name_of, sentence_of}
+use Rattle.lsp_block_hints.specs.declared.hint.Hint.{Hint}
+use Rattle.lsp_block_hints.specs.declared.hint.HintKind.{HintKind}
 use Rattle.lsp_remarks.specs.declared.marks.HintMark.{HintMark}
 use Rattle.lsp_remarks.specs.declared.shown.ShownHint.{ShownHint}
 use Rattle.lsp_remarks.specs.declared.sources.SourceHints.{SourceHints}
@@ -88,10 +89,10 @@ abbrev pub hints_before : Bool → List (List ℕ) → ℕ → ℕ → List Seen
 hints_before user_defined texts first zero = []
 hints_before user_defined texts first (suc at) = hints_before user_defined texts first at ++ hints_at user_defined texts first at
 
--- a hint on a file: it is shown on the line where it begins
-abbrev pub shown_in_file : List ℕ → Hint → SeenHint
-shown_in_file text hint = record {
-  range = marked (position_of text hint.start).line (line_of text (position_of text hint.start).line);
+-- a hint on a source of which a text is read: it is shown on the line of the text where it begins
+abbrev pub shown_in_file : (source text : List ℕ) → Hint → SeenHint
+shown_in_file source text hint = record {
+  range = marked (position_of source hint.start).line (line_of text (position_of source hint.start).line);
   kind = hint.kind;
   message = hint_message hint.kind [];
 }
@@ -110,10 +111,19 @@ abbrev pub has_user_defined : Capabilities → Bool
 has_user_defined Profile = false
 has_user_defined UserDefined = true
 
--- the hints on a text, by which capabilities it may have: of a source that is refused, those on the
--- file alone
-abbrev pub text_hints : Capabilities → List ℕ → SeenHints
-text_hints capabilities text = record {
+-- the hints on a source of which a text is read, by which capabilities it may have: those on the
+-- blocks of the text, and those on the file as it is; of a text that is refused, the latter alone
+abbrev pub hints_on : Capabilities → (source text : List ℕ) → SeenHints
+hints_on capabilities source text = record {
   blocks = hints_before (has_user_defined capabilities) (held text) (first_line text) (length (held text));
-  file = map (shown_in_file text) (file_hints text);
+  file = map (shown_in_file source text) (file_hints source);
 }
+
+-- the hints on a text of which itself is read
+abbrev pub text_hints : Capabilities → List ℕ → SeenHints
+text_hints capabilities text = hints_on capabilities text text
+
+-- the hints on a source as it is read: without a byte order mark in front, and without the CR of lines
+-- that end in CR LF
+abbrev pub source_hints : Capabilities → List ℕ → SeenHints
+source_hints capabilities source = hints_on capabilities source (plain_source source)

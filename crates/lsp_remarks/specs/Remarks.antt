@@ -1,13 +1,14 @@
 -- What is remarked on a source, in its order (own): its faults, one after another as in its report,
 -- and between them the hints, each before the first fault that begins after it.
 use Rattle.std.specs.Prelude.{ℕ, ◌==◌, nat_lt, Bool, List, [], ◌∷◌, ◌++◌, map, if◌then◌else◌}
+use Rattle.lsp_plain.specs.Reading.{plain_source}
 use Rattle.lsp_types.specs.declared.places.Position.{Position}
 use Rattle.lsp_types.specs.declared.places.Range.{Range}
 use Rattle.lsp_types.specs.declared.severities.Severity.{Severity}
 use Rattle.lsp_diagnostics.specs.Diagnostics.{Shown, diagnostic_seen, diagnostics_by, label_of_problem, severity_of as problem_severity}
 use Rattle.lsp_diagnostics.specs.declared.capabilities.Capabilities.{Capabilities}
-use Rattle.lsp_hints.specs.Words.{label_of, severity_of as kind_severity}
-use Rattle.lsp_remarks.specs.Hints.{SeenHint, SeenHints, hint_seen, text_hints}
+use Rattle.lsp_block_hints.specs.Words.{label_of, severity_of as kind_severity}
+use Rattle.lsp_remarks.specs.Hints.{SeenHint, SeenHints, hint_seen, source_hints}
 use Rattle.lsp_remarks.specs.declared.remarks.Remark.{Remark}
 use Rattle.lsp_remarks.specs.declared.remarks.Remark.TheVariants as remark
 
@@ -69,6 +70,6 @@ with_hints (remark ∷ remarks) hints =
 abbrev pub remarks_by : List Shown → SeenHints → List SeenRemark
 remarks_by faults hints = with_hints (with_hints (map seen_fault faults) hints.blocks) hints.file
 
--- what is remarked on a text, by which capabilities it may have
+-- what is remarked on a source as it is read, by which capabilities it may have
 abbrev pub remarks_of : Capabilities → List ℕ → List SeenRemark
-remarks_of capabilities text = remarks_by (diagnostics_by capabilities text) (text_hints capabilities text)
+remarks_of capabilities source = remarks_by (diagnostics_by capabilities (plain_source source)) (source_hints capabilities source)

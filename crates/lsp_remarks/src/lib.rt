@@ -9,6 +9,7 @@
 #![tactic(auto)]
 
 mod kept;
+pub mod laws;
 mod marks;
 mod remarks;
 mod shown;
@@ -18,4 +19,4 @@ pub use kept::KeptHints;
 pub use marks::HintMark;
 pub use remarks::{Remark, remarks_of};
 pub use shown::ShownHint;
-pub use sources::{SourceHints, hints_in};
+pub use sources::{SourceHints, hints_in, source_hints_in};

@@ -113,14 +113,20 @@ fn marked(number: usize, line: &[u8]) -> Range
     }
 }
 
-/// A hint on a file, which quotes nothing: it is shown on the line where it begins.
+/// A hint on a source of which a text is read, which quotes nothing: it is shown on the line of the
+/// text where it begins.
 ///
 /// # Errors
 /// Out of memory.
-pub(crate) fn shown_in_file(alloc: Global, text: &[u8], hint: Hint) -> Result<ShownHint, AllocError>
-    ensures { IfOk result (λ shown. hint_seen shown ≡ shown_in_file text.now hint) }
+pub(crate) fn shown_in_file(
+    alloc: Global,
+    source: &[u8],
+    text: &[u8],
+    hint: Hint,
+) -> Result<ShownHint, AllocError>
+    ensures { IfOk result (λ shown. hint_seen shown ≡ shown_in_file source.now text.now hint) }
 {
-    let number = position_of(text, hint.start).line;
+    let number = position_of(source, hint.start).line;
     Ok(ShownHint {
         range: marked(number, line_of(text, number)),
         kind: hint.kind,

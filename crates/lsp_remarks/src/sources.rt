@@ -7,7 +7,7 @@ ghost use Rattle.lsp_diagnostics.specs.Marking.{text_at};
 ghost use Rattle.lsp_hints.specs.FileForms.{file_hints};
 ghost use Rattle.lsp_document.specs.Documents.{held};
 ghost use Rattle.lsp_remarks.specs.Hints as spec;
-ghost use Rattle.lsp_remarks.specs.Hints.{block_marks, has_user_defined, hint_seen, hints_at, hints_before, hints_seen, shown_after, shown_in_file, text_hints};
+ghost use Rattle.lsp_remarks.specs.Hints.{block_marks, has_user_defined, hint_seen, hints_at, hints_before, hints_on, hints_seen, shown_after, shown_in_file, text_hints};
 
 use crate::kept::{KeptHints, taken_or_found};
 use crate::shown::{ShownHint, shown_after, shown_in_file};
@@ -91,14 +91,14 @@ fn block_hints(
     Ok((all, found))
 }
 
-// The hints on a whole file.
-fn shown_on_file(alloc: Global, text: &[u8]) -> Result<Vec<ShownHint>, AllocError>
-    ensures { IfOk result (λ all. map hint_seen all.items ≡ map (shown_in_file text.now) (file_hints text.now)) }
+// The hints on a whole source, of which a text is read.
+fn shown_on_file(alloc: Global, source: &[u8], text: &[u8]) -> Result<Vec<ShownHint>, AllocError>
+    ensures { IfOk result (λ all. map hint_seen all.items ≡ map (shown_in_file source.now text.now) (file_hints source.now)) }
 {
-    let hints = file_hints(alloc, text)?;
+    let hints = file_hints(alloc, source)?;
     let mut all = Vec::with_capacity(alloc, hints.len())?;
     for hint in &hints {
-        all.push(shown_in_file(alloc, text, *hint)?)?;
+        all.push(shown_in_file(alloc, source, text, *hint)?)?;
     }
     Ok(all)
 }
@@ -113,8 +113,32 @@ fn has_user_defined(capabilities: Capabilities) -> bool
     }
 }
 
-/// The hints on a document, by which capabilities it may have. Those on its blocks are kept, and
-/// are taken again for the same text.
+/// The hints on a source of which the text of a document is read, by which capabilities it may have.
+/// Those on its blocks are kept, and are taken again for the same text.
+///
+/// # Errors
+/// Out of memory.
+pub fn source_hints_in(
+    alloc: Global,
+    capabilities: Capabilities,
+    source: &[u8],
+    document: &Document,
+    kept: &mut Vec<KeptHints>,
+) -> Result<SourceHints, AllocError>
+    ensures { IfOk result (λ hints. hints_seen hints ≡ hints_on capabilities source.now document.now) }
+{
+    let user_defined = has_user_defined(capabilities);
+    let (blocks, found) = block_hints(alloc, user_defined, document, kept)?;
+    *kept = found;
+    Ok(SourceHints {
+        blocks,
+        file: shown_on_file(alloc, source, document.text())?,
+    })
+}
+
+/// The hints on a document, by which capabilities it may have, as it is. Those on its blocks are kept,
+/// and are taken again for the same text. No clause says so: only the time of the next call depends
+/// on it.
 ///
 /// # Errors
 /// Out of memory.
@@ -126,11 +150,5 @@ pub fn hints_in(
 ) -> Result<SourceHints, AllocError>
     ensures { IfOk result (λ hints. hints_seen hints ≡ text_hints capabilities document.now) }
 {
-    let user_defined = has_user_defined(capabilities);
-    let (blocks, found) = block_hints(alloc, user_defined, document, kept)?;
-    *kept = found;
-    Ok(SourceHints {
-        blocks,
-        file: shown_on_file(alloc, document.text())?,
-    })
+    source_hints_in(alloc, capabilities, document.text(), document, kept)
 }

@@ -1,4 +1,5 @@
 pub mod Appends
+pub mod Caused
 pub mod Expanded
 pub mod Printing
 pub mod Reading

@@ -27,6 +27,9 @@ module _ (format : List ℕ) (r : Scan) (read : IsReadingOf format r) where
   pub stop_read : r.stop ≡ (reading_of format).stop
   stop_read = same.1
 
+  pub tokens_read : r.tokens ≡ (reading_of format).tokens
+  tokens_read = same.0
+
   pub nothing_read : r.tokens ≡ [] → [] ≡ pieces_of format
   nothing_read none =
       ap (λ tokens. pieces_in tokens (stop_or (length format) (reading_of format).stop)) (sym none ∙ same.0)

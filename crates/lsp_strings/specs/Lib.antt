@@ -5,3 +5,4 @@ pub mod Pieces
 pub mod Examples
 pub mod Explained
 pub mod Places
+pub mod Parameters

@@ -200,6 +200,24 @@ later_item_data kind label detail documentation range =
     (member (codes "sortText") (string (codes "|" ++ label))
     (member (codes "textEdit") (text_edit_data label range) no_members)))))))
 
+-- "ParameterInformation"
+abbrev pub parameter_data : List ℕ → Data
+parameter_data label = object (member (codes "label") (string label) no_members)
+
+-- "SignatureInformation"
+abbrev pub signature_data : List ℕ → Items → Data
+signature_data label parameters = object (member (codes "label") (string label) (member (codes "parameters") (array parameters) no_members))
+
+-- one signature, which is active
+abbrev pub signatures_members : List ℕ → Items → Members
+signatures_members label parameters =
+    member (codes "activeSignature") (natural 0) (member (codes "signatures") (array (item (signature_data label parameters) no_items)) no_members)
+
+-- "SignatureHelp": one signature, with the parameter that is active, counted from 0, if one is
+abbrev pub signature_help_data : List ℕ → Items → Option ℕ → Data
+signature_help_data label parameters None = object (signatures_members label parameters)
+signature_help_data label parameters (Some active) = object (member (codes "activeParameter") (natural active) (signatures_members label parameters))
+
 -- "CompletionList"
 abbrev pub list_data : Items → Data
 list_data items = object (member (codes "isIncomplete") (boolean false) (member (codes "items") (array items) no_members))
@@ -216,6 +234,11 @@ sync_data = object (member (codes "change") (natural 2) (member (codes "openClos
 abbrev pub completion_options_data : Data
 completion_options_data =
     object (member (codes "triggerCharacters") (array (item (string (codes "=")) no_items)) no_members)
+
+-- "SignatureHelpOptions": an equals sign and a percent sign have the client ask
+abbrev pub signature_options_data : Data
+signature_options_data =
+    object (member (codes "triggerCharacters") (array (item (string (codes "=")) (item (string (codes "%")) no_items))) no_members)
 
 -- "RenameOptions", for a client that asks first which name a rename is of
 abbrev pub rename_options_data : Bool → Data
@@ -254,8 +277,9 @@ capabilities_data client =
     (member (codes "positionEncoding") (string (codes "utf-16"))
     (member (codes "referencesProvider") (boolean true)
     (member (codes "renameProvider") (rename_options_data client.prepares_renames)
+    (member (codes "signatureHelpProvider") signature_options_data
     (member (codes "textDocumentSync") sync_data
-    (member (codes "workspaceSymbolProvider") (boolean true) no_members)))))))))))))
+    (member (codes "workspaceSymbolProvider") (boolean true) no_members))))))))))))))
 
 -- "InitializeResult"
 abbrev pub server_data : List ℕ → Data

@@ -2,7 +2,7 @@
 ghost use Rattle.std.specs.Prelude.{◌≡◌, IfOk, option_map};
 ghost use Rattle.serde_json.specs.Data.{item, no_items};
 ghost use Rattle.serde_json.specs.View.{items_view, view};
-ghost use Rattle.lsp_values.specs.Shapes.{action_data, folding_data, highlight_data, hover_data, item_data, later_item_data, list_data, location_data, obsolete_item_data, plain_data, symbol_data, symbol_information_data, text_edit_data, workspace_edit_data};
+ghost use Rattle.lsp_values.specs.Shapes.{action_data, folding_data, highlight_data, hover_data, item_data, later_item_data, list_data, location_data, obsolete_item_data, parameter_data, plain_data, signature_data, signature_help_data, symbol_data, symbol_information_data, text_edit_data, workspace_edit_data};
 
 use crate::objects::{with_number, with_text, with_value};
 use crate::writing::range_value;
@@ -260,6 +260,46 @@ pub fn later_item_value(
     let members = with_text(alloc, members, "sortText", later.as_str())?;
     let members = with_value(alloc, members, "textEdit", edit)?;
     Ok(Value::Object(members))
+}
+
+/// A parameter of what is written ("ParameterInformation").
+///
+/// # Errors
+/// `AllocError` if memory ran out.
+pub fn parameter_value(alloc: Global, label: &str) -> Result<Value, AllocError>
+    ensures { IfOk result (λ v. view v ≡ parameter_data label.now) }
+{
+    json!(in alloc; {"label": label})
+}
+
+// What is written with its parameters ("SignatureInformation").
+fn signature_value(alloc: Global, label: &str, parameters: Vec<Value>) -> Result<Value, AllocError>
+    ensures { IfOk result (λ v. view v ≡ signature_data label.now (items_view parameters.items)) }
+{
+    let parameters = Value::Array(parameters);
+    json!(in alloc; {"label": label, "parameters": parameters})
+}
+
+/// Which parameters what is written takes ("SignatureHelp"), and which of them is active, counted
+/// from 0, if one is.
+///
+/// # Errors
+/// `AllocError` if memory ran out.
+pub fn signature_help_value(
+    alloc: Global,
+    label: &str,
+    parameters: Vec<Value>,
+    active: Option<usize>,
+) -> Result<Value, AllocError>
+    ensures { IfOk result (λ v. view v ≡ signature_help_data label.now (items_view parameters.items) active) }
+{
+    let signature = signature_value(alloc, label, parameters)?;
+    match active {
+        None => json!(in alloc; {"activeSignature": 0_u32, "signatures": [signature]}),
+        Some(active) => {
+            json!(in alloc; {"activeParameter": active, "activeSignature": 0_u32, "signatures": [signature]})
+        }
+    }
 }
 
 /// The items of a completion ("CompletionList"), which are all that there are.

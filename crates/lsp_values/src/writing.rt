@@ -4,7 +4,7 @@ ghost use Rattle.std.specs.String.{string_bytes};
 ghost use Rattle.serde_json.specs.Data.{null};
 ghost use Rattle.serde_json.specs.View.{items_view, members_view, view};
 ghost use Rattle.lsp_values.specs.Views.{reply_view};
-ghost use Rattle.lsp_values.specs.Shapes.{action_options_data, capabilities_data, completion_options_data, document_members, initialized_data, rename_options_data, server_data, sync_data};
+ghost use Rattle.lsp_values.specs.Shapes.{action_options_data, capabilities_data, completion_options_data, document_members, initialized_data, rename_options_data, server_data, signature_options_data, sync_data};
 ghost use Rattle.lsp_values.specs.Shapes.{diagnostic_data, failure_data, unreadable_data, unreadable_sentence, notification_data, position_data, publish_data, published_data, range_data, refusal_data, reply_data, response_data};
 
 use crate::objects::{with_number, with_text, with_value};
@@ -205,6 +205,13 @@ fn completion_options_value(alloc: Global) -> Result<Value, AllocError>
     json!(in alloc; {"triggerCharacters": ["="]})
 }
 
+// When signatures are asked for ("SignatureHelpOptions").
+fn signature_options_value(alloc: Global) -> Result<Value, AllocError>
+    ensures { IfOk result (λ v. view v ≡ signature_options_data) }
+{
+    json!(in alloc; {"triggerCharacters": ["=", "%"]})
+}
+
 // Which actions there are ("CodeActionOptions"); none for a client that takes commands alone.
 fn action_options_value(alloc: Global, takes_actions: bool) -> Result<Value, AllocError>
     ensures { IfOk result (λ v. view v ≡ action_options_data takes_actions) }
@@ -253,6 +260,8 @@ fn capabilities_value(alloc: Global, client: Client) -> Result<Value, AllocError
     let members = with_value(alloc, members, "referencesProvider", Value::Bool(true))?;
     let renames = rename_options_value(alloc, client.prepares_renames)?;
     let members = with_value(alloc, members, "renameProvider", renames)?;
+    let signatures = signature_options_value(alloc)?;
+    let members = with_value(alloc, members, "signatureHelpProvider", signatures)?;
     let sync = sync_value(alloc)?;
     let members = with_value(alloc, members, "textDocumentSync", sync)?;
     let searches = Value::Bool(true);

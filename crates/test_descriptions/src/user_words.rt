@@ -6,7 +6,7 @@ use ti_caps::find;
 
 // Names with their kinds and their documentation: of both tables, the first and the last row, and
 // of keys with the least and the most modifiers.
-static KNOWN: [(&'static str, &'static str, &'static str); 15] = [
+static KNOWN: [(&'static str, &'static str, &'static str); 20] = [
     (
         "AN",
         "boolean",
@@ -70,6 +70,31 @@ static KNOWN: [(&'static str, &'static str, &'static str); 15] = [
         "string",
         "The sequence that Shift+Alt+Ctrl+Meta with the up arrow key sends.",
     ),
+    (
+        "kBEG5",
+        "string",
+        "The sequence that Ctrl with the Begin key sends.",
+    ),
+    (
+        "kF1",
+        "string",
+        "The sequence that Shift with function key F1 sends.",
+    ),
+    (
+        "kF16",
+        "string",
+        "The sequence that Shift with function key F16 sends.",
+    ),
+    (
+        "kF63",
+        "string",
+        "The sequence that Shift with function key F63 sends.",
+    ),
+    (
+        "setrgbf",
+        "string",
+        "Set the foreground to a direct colour.\nParameters: red, green, blue.",
+    ),
 ];
 
 #[test]
@@ -85,9 +110,11 @@ fn says_what_a_user_defined_capability_is(rt: HostRuntime) -> Result<(), Fail> {
     Ok(())
 }
 
-// Names that are not known: those of no row, and keys with a number that is of no modifiers.
-static UNKNOWN: [&'static str; 9] = [
-    "", "ax", "cup", "kUP0", "kUP1", "kUP17", "kUP03", "kUP31", "kDC3x",
+// Names that are not known: those of no row, keys with a number that is of no modifiers, and function
+// keys that no capability is of.
+static UNKNOWN: [&'static str; 16] = [
+    "", "ax", "cup", "kUP0", "kUP1", "kUP17", "kUP03", "kUP31", "kDC3x", "kBEG1", "kF", "kF01",
+    "kF64", "kF160", "kF1x", "setrgb",
 ];
 
 #[test]
@@ -114,7 +141,7 @@ fn count_of(all: &[UserDescription], name: &str) -> usize {
 fn lists_each_name_once(rt: HostRuntime) -> Result<(), Fail> {
     let alloc = rt.alloc();
     let all = user_descriptions(alloc)?;
-    assert_eq!(rt; all.len(), 269);
+    assert_eq!(rt; all.len(), 350);
     for said in &all {
         let name = said.name.as_str();
         assert_eq!(rt; count_of(all.as_slice(), name), 1);

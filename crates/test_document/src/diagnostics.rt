@@ -1,5 +1,5 @@
 //! What is wrong with a text, and where.
-use lsp_diagnostics::{KeptMarks, shown_detail, source_diagnostics};
+use lsp_diagnostics::{KeptMarks, profile_message, sentence_by, shown_detail, source_diagnostics};
 use lsp_document::{Capabilities, Diagnostic, Document, Problem};
 use lsp_types::{Position, Range, Severity};
 use std::alloc::{AllocError, Global};
@@ -177,6 +177,46 @@ const RETURNS: [Row; 2] = [
 #[test]
 fn a_line_ends_before_its_carriage_return(rt: HostRuntime) -> Result<(), AllocError> {
     assert!(rt; are_shown(rt.alloc(), b"a,\n\tcols#x,\r\n", &RETURNS)?);
+    Ok(())
+}
+
+#[test]
+fn the_message_of_a_missing_use_is_by_capabilities(rt: HostRuntime) -> Result<(), AllocError> {
+    let mut document = document_of(rt.alloc(), b"a,\n\tuse=b,\n")?;
+    let all = document.diagnostics_by(rt.alloc(), Capabilities::UserDefined)?;
+    assert!(rt; all.len() == 1);
+    let message = all[0].message.as_str();
+    assert!(rt;
+        message
+            == "MissingUse b: No block has this name. Correct it, or add the block: only ti-tic takes an installed entry."
+    );
+    Ok(())
+}
+
+/// What E6 means and what is said of it, by which capabilities a source may have.
+const MISSING_USES: [(Capabilities, &str, &str); 2] = [
+    (
+        Capabilities::Profile,
+        "No block has this name. Correct it, or add the block: installed entries are not searched.",
+        "MissingUse b: No block has this name. Correct it, or add the block: installed entries are not searched.",
+    ),
+    (
+        Capabilities::UserDefined,
+        "No block has this name. Correct it, or add the block: only ti-tic takes an installed entry.",
+        "MissingUse b: No block has this name. Correct it, or add the block: only ti-tic takes an installed entry.",
+    ),
+];
+
+#[test]
+fn what_is_said_of_a_missing_use(rt: HostRuntime) -> Result<(), AllocError> {
+    let document = document_of(rt.alloc(), b"a,\n\tuse=b,\n")?;
+    let faults = document.database().faults()?;
+    assert!(rt; faults.len() == 1);
+    for (capabilities, sentence, message) in MISSING_USES {
+        assert!(rt; sentence_by(capabilities, Code::MissingUse) == sentence);
+        let said = profile_message(rt.alloc(), capabilities, &faults[0])?;
+        assert!(rt; said.as_str() == message);
+    }
     Ok(())
 }
 

@@ -23,7 +23,7 @@ struct Row {
     directories: &'static [&'static str],
 }
 
-const ROWS: [Row; 4] = [
+const ROWS: [Row; 5] = [
     Row {
         environment: Environment {
             terminfo: Some("/t"),
@@ -35,9 +35,22 @@ const ROWS: [Row; 4] = [
             "/home/me/.terminfo",
             "/x",
             "/etc/terminfo",
+            "/y",
             "/lib/terminfo",
             "/usr/share/terminfo",
-            "/y",
+        ],
+    },
+    Row {
+        environment: Environment {
+            terminfo: None,
+            home: None,
+            dirs: Some(":/x"),
+        },
+        directories: &[
+            "/etc/terminfo",
+            "/x",
+            "/lib/terminfo",
+            "/usr/share/terminfo",
         ],
     },
     Row {

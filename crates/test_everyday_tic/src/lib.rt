@@ -2,7 +2,6 @@
 //! product.
 //!
 //! - `sentences`: what is reported about each fault, as the language server says it
-//! - `sources`: sources of other systems
 //! - `writing`: what is written, and where it stops
 //! - `compiling`: what is reported about a source and which files come of it
 //! - `entries`: what the entries say about a source that uses installed ones
@@ -14,7 +13,5 @@ mod compiling;
 mod entries;
 #[cfg(test)]
 mod sentences;
-#[cfg(test)]
-mod sources;
 #[cfg(test)]
 mod writing;

@@ -1,5 +1,6 @@
 //! Documents, and parts of them by lines and columns.
 use lsp_document::Document;
+use lsp_features::RenameEdit;
 use lsp_types::{Position, Range};
 use std::alloc::{AllocError, Global};
 
@@ -33,6 +34,21 @@ pub(crate) fn are_parts(found: &[Range], parts: &[Part]) -> bool {
             .all(|(range, part)| *range == range_of(*part))
 }
 
+/// Whether these are edits of some parts with these texts.
+pub(crate) fn are_texts(found: &[RenameEdit], edits: &[(Part, &[u8])]) -> bool {
+    found.len() == edits.len()
+        && found.iter().zip(edits).all(|(edit, (part, text))| {
+            edit.range == range_of(*part) && edit.text.as_bytes() == *text
+        })
+}
+
+/// Whether these are edits of some parts with this text.
+pub(crate) fn are_edits(found: &[RenameEdit], text: &[u8], parts: &[Part]) -> bool {
+    found.len() == parts.len()
+        && found.iter().zip(parts).all(|(edit, part)| edit.range == range_of(*part)
+            && edit.text.as_bytes() == text)
+}
+
 /// A source after a preface: lines that end with CR LF, a name that is twice in a head, a name that
 /// two blocks have, a comment, letters of two units, an item that is not a use, an open last line.
 pub(crate) const NAMED: &[u8] = b"# preface\r\n\r\n\
@@ -58,3 +74,11 @@ pub(crate) const WRAPPED_NAME: Range = Range {
     start: Position { line: 2, column: 5 },
     end: Position { line: 3, column: 2 },
 };
+
+/// A source with a name that goes on over a comment, in a head and in an item `use=`, and with blank
+/// lines.
+pub(crate) const FOLDED: &[u8] =
+    b"ab|a\n# keep me\n\tbc|x y,\n\n\tam,\nc,\n\tuse=a\n\n# me too\n\tbc, bce,\n";
+
+/// A source with an item `use=` of a name that is alone on its two lines.
+pub(crate) const ALONE: &[u8] = b"ab,\nc,\n\tuse=\n\ta\n\tb,\n";

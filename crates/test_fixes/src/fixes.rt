@@ -23,126 +23,245 @@ base,
 \tbel=^, cr=a^, ht=%^, el=\\400\\^, ed=\\\\^, oc=\\400^,
 ";
 
-/// What is advised, as it is wanted.
-#[derive(Clone, Copy)]
-enum Wanted {
-    Name(&'static str),
-    Sign(Kind),
-    Spelling,
-    Caret,
+/// Ranges, and after a bar what is offered for each: what is advised, the range that is exchanged,
+/// and its new text. Lines with `#` in front say what follows.
+const ROWS: &str = "\
+# the preface, names, and an item without a fault
+0:0-0:3 |
+1:0-1:3 |
+2:1-2:3 |
+# two letters are exchanged; no number is nearer
+2:6-2:6 | name colour colors 2:9-2:11 `rs`
+# just before the item, and just after it
+2:4-2:4 |
+2:5-2:5 | name colour colors 2:9-2:11 `rs`
+2:13-2:13 | name colour colors 2:9-2:11 `rs`
+2:14-2:14 |
+# one letter is taken out
+2:20-2:20 | name clearr clear 2:19-2:21 `r`
+# more than three are one edit away
+2:28-2:30 | name kf64 kf4 2:30-2:32 `4`, name kf64 kf6 2:30-2:32 `6`, name kf64 kf14 2:30-2:31 `1`
+# a boolean; the same from an item that is touched before it
+2:37-2:37 | name bwx bw 2:37-2:39 `w`
+2:13-2:15 | name colour colors 2:9-2:11 `rs`, name clearr clear 2:19-2:21 `r`
+# no name has a letter of it; a cancel is of any kind; no name at all
+3:1-3:11 |
+3:12-3:17 | name Cols cols 3:12-3:13 `c`
+3:19-3:21 |
+# the block's own name is not offered
+3:25-3:25 | name vt2 vt3 3:29-3:30 `3`
+# a number with the sign of a string, a boolean with a sign and without a value
+5:1-5:1 | sign number 5:5-5:6 `#`
+5:10-5:10 | sign boolean 5:12-5:13 ``
+# no value, a boolean with a value, digits and more
+5:15-5:19 |
+5:21-5:25 |
+5:27-5:35 |
+# a string with the sign of a number, and one without a value
+5:37-5:42 | sign string 5:40-5:41 `=`
+5:44-5:48 |
+# a string with an escape that has no name
+6:4-6:4 | spelling 6:6-6:10 `qb`
+# a use of a name that no block has, and one of a name that a block has
+6:13-6:17 | name basse base 6:21-6:23 `e`
+6:26-6:33 |
+# a name that a comment is in, which stays, from a place between its halves and from a range past
+# the end
+10:0-10:1 | name line lines 11:2-11:3 `es`
+9:1-11:4 | name line lines 11:2-11:3 `es`
+11:3-20:0 | name line lines 11:2-11:3 `es`, caret 12:5-12:6 `\\^`, caret 12:12-12:13 `\\^`, caret 12:38-12:39 `\\^`
+# a `^` that takes nothing, at the end; after a `%` it is itself
+12:1-12:1 | caret 12:5-12:6 `\\^`
+12:8-12:9 | caret 12:12-12:13 `\\^`
+12:16-12:16 |
+# an octal value over 255, with a `^` that a backslash takes; one after a backslash that is taken
+12:23-12:23 |
+12:34-12:34 | caret 12:38-12:39 `\\^`
+# a `^` that takes nothing, with an octal value over 255, which stays
+12:42-12:42 |
+";
+
+#[rattlefmt::skip]
+const CASES: [(&[u8], &str); 30] = [
+    // the nearest name ends with a backslash, which would take the comma after it
+    (b"xt\\,am,\nb,use=xtt,cols#80,\n", "1:3-1:3 |"),
+    (b"xt\\,am,\nxts,am,\nb,use=xtt,cols#80,\n", "2:3-2:3 | name xtt xts 2:8-2:9 `s`"),
+    // a block has the name that is used
+    (b"vt1,am,\nvt2,am,\nb,use=vt1,\n", "2:3-2:3 |"),
+    // `in` is a boolean, and `ip` a string
+    (b"a,ix#8,\n", "0:3-0:3 | name ix it 0:3-0:4 `t`"),
+    // the names field has a fault too
+    (b"a b,clearr=x,\n", "0:5-0:5 | name clearr clear 0:8-0:10 `r`"),
+    // the CR of a CR LF after the last item is a byte of its string, and an editor keeps it
+    (b"a,bel=x\\q\r\n", "0:3-0:3 | spelling 0:7-0:9 `q`"),
+    (b"a,bel=x\\q\r\n\t\n", "0:3-0:3 | spelling 0:7-0:9 `q`"),
+    (b"a,bel=x\\q\r\r\n", "0:3-0:3 | spelling 0:7-0:10 `q\\r`"),
+    // so it is taken by a backslash too
+    (b"a,bel=x\\\r\n", "0:3-0:3 | spelling 0:6-0:8 `x`"),
+    (b"a,bel=\\\r\n", "0:3-0:3 |"),
+    // a CR before a comma, a string over two lines with a CR between them, and a CR LF after the comma
+    (b"a,bel=x\\q\r,\n", "0:3-0:3 | spelling 0:7-0:9 `q`"),
+    (b"a,bel=x\\q\r\n\ty,\r\n", "0:3-0:3 |"),
+    (b"a,bel=x\\q,\r\n", "0:3-0:3 | spelling 0:7-0:9 `q`"),
+    // no editor takes the CR of a CR LF away, so a name that has it is not changed then
+    (b"a,xenll\r\n", "0:3-0:3 |"),
+    (b"a,xenll,\r\n", "0:3-0:3 | name xenll xenl 0:5-0:7 `l`"),
+    (b"base,\nb,use=basse\r\n", "1:3-1:3 |"),
+    (b"base,\r\nb,use=basse,\r\n", "1:3-1:3 | name basse base 1:9-1:11 `e`"),
+    // a name that begins with it is in two lines
+    (b"a,am,\r\n\tcols#80,\r\n", "1:2-1:2 |"),
+    // a sign is before it, and a `^` takes it
+    (b"a,bel#x\r\n", "0:3-0:3 | sign string 0:5-0:6 `=`"),
+    (b"a,bel=a^\r\n", "0:3-0:3 |"),
+    // the last item of a block has no comma
+    (b"a,xenll\n", "0:3-0:3 | name xenll xenl 0:5-0:7 `l`"),
+    (b"a,am=\n", "0:3-0:3 | sign boolean 0:4-0:5 ``"),
+    (b"a,bel=a^\n", "0:3-0:3 | caret 0:7-0:8 `\\^`"),
+    (b"base,\nb,use=basse\n", "1:3-1:3 | name basse base 1:9-1:11 `e`"),
+    // the last line of a text has no newline
+    (b"a,bel=x\\q", "0:3-0:3 | spelling 0:7-0:9 `q`"),
+    (b"a,bel=x\\q\r", "0:3-0:3 | spelling 0:7-0:9 `q`"),
+    // a comment in the string stays: the bytes that change are before it, or after it
+    (b"a|a,\n\tbel=x\\q\n# keep me\n\tyz, am,\n", "1:3-1:3 | spelling 1:6-1:8 `q`"),
+    (b"a|a,\n\tbel=x\n\n# keep me\n\tyz\\q, am,\n", "1:3-1:3 | spelling 4:3-4:5 `q`"),
+    // bytes change before it and after it
+    (b"a|a,\n\tbel=x\\q\n# keep me\n\ty\\z, am,\n", "1:3-1:3 |"),
+    // without the sign a line would be blank
+    (b"a,am\n\t#\n", "0:3-0:3 |"),
+];
+
+// A number, or none that is a place.
+fn number(text: &str) -> usize {
+    text.parse::<usize>().unwrap_or(usize::MAX)
 }
 
-/// A range, and what is offered for it: what is advised, the range that is exchanged, and its text.
-type Row = (
-    ((usize, usize), (usize, usize)),
-    &'static [(Wanted, ((usize, usize), (usize, usize)), &'static str)],
-);
+// A place of a line and a column, with a colon between them.
+fn place_in(text: &str) -> Position {
+    let (line, column) = text.split_once(":").unwrap_or((text, text));
+    Position {
+        line: number(line),
+        column: number(column),
+    }
+}
 
-#[rattlefmt::skip]
-const ROWS: [Row; 35] = [
-    // the preface, names, and an item without a fault
-    (((0, 0), (0, 3)), &[]),
-    (((1, 0), (1, 3)), &[]),
-    (((2, 1), (2, 3)), &[]),
-    // two letters are exchanged; no number is nearer
-    (((2, 6), (2, 6)), &[(Wanted::Name("colour"), ((2, 5), (2, 11)), "colors")]),
-    // just before the item, and just after it
-    (((2, 4), (2, 4)), &[]),
-    (((2, 5), (2, 5)), &[(Wanted::Name("colour"), ((2, 5), (2, 11)), "colors")]),
-    (((2, 13), (2, 13)), &[(Wanted::Name("colour"), ((2, 5), (2, 11)), "colors")]),
-    (((2, 14), (2, 14)), &[]),
-    // one letter is taken out
-    (((2, 20), (2, 20)), &[(Wanted::Name("clearr"), ((2, 15), (2, 21)), "clear")]),
-    // more than three are one edit away
-    (((2, 28), (2, 30)), &[
-        (Wanted::Name("kf64"), ((2, 28), (2, 32)), "kf4"), (Wanted::Name("kf64"), ((2, 28), (2, 32)), "kf6"),
-        (Wanted::Name("kf64"), ((2, 28), (2, 32)), "kf14"),
-    ]),
-    // a boolean; the same from an item that is touched before it
-    (((2, 37), (2, 37)), &[(Wanted::Name("bwx"), ((2, 36), (2, 39)), "bw")]),
-    (((2, 13), (2, 15)), &[
-        (Wanted::Name("colour"), ((2, 5), (2, 11)), "colors"), (Wanted::Name("clearr"), ((2, 15), (2, 21)), "clear"),
-    ]),
-    // no name has a letter of it; a cancel is of any kind; no name at all
-    (((3, 1), (3, 11)), &[]),
-    (((3, 12), (3, 17)), &[(Wanted::Name("Cols"), ((3, 12), (3, 16)), "cols")]),
-    (((3, 19), (3, 21)), &[]),
-    // the block's own name is not offered
-    (((3, 25), (3, 25)), &[(Wanted::Name("vt2"), ((3, 27), (3, 30)), "vt3")]),
-    // a number with the sign of a string, a boolean with a sign and without a value
-    (((5, 1), (5, 1)), &[(Wanted::Sign(Kind::Number), ((5, 5), (5, 6)), "#")]),
-    (((5, 10), (5, 10)), &[(Wanted::Sign(Kind::Flag), ((5, 12), (5, 13)), "")]),
-    // no value, a boolean with a value, digits and more
-    (((5, 15), (5, 19)), &[]),
-    (((5, 21), (5, 25)), &[]),
-    (((5, 27), (5, 35)), &[]),
-    // a string with the sign of a number, and one without a value
-    (((5, 37), (5, 42)), &[(Wanted::Sign(Kind::Text), ((5, 40), (5, 41)), "=")]),
-    (((5, 44), (5, 48)), &[]),
-    // a string with an escape that has no name
-    (((6, 4), (6, 4)), &[(Wanted::Spelling, ((6, 5), (6, 11)), "aqb:")]),
-    // a use of a name that no block has, and one of a name that a block has
-    (((6, 13), (6, 17)), &[(Wanted::Name("basse"), ((6, 18), (6, 23)), "base")]),
-    (((6, 26), (6, 33)), &[]),
-    // a name that a comment is in, from a place between its halves and from a range past the end
-    (((10, 0), (10, 1)), &[(Wanted::Name("line"), ((9, 9), (11, 3)), "lines")]),
-    (((9, 1), (11, 4)), &[(Wanted::Name("line"), ((9, 9), (11, 3)), "lines")]),
-    (((11, 3), (20, 0)), &[
-        (Wanted::Name("line"), ((9, 9), (11, 3)), "lines"), (Wanted::Caret, ((12, 5), (12, 6)), "\\^"),
-        (Wanted::Caret, ((12, 12), (12, 13)), "\\^"), (Wanted::Caret, ((12, 38), (12, 39)), "\\^"),
-    ]),
-    // a `^` that takes nothing, at the end; after a `%` it is itself
-    (((12, 1), (12, 1)), &[(Wanted::Caret, ((12, 5), (12, 6)), "\\^")]),
-    (((12, 8), (12, 9)), &[(Wanted::Caret, ((12, 12), (12, 13)), "\\^")]),
-    (((12, 16), (12, 16)), &[]),
-    // an octal value over 255, with a `^` that a backslash takes; one after a backslash that is taken
-    (((12, 23), (12, 23)), &[]),
-    (((12, 34), (12, 34)), &[(Wanted::Caret, ((12, 38), (12, 39)), "\\^")]),
-    // a `^` that takes nothing, with an octal value over 255, which stays
-    (((12, 42), (12, 42)), &[]),
-];
+// A range of two places, with a hyphen between them.
+fn range_in(text: &str) -> Range {
+    let (start, end) = text.split_once("-").unwrap_or((text, text));
+    Range {
+        start: place_in(start),
+        end: place_in(end),
+    }
+}
 
-#[rattlefmt::skip]
-const CASES: [(&'static [u8], Row); 26] = [
-    // the nearest name ends with a backslash, which would take the comma after it
-    (b"xt\\,am,\nb,use=xtt,cols#80,\n", (((1, 3), (1, 3)), &[])),
-    (b"xt\\,am,\nxts,am,\nb,use=xtt,cols#80,\n", (((2, 3), (2, 3)), &[(Wanted::Name("xtt"), ((2, 6), (2, 9)), "xts")])),
-    // a block has the name that is used
-    (b"vt1,am,\nvt2,am,\nb,use=vt1,\n", (((2, 3), (2, 3)), &[])),
-    // `in` is a boolean, and `ip` a string
-    (b"a,ix#8,\n", (((0, 3), (0, 3)), &[(Wanted::Name("ix"), ((0, 2), (0, 4)), "it")])),
-    // the names field has a fault too
-    (b"a b,clearr=x,\n", (((0, 5), (0, 5)), &[(Wanted::Name("clearr"), ((0, 4), (0, 10)), "clear")])),
-    // the CR of a CR LF after the last item is a byte of its string, and an editor keeps it
-    (b"a,bel=x\\q\r\n", (((0, 3), (0, 3)), &[(Wanted::Spelling, ((0, 6), (0, 9)), "xq")])),
-    (b"a,bel=x\\q\r\n\t\n", (((0, 3), (0, 3)), &[(Wanted::Spelling, ((0, 6), (0, 9)), "xq")])),
-    (b"a,bel=x\\q\r\r\n", (((0, 3), (0, 3)), &[(Wanted::Spelling, ((0, 6), (0, 10)), "xq\\r")])),
-    // so it is taken by a backslash too
-    (b"a,bel=x\\\r\n", (((0, 3), (0, 3)), &[(Wanted::Spelling, ((0, 6), (0, 8)), "x")])),
-    (b"a,bel=\\\r\n", (((0, 3), (0, 3)), &[])),
-    // a CR before a comma, a string over two lines, and a CR LF after the comma
-    (b"a,bel=x\\q\r,\n", (((0, 3), (0, 3)), &[(Wanted::Spelling, ((0, 6), (0, 9)), "xq")])),
-    (b"a,bel=x\\q\r\n\ty,\r\n", (((0, 3), (0, 3)), &[(Wanted::Spelling, ((0, 6), (1, 2)), "xq\\ry")])),
-    (b"a,bel=x\\q,\r\n", (((0, 3), (0, 3)), &[(Wanted::Spelling, ((0, 6), (0, 9)), "xq")])),
-    // no editor takes the CR of a CR LF away, so a name that has it is not changed then
-    (b"a,xenll\r\n", (((0, 3), (0, 3)), &[])),
-    (b"a,xenll,\r\n", (((0, 3), (0, 3)), &[(Wanted::Name("xenll"), ((0, 2), (0, 7)), "xenl")])),
-    (b"base,\nb,use=basse\r\n", (((1, 3), (1, 3)), &[])),
-    (b"base,\r\nb,use=basse,\r\n", (((1, 3), (1, 3)), &[(Wanted::Name("basse"), ((1, 6), (1, 11)), "base")])),
-    // an editor joins the lines at a name that begins with it
-    (b"a,am,\r\n\tcols#80,\r\n", (((1, 2), (1, 2)), &[(Wanted::Name("?cols"), ((0, 5), (1, 5)), "cols")])),
-    // a sign is before it, and a `^` takes it
-    (b"a,bel#x\r\n", (((0, 3), (0, 3)), &[(Wanted::Sign(Kind::Text), ((0, 5), (0, 6)), "=")])),
-    (b"a,bel=a^\r\n", (((0, 3), (0, 3)), &[])),
-    // the last item of a block has no comma
-    (b"a,xenll\n", (((0, 3), (0, 3)), &[(Wanted::Name("xenll"), ((0, 2), (0, 7)), "xenl")])),
-    (b"a,am=\n", (((0, 3), (0, 3)), &[(Wanted::Sign(Kind::Flag), ((0, 4), (0, 5)), "")])),
-    (b"a,bel=a^\n", (((0, 3), (0, 3)), &[(Wanted::Caret, ((0, 7), (0, 8)), "\\^")])),
-    (b"base,\nb,use=basse\n", (((1, 3), (1, 3)), &[(Wanted::Name("basse"), ((1, 6), (1, 11)), "base")])),
-    // the last line of a text has no newline
-    (b"a,bel=x\\q", (((0, 3), (0, 3)), &[(Wanted::Spelling, ((0, 6), (0, 9)), "xq")])),
-    (b"a,bel=x\\q\r", (((0, 3), (0, 3)), &[(Wanted::Spelling, ((0, 6), (0, 9)), "xq")])),
-];
+// What is advised, in words.
+fn told_advice(alloc: Global, advice: &Advice) -> Result<String, AllocError> {
+    match advice {
+        Advice::Name { name, other } => {
+            let (name, other) = (name.as_str(), other.as_str());
+            format!(in alloc; "name {name} {other}")
+        }
+        Advice::Sign(Kind::Flag) => String::from_str(alloc, "sign boolean"),
+        Advice::Sign(Kind::Number) => String::from_str(alloc, "sign number"),
+        Advice::Sign(Kind::Text) => String::from_str(alloc, "sign string"),
+        Advice::Spelling => String::from_str(alloc, "spelling"),
+        Advice::Caret => String::from_str(alloc, "caret"),
+    }
+}
+
+// A fix, in words.
+fn told_fix(alloc: Global, fix: &Fix) -> Result<String, AllocError> {
+    let advice = told_advice(alloc, &fix.advice)?;
+    let (advice, text) = (advice.as_str(), fix.text.as_str());
+    let (line, column) = (fix.range.start.line, fix.range.start.column);
+    let (last, end) = (fix.range.end.line, fix.range.end.column);
+    format!(in alloc; "{advice} {line}:{column}-{last}:{end} `{text}`")
+}
+
+// Fixes, in words.
+fn told(alloc: Global, fixes: &[Fix]) -> Result<String, AllocError> {
+    let mut all = String::new(alloc);
+    for fix in fixes {
+        let words = told_fix(alloc, fix)?;
+        all.push_str(if all.is_empty() { "" } else { ", " })?;
+        all.push_str(words.as_str())?;
+    }
+    Ok(all)
+}
+
+// Whether what is offered for the range of a row is what it says.
+fn is_as_told(
+    alloc: Global,
+    capabilities: Capabilities,
+    document: &Document,
+    row: &str,
+) -> Result<bool, AllocError> {
+    let (range, wanted) = row.split_once(" |").unwrap_or((row, row));
+    let found = fixes_of(alloc, capabilities, document, range_in(range))?;
+    let words = told(alloc, &found)?;
+    Ok(words.as_str() == wanted.trim_start())
+}
+
+// The rows of a table.
+fn expect_rows(
+    rt: &impl Abort,
+    alloc: Global,
+    capabilities: Capabilities,
+    source: &[u8],
+    table: &str,
+) -> Result<(), AllocError> {
+    let document = document_of(alloc, source)?;
+    for row in table.lines() {
+        if !row.starts_with("#") {
+            assert!(rt; is_as_told(alloc, capabilities, &document, row)?);
+        }
+    }
+    Ok(())
+}
+
+#[test]
+fn what_is_offered(rt: HostRuntime) -> Result<(), AllocError> {
+    expect_rows(&rt, rt.alloc(), Capabilities::Profile, SOURCE, ROWS)
+}
+
+#[test]
+fn what_is_offered_in_other_sources(rt: HostRuntime) -> Result<(), AllocError> {
+    for (source, row) in &CASES {
+        expect_rows(&rt, rt.alloc(), Capabilities::Profile, source, row)?;
+    }
+    Ok(())
+}
+
+// Items of user-defined names, the last of which are not known, one of an unknown name that is none,
+// and a use of a name that nobody has.
+const USER_DEFINED: &[u8] = b"k|kitty,
+\tTc, Smulx=x, kDC5=x, colour#8, bad=\\400, cols!#8, co-ls#8, Tcc,
+\tuse=kitt,
+kitt2,
+";
+
+const ALLOWED: &str = "\
+1:1-1:3 |
+1:5-1:12 |
+1:14-1:20 |
+1:22-1:30 | name colour colors 1:26-1:28 `rs`
+1:32-1:40 | name bad pad 1:32-1:33 `p`, name bad Swd 1:32-1:34 `Sw`, name bad fd 1:32-1:34 `f`, name bad ka2 1:32-1:35 `ka2`
+1:60-1:63 | name Tcc ccc 1:60-1:61 `c`, name Tcc Tc 1:61-1:63 `c`
+1:51-1:58 | name co-ls cols 1:53-1:55 `l`
+2:1-2:9 | name kitt kitt2 2:8-2:9 `t2`
+";
+
+#[test]
+fn names_are_offered_for_user_defined_ones_that_are_not_known(
+    rt: HostRuntime,
+) -> Result<(), AllocError> {
+    expect_rows(
+        &rt,
+        rt.alloc(),
+        Capabilities::UserDefined,
+        USER_DEFINED,
+        ALLOWED,
+    )
+}
 
 // A range of a line and a column each.
 fn range_of(((line, column), (last, end)): ((usize, usize), (usize, usize))) -> Range {
@@ -153,96 +272,6 @@ fn range_of(((line, column), (last, end)): ((usize, usize), (usize, usize))) -> 
             column: end,
         },
     }
-}
-
-/// Whether advice is as it is wanted.
-fn is_advised(advice: &Advice, wanted: Wanted) -> bool {
-    match (advice, wanted) {
-        (Advice::Name(name), Wanted::Name(other)) => name.as_str() == other,
-        (Advice::Sign(kind), Wanted::Sign(other)) => *kind == other,
-        (Advice::Spelling, Wanted::Spelling) | (Advice::Caret, Wanted::Caret) => true,
-        _ => false,
-    }
-}
-
-/// Whether a fix is as it is wanted.
-fn is_wanted(
-    fix: &Fix,
-    (wanted, range, text): (Wanted, ((usize, usize), (usize, usize)), &'static str),
-) -> bool {
-    is_advised(&fix.advice, wanted) && fix.range == range_of(range) && fix.text.as_str() == text
-}
-
-/// Whether fixes are as they are wanted.
-fn are_wanted(
-    found: &[Fix],
-    wanted: &[(Wanted, ((usize, usize), (usize, usize)), &'static str)],
-) -> bool {
-    if found.len() != wanted.len() {
-        return false;
-    }
-    for at in 0..found.len() {
-        if !is_wanted(&found[at], wanted[at]) {
-            return false;
-        }
-    }
-    true
-}
-
-#[test]
-fn what_is_offered(rt: HostRuntime) -> Result<(), AllocError> {
-    let alloc = rt.alloc();
-    let document = document_of(alloc, SOURCE)?;
-    for (range, wanted) in &ROWS {
-        let found = fixes_of(alloc, Capabilities::Profile, &document, range_of(*range))?;
-        assert!(rt; are_wanted(&found, wanted));
-    }
-    Ok(())
-}
-
-#[test]
-fn what_is_offered_in_other_sources(rt: HostRuntime) -> Result<(), AllocError> {
-    let alloc = rt.alloc();
-    for (source, (range, wanted)) in &CASES {
-        let document = document_of(alloc, source)?;
-        let found = fixes_of(alloc, Capabilities::Profile, &document, range_of(*range))?;
-        assert!(rt; are_wanted(&found, wanted));
-    }
-    Ok(())
-}
-
-// Items of user-defined names, one of an unknown name that is not, and a use of a name that nobody
-// has.
-const USER_DEFINED: &[u8] = b"k|kitty,
-\tTc, Smulx=x, kDC5=x, colour#8, bad=\\400, cols!#8, co-ls#8,
-\tuse=kitt,
-kitt2,
-";
-
-#[rattlefmt::skip]
-const ALLOWED: [Row; 6] = [
-    (((1, 1), (1, 3)), &[]),
-    (((1, 5), (1, 12)), &[]),
-    (((1, 22), (1, 30)), &[]),
-    (((1, 32), (1, 40)), &[]),
-    (((1, 51), (1, 58)), &[(Wanted::Name("co-ls"), ((1, 51), (1, 56)), "cols")]),
-    (((2, 1), (2, 9)), &[(Wanted::Name("kitt"), ((2, 5), (2, 9)), "kitt2")]),
-];
-
-#[test]
-fn no_name_is_offered_for_a_user_defined_one(rt: HostRuntime) -> Result<(), AllocError> {
-    let alloc = rt.alloc();
-    let document = document_of(alloc, USER_DEFINED)?;
-    for (range, wanted) in &ALLOWED {
-        let found = fixes_of(
-            alloc,
-            Capabilities::UserDefined,
-            &document,
-            range_of(*range),
-        )?;
-        assert!(rt; are_wanted(&found, wanted));
-    }
-    Ok(())
 }
 
 /// A range, and the diagnostic that the first fix resolves which is offered for it: its label, and
@@ -319,10 +348,11 @@ fn resolve_one(
 #[test]
 fn each_fix_resolves_one_diagnostic(rt: HostRuntime) -> Result<(), AllocError> {
     let alloc = rt.alloc();
-    for (source, (range, _)) in &CASES {
+    for (source, row) in &CASES {
         let document = document_of(alloc, source)?;
         let all = document.diagnostics(alloc)?;
-        assert!(rt; resolve_one(alloc, &document, &all, range_of(*range))?);
+        let (range, _) = row.split_once(" |").unwrap_or((row, row));
+        assert!(rt; resolve_one(alloc, &document, &all, range_in(range))?);
     }
     Ok(())
 }

@@ -9,7 +9,7 @@ use std::process::Abort;
 type Row = (&'static [u8], (usize, usize), &'static [u8]);
 
 #[rattlefmt::skip]
-const LAID_OUT: [Row; 5] = [
+const LAID_OUT: [Row; 7] = [
     (b"t, am,\n   bw, xenl,\n", (2, 0), b"t,\n\tam, bw, xenl,\n"),
     // The whole text is exchanged, whether a newline ends it or not.
     (b"t,am", (0, 4), b"t,\n\tam\n"),
@@ -20,6 +20,10 @@ const LAID_OUT: [Row; 5] = [
         b"t,\n\tcols#1234567, lines#123456, it#1234567890, lm#123456789, xmc#12345678,\n\tpb#12345678,\n"),
     // A source with an entry that is refused has a layout too.
     (b"#\n\n|,am,\n\n", (4, 0), b"#\n\n|,\n\tam,\n\n"),
+    // Lines that end in CR LF do so again, and the CR is no column.
+    (b"t, am,\r\n\tbw,", (1, 4), b"t,\r\n\tam, bw,\r\n"),
+    // A byte order mark stays, and takes a column if the client sends it.
+    (b"\xEF\xBB\xBFt, am,", (0, 7), b"\xEF\xBB\xBFt,\n\tam,\n"),
 ];
 
 #[test]
@@ -43,7 +47,13 @@ fn layouts(rt: HostRuntime) -> Result<(), AllocError> {
 }
 
 // Texts that have their layout, and one that is not UTF-8.
-const LEFT: [&[u8]; 4] = [b"", b"# a\n", b"t,\n\tam, bw,\n", b"t,am,\n# \xFF\n"];
+const LEFT: [&[u8]; 5] = [
+    b"",
+    b"# a\n",
+    b"t,\n\tam, bw,\n",
+    b"t,\r\n\tam,\r\n",
+    b"t,am,\n# \xFF\n",
+];
 
 #[test]
 fn no_layouts(rt: HostRuntime) -> Result<(), AllocError> {

@@ -1,6 +1,7 @@
 //! What is renamed in documents.
 use crate::documents::{
-    NAMED, NAMELESS, Part, WRAPPED, WRAPPED_NAME, are_parts, document_of, range_of,
+    ALONE, FOLDED, NAMED, NAMELESS, Part, WRAPPED, WRAPPED_NAME, are_edits, are_texts, document_of,
+    range_of,
 };
 use lsp_features::{Renaming, renamable_at, renaming_of};
 use lsp_types::{Failure, Position};
@@ -30,7 +31,9 @@ fn renamed(rt: HostRuntime) -> Result<(), AllocError> {
     let document = document_of(rt.alloc(), NAMED)?;
     for ((line, column), new, parts) in RENAMED {
         match renaming_of(rt.alloc(), &document, Position { line, column }, new)? {
-            Renaming::Parts(found) => assert!(rt; are_parts(&found, parts), "{line} {column}"),
+            Renaming::Edits(found) => {
+                assert!(rt; are_edits(&found, new, parts), "{line} {column}");
+            }
             _ => assert!(rt; false, "{line} {column}"),
         }
     }
@@ -117,10 +120,47 @@ fn a_broken_use(rt: HostRuntime) -> Result<(), AllocError> {
     let document = document_of(rt.alloc(), WRAPPED)?;
     let place = Position { line: 3, column: 1 };
     assert!(rt; renamable_at(rt.alloc(), &document, place)? == Some(WRAPPED_NAME));
+    let edits: [(Part, &[u8]); 3] = [((0, 0, 2), b"x"), ((2, 5, 6), b""), ((3, 1, 2), b"x")];
     match renaming_of(rt.alloc(), &document, place, b"x")? {
-        Renaming::Parts(found) => {
-            assert!(rt; found.as_slice() == [range_of((0, 0, 2)), WRAPPED_NAME].as_slice());
+        Renaming::Edits(found) => assert!(rt; are_texts(&found, &edits)),
+        _ => assert!(rt; false),
+    }
+    Ok(())
+}
+
+/// The edits that put a name in the place of one that goes on over a comment and a blank line, which
+/// are in none of them.
+#[rattlefmt::skip]
+const OVER_LINES: [(&[u8], [(Part, &[u8]); 4]); 3] = [
+    (b"new", [((0, 3, 4), b"n"), ((2, 1, 3), b"ew"), ((6, 5, 6), b"n"), ((9, 1, 3), b"ew")]),
+    (b"newer", [((0, 3, 4), b"new"), ((2, 1, 3), b"er"), ((6, 5, 6), b"new"), ((9, 1, 3), b"er")]),
+    (b"n", [((0, 3, 4), b""), ((2, 1, 3), b"n"), ((6, 5, 6), b""), ((9, 1, 3), b"n")]),
+];
+
+#[test]
+fn over_lines(rt: HostRuntime) -> Result<(), AllocError> {
+    let document = document_of(rt.alloc(), FOLDED)?;
+    let place = Position { line: 9, column: 2 };
+    for (new, edits) in OVER_LINES {
+        match renaming_of(rt.alloc(), &document, place, new)? {
+            Renaming::Edits(found) => assert!(rt; are_texts(&found, &edits), "{new:?}"),
+            _ => assert!(rt; false, "{new:?}"),
         }
+    }
+    Ok(())
+}
+
+/// A name of one byte would leave the first of its two lines blank.
+#[test]
+fn a_line_that_is_left_blank(rt: HostRuntime) -> Result<(), AllocError> {
+    let document = document_of(rt.alloc(), ALONE)?;
+    let place = Position { line: 0, column: 0 };
+    match renaming_of(rt.alloc(), &document, place, b"x")? {
+        Renaming::Refused(failure) => assert!(rt; failure == Failure::NoName),
+        _ => assert!(rt; false),
+    }
+    match renaming_of(rt.alloc(), &document, place, b"xy")? {
+        Renaming::Edits(found) => assert!(rt; found.len() == 3),
         _ => assert!(rt; false),
     }
     Ok(())

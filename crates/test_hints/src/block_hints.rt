@@ -1,12 +1,12 @@
 //! The hints on a block by its text alone.
-use lsp_hints::{Hint, HintKind, hints_of_block};
+use lsp_block_hints::{Hint, HintKind, hints_of_block};
 use std::test::Fail;
 
 // A hint: its kind, where its item begins, the item as it is written, and what the message quotes.
 type Row = (HintKind, usize, &'static [u8], &'static [u8]);
 
 #[rattlefmt::skip]
-static BLOCKS: [(&'static [u8], &'static [Row]); 32] = [
+static BLOCKS: [(&'static [u8], &'static [Row]); 34] = [
     // Nothing is wrong.
     (b"a|b,am,cols#80,cup=\\E[%i%p1%d;%p2%dH,bold=\\E[1m$<2.5*/>,use=c,\n", &[]),
     (b"", &[]),
@@ -41,6 +41,10 @@ static BLOCKS: [(&'static [u8], &'static [Row]); 32] = [
     (b"a,clear=\\E[Hbold=\\E[1m,\n", &[(HintKind::MissingComma, 2, b"clear=\\E[Hbold=\\E[1m", b"bold")]),
     (b"a,clear=\\E[H\n\tbold=\\E[1m,\n", &[(HintKind::MissingComma, 2, b"clear=\\E[H\n\tbold=\\E[1m", b"bold")]),
     (b"a,kf22=\\E[24$kfnd=\\E[1~,\n", &[(HintKind::MissingComma, 2, b"kf22=\\E[24$kfnd=\\E[1~", b"kfnd")]),
+    // After a boolean and a line break: the name of what is on the next line.
+    (b"a,am\n\tbce,cols#80,\n", &[(HintKind::MissingComma, 2, b"am\n\tbce", b"bce")]),
+    // No boolean, no line break, no capability on the next line, or a name that is in the tables.
+    (b"a,cols\n\tbce,ambce,am\n\tXX,am\n#\n\tbceX,hue\n\trs,\n", &[]),
     // A number or a boolean, a name that the value begins with, and a `=` alone are none.
     (b"a,clear=\\E[Hcols=,bel=bold=,rs1=\\E=,cr=cols#5,\n", &[]),
     // A head that holds an item: after its last bar, or on its next line.

@@ -1,5 +1,5 @@
 //! The hints on a block, and on the form of a file.
-use lsp_hints::{Hint, HintKind, file_hints, hints_of, merged, unknown_names};
+use lsp_hints::{Hint, HintKind, file_hints, hints_of, is_unknown_name, merged, unknown_names};
 use lsp_types::Severity;
 use std::alloc::AllocError;
 
@@ -24,6 +24,14 @@ const UNKNOWN: Hint = Hint {
     detail_start: 7,
     detail_end: 10,
 };
+
+#[test]
+fn whether_a_name_is_known(rt: HostRuntime) {
+    assert!(rt; is_unknown_name(b"Tcc") && is_unknown_name(b"kF64"));
+    // known, of a capability, and none that can be user-defined
+    assert!(rt; !is_unknown_name(b"Tc") && !is_unknown_name(b"kF16"));
+    assert!(rt; !is_unknown_name(b"am") && !is_unknown_name(b"co-ls"));
+}
 
 #[test]
 fn names_that_are_not_known(rt: HostRuntime) -> Result<(), AllocError> {

@@ -1,5 +1,5 @@
 //! The hints on items after a use.
-use lsp_hints::{Hint, HintKind, hints_after_uses};
+use lsp_block_hints::{Hint, HintKind, hints_after_uses};
 use std::test::Fail;
 use ti_base::Database;
 

@@ -62,9 +62,9 @@ fn what_is_said_of_a_failure(rt: HostRuntime) -> Result<(), AllocError> {
 #[test]
 fn what_is_said_of_a_capability(rt: HostRuntime) -> Result<(), AllocError> {
     let alloc = rt.alloc();
-    let unknown = capability_line(alloc, Tool::Tput, "zz", false)?;
-    assert!(&rt; unknown.as_str() == "ti-tput: unknown terminfo capability \"zz\"\n");
-    let bad = capability_line(alloc, Tool::Tput, "Ss", true)?;
-    assert!(&rt; bad.as_str() == "ti-tput: bad string \"Ss\"\n");
+    let unknown = capability_line(alloc, Tool::Tput, b"zz", false)?;
+    assert!(&rt; unknown.as_slice() == b"ti-tput: unknown terminfo capability 'zz'\n".as_slice());
+    let bad = capability_line(alloc, Tool::Tput, b"Ss", true)?;
+    assert!(&rt; bad.as_slice() == b"ti-tput: bad string 'Ss'\n".as_slice());
     Ok(())
 }

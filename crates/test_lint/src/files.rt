@@ -98,7 +98,7 @@ fn standard_input(rt: HostRuntime) -> Result<(), AllocError> {
     source.extend_from_slice(b"t,use=u,\n")?;
     let outcome = lint_input(rt.alloc(), github, source)?;
     let said =
-        "::error file=<stdin>,line=1,col=3,title=E6 MissingUse::u: No block has this name. Correct it, or add the block: installed entries are not searched.\n";
+        "::error file=<stdin>,line=1,col=3,title=E6 MissingUse::u: No block has this name. Correct it, or add the block: only ti-tic takes an installed entry.\n";
     assert!(&rt; is(&outcome, said, "1 error, 0 warnings in 1 file\n", 1));
     Ok(())
 }

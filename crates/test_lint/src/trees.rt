@@ -8,7 +8,15 @@ use tools_devices::{MemTree, Tree};
 pub const LOOSE: &[u8] = b"t,\n\tcr#\\r, bel=\\q, cols=80,\n\tcud1=^, colss#80,\n";
 
 /// The same with the fixes that are certain.
-pub const MENDED: &[u8] = b"t,\n\tcr=\\r, bel=q, cols#80,\n\tcud1=\\^, colss#80,\n";
+pub const MENDED: &[u8] = b"t,\n\tcr=\\r, bel=\\q, cols#80,\n\tcud1=\\^, colss#80,\n";
+
+/// A source with comments and a blank line in and after items that have fixes.
+pub const NOTED: &[u8] =
+    b"t,\n\tam\n# one\n\t=,\n\tco\n# two\n\n\tls=80,\n\tcud1=a\n# three\n\t^,\n# four\n";
+
+/// The same with the fixes that are certain, but for a sign without which its line would be blank.
+pub const NOTED_MENDED: &[u8] =
+    b"t,\n\tam\n# one\n\t=,\n\tco\n# two\n\n\tls#80,\n\tcud1=a\n# three\n\t\\^,\n# four\n";
 
 // Puts a file into a tree.
 fn put(tree: &mut MemTree, path: &str, bytes: &[u8]) -> Result<(), Fail> {
@@ -25,6 +33,7 @@ pub fn tree(alloc: Global) -> Result<MemTree, Fail> {
     put(&mut tree, "bad.ti", b"# a bad one\nt,\n\tcols#8x, Tc,\n")?;
     put(&mut tree, "user.ti", b"t,\n\tTc,\n")?;
     put(&mut tree, "loose.ti", LOOSE)?;
+    put(&mut tree, "noted.ti", NOTED)?;
     Ok(tree)
 }
 

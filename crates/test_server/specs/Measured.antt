@@ -1,7 +1,7 @@
 -- What the source for tests says of a text.
 use Rattle.std.specs.Prelude.{ℕ, ◌&&◌, List, [], ◌∷◌, Bool, codes, false, length, nat_eq, refl, true, if◌then◌else◌}
 use Rattle.serde_json.specs.Data.{Data, Items, array, boolean, item, no_items, number, string, unsigned}
-use Rattle.lsp_messages.specs.Messages.{Query, completion, hover, definition, references, symbols, highlights, folding, formatting, rename, prepare_rename, fixes}
+use Rattle.lsp_messages.specs.Messages.{Query, completion, hover, signature, definition, references, symbols, highlights, folding, formatting, rename, prepare_rename, fixes}
 use Rattle.lsp_values.specs.Shapes.{Said, said_answer, said_refusal}
 use Rattle.lsp_types.specs.declared.failures.Failure.TheVariants.{NoName}
 use Rattle.lsp_messages.specs.declared.clients.Client.{Client}
@@ -11,6 +11,7 @@ use Rattle.lsp_server.specs.Sayings.{HasNoFloats, SaidHasNoFloat, Sayings}
 abbrev pub word_of : Query → List ℕ
 word_of (completion place) = codes "completion"
 word_of (hover place) = codes "hover"
+word_of (signature place) = codes "signature"
 word_of (definition place) = codes "definition"
 word_of (references place with_declaration) = codes "references"
 word_of symbols = codes "symbols"
@@ -24,6 +25,7 @@ word_of (fixes range wanted) = codes "fixes"
 abbrev pub place_of : Query → Position
 place_of (completion place) = place
 place_of (hover place) = place
+place_of (signature place) = place
 place_of (definition place) = place
 place_of (references place with_declaration) = place
 place_of symbols = record { line = 0; column = 0 }
@@ -37,6 +39,7 @@ place_of (fixes range wanted) = range.start
 abbrev pub flag_of : Client → Query → Bool
 flag_of client (completion place) = false
 flag_of client (hover place) = false
+flag_of client (signature place) = false
 flag_of client (definition place) = false
 flag_of client (references place with_declaration) = with_declaration
 flag_of client symbols = client.nests_symbols

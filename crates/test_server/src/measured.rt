@@ -32,6 +32,7 @@ fn parts_of(client: Client, question: Question<'_>) -> (&str, Position, bool)
     match question {
         Question::Completion(place) => ("completion", place, false),
         Question::Hover(place) => ("hover", place, false),
+        Question::Signature(place) => ("signature", place, false),
         Question::Definition(place) => ("definition", place, false),
         Question::References {
             place,

@@ -21,7 +21,7 @@ pub const INITIALIZE: &str =
     r#"{"jsonrpc":"2.0","id":1,"method":"initialize","params":{"capabilities":{}}}"#;
 
 pub const READY: &str =
-    r#"{"id":1,"jsonrpc":"2.0","result":{"capabilities":{"codeActionProvider":false,"completionProvider":{"triggerCharacters":["="]},"definitionProvider":true,"documentFormattingProvider":true,"documentHighlightProvider":true,"documentSymbolProvider":true,"foldingRangeProvider":true,"hoverProvider":true,"positionEncoding":"utf-16","referencesProvider":true,"renameProvider":true,"textDocumentSync":{"change":2,"openClose":true},"workspaceSymbolProvider":true},"serverInfo":{"name":"ti-lsp","version":"1.0.0"}}}"#;
+    r#"{"id":1,"jsonrpc":"2.0","result":{"capabilities":{"codeActionProvider":false,"completionProvider":{"triggerCharacters":["="]},"definitionProvider":true,"documentFormattingProvider":true,"documentHighlightProvider":true,"documentSymbolProvider":true,"foldingRangeProvider":true,"hoverProvider":true,"positionEncoding":"utf-16","referencesProvider":true,"renameProvider":true,"signatureHelpProvider":{"triggerCharacters":["=","%"]},"textDocumentSync":{"change":2,"openClose":true},"workspaceSymbolProvider":true},"serverInfo":{"name":"ti-lsp","version":"1.0.0"}}}"#;
 
 // A client that asks which name a rename is of, and that takes code actions.
 const INITIALIZE_ABLE: &str =
@@ -32,10 +32,10 @@ const INITIALIZE_PLAIN: &str =
     r#"{"jsonrpc":"2.0","id":1,"method":"initialize","params":{"capabilities":{"textDocument":{"codeAction":{"codeActionLiteralSupport":{}}}}}}"#;
 
 const READY_FOR_PLAIN: &str =
-    r#"{"id":1,"jsonrpc":"2.0","result":{"capabilities":{"codeActionProvider":{"codeActionKinds":["quickfix"]},"completionProvider":{"triggerCharacters":["="]},"definitionProvider":true,"documentFormattingProvider":true,"documentHighlightProvider":true,"documentSymbolProvider":true,"foldingRangeProvider":true,"hoverProvider":true,"positionEncoding":"utf-16","referencesProvider":true,"renameProvider":true,"textDocumentSync":{"change":2,"openClose":true},"workspaceSymbolProvider":true},"serverInfo":{"name":"ti-lsp","version":"1.0.0"}}}"#;
+    r#"{"id":1,"jsonrpc":"2.0","result":{"capabilities":{"codeActionProvider":{"codeActionKinds":["quickfix"]},"completionProvider":{"triggerCharacters":["="]},"definitionProvider":true,"documentFormattingProvider":true,"documentHighlightProvider":true,"documentSymbolProvider":true,"foldingRangeProvider":true,"hoverProvider":true,"positionEncoding":"utf-16","referencesProvider":true,"renameProvider":true,"signatureHelpProvider":{"triggerCharacters":["=","%"]},"textDocumentSync":{"change":2,"openClose":true},"workspaceSymbolProvider":true},"serverInfo":{"name":"ti-lsp","version":"1.0.0"}}}"#;
 
 const READY_FOR_ABLE: &str =
-    r#"{"id":1,"jsonrpc":"2.0","result":{"capabilities":{"codeActionProvider":{"codeActionKinds":["quickfix"]},"completionProvider":{"triggerCharacters":["="]},"definitionProvider":true,"documentFormattingProvider":true,"documentHighlightProvider":true,"documentSymbolProvider":true,"foldingRangeProvider":true,"hoverProvider":true,"positionEncoding":"utf-16","referencesProvider":true,"renameProvider":{"prepareProvider":true},"textDocumentSync":{"change":2,"openClose":true},"workspaceSymbolProvider":true},"serverInfo":{"name":"ti-lsp","version":"1.0.0"}}}"#;
+    r#"{"id":1,"jsonrpc":"2.0","result":{"capabilities":{"codeActionProvider":{"codeActionKinds":["quickfix"]},"completionProvider":{"triggerCharacters":["="]},"definitionProvider":true,"documentFormattingProvider":true,"documentHighlightProvider":true,"documentSymbolProvider":true,"foldingRangeProvider":true,"hoverProvider":true,"positionEncoding":"utf-16","referencesProvider":true,"renameProvider":{"prepareProvider":true},"signatureHelpProvider":{"triggerCharacters":["=","%"]},"textDocumentSync":{"change":2,"openClose":true},"workspaceSymbolProvider":true},"serverInfo":{"name":"ti-lsp","version":"1.0.0"}}}"#;
 
 // A client that takes symbols as a hierarchy.
 const INITIALIZE_NESTING: &str =
@@ -315,6 +315,7 @@ const QUESTIONS: [Session; 9] = [
             r#"{"id":4,"method":"textDocument/foldingRange","params":{"textDocument":{"uri":"v"}}}"#,
             r#"{"id":5,"method":"textDocument/formatting","params":{"options":{"insertSpaces":true,"tabSize":4},"textDocument":{"uri":"u"}}}"#,
             r#"{"id":6,"method":"workspace/symbol","params":{"query":"q"}}"#,
+            r#"{"id":7,"method":"textDocument/signatureHelp","params":{"context":{"isRetrigger":false,"triggerKind":1},"position":{"character":7,"line":6},"textDocument":{"uri":"v"}}}"#,
         ],
         answers: &[
             READY,
@@ -330,6 +331,7 @@ const QUESTIONS: [Session; 9] = [
             r#"{"id":4,"jsonrpc":"2.0","result":["v",2,"folding",0,0,false]}"#,
             r#"{"id":5,"jsonrpc":"2.0","result":["u",3,"formatting",0,0,false]}"#,
             r#"{"id":6,"jsonrpc":"2.0","result":[["u",3,"q"],["v",2,"q"]]}"#,
+            r#"{"id":7,"jsonrpc":"2.0","result":["v",2,"signature",6,7,false]}"#,
         ],
         end: Err(FrameError::Broken),
     },

@@ -1,5 +1,5 @@
 //! What is said of strings.
-use lsp_strings::{explained, place_in, push_example, samples_for, spelled};
+use lsp_strings::{explained, parameter_at, place_in, push_example, samples_for, spelled};
 use std::process::Abort;
 use std::test::Fail;
 use ti_param::Value;
@@ -82,5 +82,29 @@ fn places_in_source_text(rt: HostRuntime) -> Result<(), Fail> {
     assert!(rt; place_in(alloc, b"^[[%d", 0)? == Some(0));
     assert!(rt; place_in(alloc, b"%d", 2)? == None);
     assert!(rt; spelled(alloc, b"\x1b[ a")?.as_str() == "\\E[ a");
+    Ok(())
+}
+
+/// Offsets of the source text of `cup` with the parameter that is the last one there: before the
+/// first code that pushes one, at that code, past it, at the second, and after the text.
+static LAST: [(usize, Option<usize>); 6] = [
+    (4, None),
+    (5, Some(0)),
+    (10, Some(0)),
+    (11, Some(1)),
+    (16, Some(1)),
+    (17, None),
+];
+
+#[test]
+fn parameters_at_places(rt: HostRuntime) -> Result<(), Fail> {
+    let alloc = rt.alloc();
+    for (offset, last) in LAST.iter() {
+        let found = parameter_at(alloc, b"\\E[%i%p1%d;%p2%dH", *offset)?;
+        assert!(rt; found == *last, "{offset}");
+    }
+    // a `%%` begins no other code, and a `^` at the end spells nothing
+    assert!(rt; parameter_at(alloc, b"%%p1", 3)? == None);
+    assert!(rt; parameter_at(alloc, b"%p1^", 0)? == None);
     Ok(())
 }

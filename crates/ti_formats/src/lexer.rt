@@ -90,10 +90,13 @@ impl<'a> Lexer<'a> {
         Some(Placed { place, token })
     }
 
-    /// Takes all tokens that are left, and returns where the format is stuck, if it is.
+    /// Takes all tokens that are left, and returns where the format is stuck, if it is. No token is
+    /// left then, and where it is stuck is still known.
     #[inline(always)]
     pub fn end(&mut self) -> Option<usize>
-        ensures { result ≡ (left_of self.old).stop }
+        ensures place { result ≡ (left_of self.old).stop }
+        ensures tokens { (left_of self.new).tokens ≡ [] }
+        ensures stop { (left_of self.new).stop ≡ (left_of self.old).stop }
     {
         while self.next_token().is_some() {}
         self.stop()

@@ -2,30 +2,14 @@
 //!
 //! - `command`: what the words of the command line ask for
 //! - `environment`: the names of the entries that are installed
-//! - `terminfo`: a source as the server holds and shows it; `answering` answers questions about it,
-//!   `offers` has the capabilities as a completion offers them and `installed_offers` the names of
-//!   installed entries, `hovering` says what a place is on,
-//!   `laying` lays out and folds, `renaming` renames, `searching` finds entries by parts of their
-//!   names, `fixing` says what is offered against faults, and `showing` writes diagnostics and
-//!   hints
 #![tactic(auto)]
 
-mod answering;
 mod command;
 mod environment;
-mod fixing;
-mod hovering;
-mod installed_offers;
-mod laying;
-mod offers;
-mod renaming;
-mod searching;
-mod showing;
-mod terminfo;
 
 use crate::command::{Task, asked};
 use crate::environment::installed_names;
-use crate::terminfo::Terminfo;
+use lsp_answers::Terminfo;
 use lsp_frames::{Buffered, FrameError};
 use lsp_server::{Server, serve};
 use std::process::ExitCode;

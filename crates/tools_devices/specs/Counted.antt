@@ -1,5 +1,5 @@
 -- Devices with a count of their failures and of their reads (own).
-use Rattle.std.specs.Prelude.{ℕ, List, [], ◌∷◌, zero, suc, Option, Result, Ok, Err}
+use Rattle.std.specs.Prelude.{◌≡◌, ℕ, List, [], ◌∷◌, zero, suc, Option, Result, Ok, Err}
 use Rattle.tools_devices.specs.declared.counted.Counted.{Counted}
 
 -- the device, unchanged
@@ -13,6 +13,19 @@ failures_of c = c.failures.count
 -- how often it was read from
 abbrev pub reads_of : {D : Type 0} → Counted D → ℕ
 reads_of c = c.reads.count
+
+-- how many writes came after the last flush
+abbrev pub unflushed_of : {D : Type 0} → Counted D → ℕ
+unflushed_of c = c.unflushed.count
+
+-- what was written is flushed
+abbrev pub IsFlushed : {D : Type 0} → Counted D → Type 0
+IsFlushed c = unflushed_of c ≡ 0
+
+-- a flush that does not fail leaves no write unflushed
+abbrev pub unflushed_after : {X E : Type 0} → Result X E → ℕ → ℕ
+unflushed_after (Ok x) unflushed = 0
+unflushed_after (Err e) unflushed = unflushed
 
 -- a call that returns a fault is one failure
 abbrev pub failed_read : {X E : Type 0} → Result X E → ℕ

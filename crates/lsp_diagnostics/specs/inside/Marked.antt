@@ -36,18 +36,18 @@ on_line number mark = record {
   end = record { line = number; column = mark.end.column };
 }
 
--- the diagnostic of a fault for which that is shown, in a source whose first block begins on the
--- line of that number, counted from 1
-abbrev pub marked_diagnostic : List (List ℕ) → ℕ → Range → ExtendedSourceFault → Shown
-marked_diagnostic texts first mark fault = record {
+-- the diagnostic of a fault for which that is shown, in a source that may have these capabilities and
+-- whose first block begins on the line of that number, counted from 1
+abbrev pub marked_diagnostic : Capabilities → List (List ℕ) → ℕ → Range → ExtendedSourceFault → Shown
+marked_diagnostic capabilities texts first mark fault = record {
   range = on_line (number_of texts first fault - 1) mark;
   problem = problem_of fault;
-  message = message_of fault;
+  message = message_of capabilities fault;
 }
 
 -- the diagnostics of faults, one by one
-abbrev pub marked_diagnostics : List (List ℕ) → ℕ → List Range → List ExtendedSourceFault → List Shown
-marked_diagnostics texts first [] faults = []
-marked_diagnostics texts first (mark ∷ marks) [] = []
-marked_diagnostics texts first (mark ∷ marks) (fault ∷ faults) =
-    marked_diagnostic texts first mark fault ∷ marked_diagnostics texts first marks faults
+abbrev pub marked_diagnostics : Capabilities → List (List ℕ) → ℕ → List Range → List ExtendedSourceFault → List Shown
+marked_diagnostics capabilities texts first [] faults = []
+marked_diagnostics capabilities texts first (mark ∷ marks) [] = []
+marked_diagnostics capabilities texts first (mark ∷ marks) (fault ∷ faults) =
+    marked_diagnostic capabilities texts first mark fault ∷ marked_diagnostics capabilities texts first marks faults

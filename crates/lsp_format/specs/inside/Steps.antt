@@ -1,7 +1,7 @@
 -- The steps of writing a block, and its parts in memory as plain data (own).
-use Rattle.std.specs.Prelude.{◌≡◌, ℕ, List, [], ◌∷◌, ◌++◌, Bool, true, false, if◌then◌else◌, map}
+use Rattle.std.specs.Prelude.{◌≡◌, ℕ, List, [], ◌∷◌, ◌++◌, true, false, if◌then◌else◌, map}
 use Rattle.ti_text.specs.Texts.{is_empty}
-use Rattle.ti_source.specs.Items.{ItemPiece, item_piece}
+use Rattle.ti_source.specs.Items.{ItemPiece}
 use Rattle.lsp_format.specs.Layout.{Place as PlaceSeen, laid}
 use Rattle.lsp_format.specs.Pieces.{Entry as EntrySeen, KeptLine as LineSeen, Piece}
 use Rattle.lsp_format.specs.declared.entries.Entry.{Entry}

@@ -33,7 +33,7 @@ const CLAP_SAYS: [(Tool, &[&str], &str); 5] = [
 ];
 
 // Words that clap takes and no tool does, and what is said.
-const TOOLS_SAY: [(Tool, &[&str], &str); 5] = [
+const TOOLS_SAY: [(Tool, &[&str], &str); 4] = [
     (
         Tool::Tput,
         &["tput"],
@@ -43,13 +43,6 @@ const TOOLS_SAY: [(Tool, &[&str], &str); 5] = [
         Tool::Tput,
         &["tput", "-S", "cup"],
         "ti-tput: bad usage: -S takes no capability\n",
-    ),
-    (
-        Tool::Tput,
-        &[
-            "tput", "u0", "0", "1", "2", "3", "4", "5", "6", "7", "8", "9",
-        ],
-        "ti-tput: bad usage: more than nine parameters\n",
     ),
     (
         Tool::Infocmp,

@@ -1,9 +1,9 @@
-use Rattle.std.proofs.Common.{◌≡◌, ◌++◌, ◌∷◌, [], ◌∙◌, Bool, sym, ap, true, false, rules, map, List, ℕ, String}
+use Rattle.std.proofs.Common.{◌≡◌, ◌++◌, ◌∷◌, [], ◌∙◌, sym, true, false, rules, map}
 use Rattle.std.specs.List.{list_any}
 use Rattle.std.specs.Str.{bytes_eq}
 use Rattle.std.specs.String.{string_bytes}
-use Rattle.everyday_directories.specs.Directories.{is_among, each_once}
-use Rattle.everyday_directories.proofs.Once.{Kept, among-strings, kept_next, kept_same, listed_none}
+use Rattle.everyday_directories.specs.Directories.{each_once}
+use Rattle.everyday_directories.proofs.Once.{among-strings, kept_next, kept_same, listed_none}
 use Rattle.everyday_directories.proofs.Searches.{paths-from}
 use Rattle.everyday_directories.proofs.directories.each_once.Goals as goal
 use Rattle.everyday_directories.proofs.directories.each_once.Goals.{then-not-is_among+in_ok-add_directory, else-not-is_among}

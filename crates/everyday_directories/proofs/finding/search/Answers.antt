@@ -1,7 +1,7 @@
-use Rattle.std.proofs.Common.{◌≡◌, ◌+◌, ℕ, Option, Some, None, rules, ◌∙◌}
+use Rattle.std.proofs.Common.{◌≡◌, ◌+◌, Some, None, rules, ◌∙◌}
 use Rattle.std.specs.String.{string_bytes}
 use Rattle.std.proofs.lemmas.List.{drop_all}
-use Rattle.tools_devices.specs.Tree.{FileAt, FindsFile}
+use Rattle.tools_devices.specs.Tree.{FindsFile}
 use Rattle.everyday_directories.specs.Finding.{front_size}
 use Rattle.everyday_directories.proofs.Searches.{Finds-absent, Finds-failed, Finds-here, Finds-none, HasFailed-more, paths-from}
 use Rattle.everyday_directories.proofs.finding.search.Goals as goal

@@ -1,4 +1,4 @@
-use Rattle.std.proofs.Common.{◌≡◌, ◌+◌, List, ℕ, Option, drop, map}
+use Rattle.std.proofs.Common.{◌≡◌, ℕ, Option, drop, map}
 use Rattle.std.specs.String.{string_bytes}
 use Rattle.tools_devices.specs.Tree.{FileAt}
 use Rattle.everyday_directories.specs.Finding.{Finds, HasFailed}

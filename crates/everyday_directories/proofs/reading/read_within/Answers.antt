@@ -1,5 +1,4 @@
-use Rattle.std.proofs.Common.{◌+◌, ◌<◌, ◌≤◌, ℕ, List, length, take, add-one, inl, inr, refl, sym, subst, arith}
-use Rattle.std.proofs.lemmas.List.{length-take-le}
+use Rattle.std.proofs.Common.{◌+◌, ◌<◌, ◌≤◌, ℕ, List, length, take, add-one, inl, inr, refl, subst, arith}
 use Rattle.ti_layout.specs.declared.fault.ReadError.TheVariants.{Counts}
 use Rattle.ti_layout.specs.declared.view.View.{View}
 use Rattle.user_extension.specs.Reading.{FailsToRead}

@@ -1,9 +1,10 @@
 -- fixes are made only if that is asked for
-use Rattle.std.proofs.Common.{◌≡◌, ◌≢◌, ◌∙◌, List, ℕ, [], ap, map, sym}
+use Rattle.std.proofs.Common.{◌≢◌, ◌∙◌, [], map, sym}
 use Rattle.std.proofs.lemmas.Result.{IfOk-weaker}
+use Rattle.lsp_plain.specs.Reading.{without_mark}
 use Rattle.everyday_fmt.specs.Fates.{held}
-use Rattle.everyday_lint.specs.Checking.{made_in, offers_in}
-use Rattle.everyday_lint.specs.Offers.{OfferSeen, made_seen}
+use Rattle.everyday_lint.specs.Checking.{made_in}
+use Rattle.everyday_lint.specs.Offers.{made_seen}
 use Rattle.everyday_lint.proofs.Mended.{finds_some, may_change, on_err_weaker, some_made}
 use Rattle.everyday_lint.proofs.files.lint_made.Goals as goal
 
@@ -14,17 +15,16 @@ returns-clause-done g c =
     let offers = c.args.offers.now in
     let some : map made_seen offers ≢ [] = some_made made_seen offers (sym c.is_empty.ensures ∙ c.if-is_empty.false) in
     IfOk-weaker c.mend_file.result _ _
-    (λ fate mends. finds_some c.args.options c.args.path.now c.args.document.now c.text.result.now (map made_seen offers) before after fate c.text.ensures
-    c.requires some mends)
+    (λ fate mends. finds_some c.args.options c.args.path.now c.args.source.now (map made_seen offers) before after fate c.requires.offers some mends)
     c.mend_file.ensures.done
 
 pub returns-clause-refused : goal.returns-clause-refused
 returns-clause-refused g c =
     let options = c.args.options in
-    let source = c.args.document.now in
+    let source = c.args.source.now in
     let offers = c.args.offers.now in
     let some : map made_seen offers ≢ [] = some_made made_seen offers (sym c.is_empty.ensures ∙ c.if-is_empty.false) in
-    let made_some : made_in options source ≢ [] = λ none. some (c.requires ∙ none) in
+    let made_some : made_in options source ≢ [] = λ none. some (c.requires.offers ∙ none) in
     on_err_weaker c.mend_file.result _ _
-    (may_change options.fix source _ c.args.path.now (g.T.Tree.files c.args.tree.now) (g.T.Tree.files c.mend_file.new.tree) made_some)
+    (may_change options.fix (without_mark source) _ c.args.path.now (g.T.Tree.files c.args.tree.now) (g.T.Tree.files c.mend_file.new.tree) made_some)
     c.mend_file.ensures.refused

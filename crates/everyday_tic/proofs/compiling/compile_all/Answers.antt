@@ -1,4 +1,4 @@
-use Rattle.std.proofs.Common.{◌≡◌, ◌∙◌, Bor, Err, List, Vec, ap, inl, inr, length, option_map, subst, sym}
+use Rattle.std.proofs.Common.{◌≡◌, ◌∙◌, Bor, Err, List, ap, inl, inr, length, option_map, subst, sym}
 use Rattle.std.proofs.lemmas.Result.{IfOk-weaker}
 use Rattle.base_meaning.specs.Compiled.{EntryState}
 use Rattle.user_compiling.specs.declared.compiled.Compiled.{Compiled}

@@ -1,4 +1,3 @@
-use Rattle.std.proofs.Common.{Ok, Err}
 use Rattle.everyday_tic.proofs.Becoming.{both_ok}
 use Rattle.everyday_tic.proofs.compiling.found_or_sought.Goals as goal
 

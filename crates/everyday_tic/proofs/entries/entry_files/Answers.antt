@@ -1,4 +1,4 @@
-use Rattle.std.proofs.Common.{◌≡◌, ◌+◌, ◌<◌, ◌≤◌, ◌==◌, ℕ, not, length, refl, sym, ap, ◌∙◌, arith, rules}
+use Rattle.std.proofs.Common.{◌≡◌, ◌+◌, ◌==◌, not, length, ap, arith}
 use Rattle.std.specs.Option.{option_map}
 use Rattle.tools_devices.specs.Placing.{entries}
 use Rattle.everyday_tic.specs.Entries.{block_files}

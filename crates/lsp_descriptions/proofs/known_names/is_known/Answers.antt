@@ -1,19 +1,16 @@
-use Rattle.std.proofs.Common.{None, Option, ap, refl}
+use Rattle.std.proofs.Common.{Option, ap, refl, ◌++◌, ◌∙◌}
 use Rattle.std.specs.Option.{is_some}
-use Rattle.lsp_descriptions.specs.UserDescriptions.{UserDescribed, described_rows, has_name, modified_keys, user_descriptions}
+use Rattle.lsp_descriptions.specs.UserDescriptions.{UserDescribed, described_rows, has_name, modified_keys, shifted_keys, user_descriptions}
 use Rattle.lsp_descriptions.proofs.UserRows.{in_first, in_second}
 use Rattle.lsp_descriptions.proofs.known_names.is_known.Goals as goal
 
 pub returns-in-Some : goal.returns-in-Some
 returns-in-Some c =
-    ap (λ (o : Option UserDescribed). is_some o) (in_first (has_name c.args.name.now) described_rows modified_keys user_descriptions _ refl c.in-Some.ensures)
-
-pub returns-in-Some-key_named : goal.returns-in-Some-key_named
-returns-in-Some-key_named c =
     ap (λ (o : Option UserDescribed). is_some o)
-    (in_second (has_name c.args.name.now) described_rows modified_keys user_descriptions _ refl c.in_default.ensures c.in-Some-key_named.ensures)
+    (in_first (has_name c.args.name.now) described_rows (modified_keys ++ shifted_keys) user_descriptions _ refl c.in-Some.ensures)
 
-pub returns-in-None : goal.returns-in-None
-returns-in-None c =
-    ap (λ (o : Option UserDescribed). is_some o)
-    (in_second (has_name c.args.name.now) described_rows modified_keys user_descriptions None refl c.in_default.ensures c.in-None.ensures)
+pub returns : goal.returns
+returns c =
+    c.is_key.ensures
+    ∙ ap (λ (o : Option UserDescribed). is_some o)
+    (in_second (has_name c.args.name.now) described_rows (modified_keys ++ shifted_keys) user_descriptions _ refl c.in_default.ensures refl)

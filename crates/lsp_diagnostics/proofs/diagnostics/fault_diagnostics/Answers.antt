@@ -50,9 +50,9 @@ pub loop-at-init : goal.loop-at-init
 loop-at-init c =
     let texts = c.args.database.now in
     let shown = marked_shown c.args.capabilities texts c.args.first (map fault_seen c.args.marked.now.faults.items) c.args.marked.now.marks.items c.requires.marked in
-    ap (λ (ds : List Diagnostic). map diagnostic_seen ds ++ marked_diagnostics texts c.args.first c.as_slice-marks.result.now (map fault_seen c.as_slice-faults.result.now))
+    ap (λ (ds : List Diagnostic). map diagnostic_seen ds ++ marked_diagnostics c.args.capabilities texts c.args.first c.as_slice-marks.result.now (map fault_seen c.as_slice-faults.result.now))
     c.in_ok-all.ensures.items
-    ∙ ap₂ (λ (ms : List Range) (fs : List ExtendedFault). marked_diagnostics texts c.args.first ms (map fault_seen fs)) c.as_slice-marks.ensures.value
+    ∙ ap₂ (λ (ms : List Range) (fs : List ExtendedFault). marked_diagnostics c.args.capabilities texts c.args.first ms (map fault_seen fs)) c.as_slice-marks.ensures.value
     c.as_slice-faults.ensures.value
     ∙ shown
 
@@ -81,14 +81,14 @@ loop-at-preserved c =
     let many = as_many_marks c.args.capabilities texts c.args.marked.now.faults.items c.args.marked.now.marks.items c.requires.marked in
     let there : c.loop-at.at < length marks =
     omega (arith, c.loop-at-test.true, many, ap length c.as_slice-faults.ensures.value, ap length c.as_slice-marks.ensures.value) in
-    let seen = shown_marked texts first start c.number_of-number.result c.mark_at.result c.on_line-range.result (fault_seen fault) (diagnostic_seen shown)
+    let seen = shown_marked c.args.capabilities texts first start c.number_of-number.result c.mark_at.result c.on_line-range.result (fault_seen fault) (diagnostic_seen shown)
     c.requires.first line.0 lines number c.on_line-range.ensures c.in_ok-diagnostic_of.ensures in
-    ap (λ (ss : List Shown). ss ++ marked_diagnostics texts first (drop (c.loop-at.at + 1) marks) (map fault_seen (drop (c.loop-at.at + 1) faults)))
+    ap (λ (ss : List Shown). ss ++ marked_diagnostics c.args.capabilities texts first (drop (c.loop-at.at + 1) marks) (map fault_seen (drop (c.loop-at.at + 1) faults)))
     (ap (map diagnostic_seen) c.in_ok-push.ensures.items ∙ map-append diagnostic_seen all (shown ∷ []))
-    ∙ one_more_shown texts first marks faults c.loop-at.at c.mark_at.result fault (diagnostic_seen shown) (map diagnostic_seen all) _
+    ∙ one_more_shown c.args.capabilities texts first marks faults c.loop-at.at c.mark_at.result fault (diagnostic_seen shown) (map diagnostic_seen all) _
     (omega arith) c.index-faults-at.is there c.mark_at.ensures seen c.loop-at.invariant
 
 pub returns : goal.returns
 returns c =
-    all_shown c.args.database.now c.args.first c.as_slice-marks.result.now c.as_slice-faults.result.now c.loop-at.at
+    all_shown c.args.capabilities c.args.database.now c.args.first c.as_slice-marks.result.now c.as_slice-faults.result.now c.loop-at.at
     (map diagnostic_seen c.loop-at.all.items) _ (omega arith) c.loop-at.invariant

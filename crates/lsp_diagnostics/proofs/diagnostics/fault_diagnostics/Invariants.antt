@@ -8,5 +8,5 @@ use Rattle.lsp_diagnostics.proofs.diagnostics.fault_diagnostics.Given as goal
 -- the diagnostics so far and those of the rest are those of all
 abbrev pub invariant-loop-at : goal.invariant-loop-at
 invariant-loop-at l =
-    map diagnostic_seen l.all.items ++ marked_diagnostics l.database l.first (drop l.at l.marks) (map fault_seen (drop l.at l.faults))
-    ≡ fault_diagnostics l.database l.first None (faults_by l.fn.capabilities l.database)
+    map diagnostic_seen l.all.items ++ marked_diagnostics l.fn.capabilities l.database l.first (drop l.at l.marks) (map fault_seen (drop l.at l.faults))
+    ≡ fault_diagnostics l.fn.capabilities l.database l.first None (faults_by l.fn.capabilities l.database)

@@ -1,4 +1,4 @@
-use Rattle.lsp_features.proofs.Following.{renamed_follow}
+use Rattle.lsp_features.proofs.RenamesFollow.{renamed_follow}
 use Rattle.lsp_features.proofs.renaming.renamed_parts_follow.Goals as goal
 
 pub returns : goal.returns

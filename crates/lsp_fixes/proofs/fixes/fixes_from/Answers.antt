@@ -16,5 +16,5 @@ returns c =
     IfOk-weaker c.fixes_of_edits.result (λ fixes. map fix_seen fixes.items ≡ fixes_in line block (map edit_seen edits))
     (λ fixes. map fix_seen fixes.items ≡ spec.fixes_from c.args.capabilities blocks c.args.end c.args.spot)
     (λ fixes e. fixes_held c.args.capabilities blocks c.args.end c.args.spot block edits (map fix_seen fixes.items) (text_is blocks c.args.spot.at block c.text-block.ensures)
-    (c.in_ok-edits.ensures ∙ ap (edits_in c.args.capabilities blocks) c.stretch_to.ensures) e)
+    (c.in_ok-edits.ensures ∙ ap (edits_in c.args.capabilities blocks) c.stretch_to-stretch.ensures) e)
     c.fixes_of_edits.ensures

@@ -3,5 +3,5 @@ use Rattle.lsp_fixes.specs.Edits.{edit_seen}
 use Rattle.lsp_fixes.specs.Fixes.{fix_seen, fixes_in}
 use Rattle.lsp_fixes.proofs.fixes.fixes_of_edits.Given as goal
 
-abbrev pub invariant-loop-edit : goal.invariant-loop-edit
-invariant-loop-edit l = map fix_seen l.fixes.items ≡ fixes_in l.line l.block (map edit_seen l.yielded)
+abbrev pub invariant-loop-wide : goal.invariant-loop-wide
+invariant-loop-wide l = map fix_seen l.fixes.items ≡ fixes_in l.line l.block (map edit_seen l.yielded)

@@ -12,7 +12,7 @@ returns-in_default-clause-list c =
 
 pub returns-in_default-clause-stop : goal.returns-in_default-clause-stop
 returns-in_default-clause-stop c =
-    c.end-stop.ensures ∙ c.in_default.ensures.stop ∙ stop_read c.args.format.now _ c.new-lexer.ensures.reading
+    c.end-stop.ensures.place ∙ c.in_default.ensures.stop ∙ stop_read c.args.format.now _ c.new-lexer.ensures.reading
 
 pub returns-clause-list : goal.returns-clause-list
 returns-clause-list c =

@@ -10,11 +10,11 @@ use Rattle.ti_formats.proofs.taken.parameters.Goals as goal
 pub returns-in-Some-clause-none : goal.returns-in-Some-clause-none
 returns-in-Some-clause-none c =
     let stuck : stuck_place c.args.format.now ≡ Some c.in-Some.field-0 =
-    sym (reading_stop _ _ c.new-lexer.ensures.reading) ∙ sym c.add_all.ensures.stop ∙ sym c.in-Some.ensures in
+    sym (reading_stop _ _ c.new-lexer.ensures.reading) ∙ sym c.add_all.ensures.stop ∙ sym c.in-Some.ensures.place in
     (λ none. (c.in-Some.field-0, ((is_computed c.args.format.now).stuck c.in-Some.field-0).1 stuck), λ any. refl)
 
 whole : (c : goal.After-parameters) → stuck_place c.args.format.now ≡ None
-whole c = sym (reading_stop _ _ c.new-lexer.ensures.reading) ∙ sym c.add_all.ensures.stop ∙ sym c.in-None.ensures
+whole c = sym (reading_stop _ _ c.new-lexer.ensures.reading) ∙ sym c.add_all.ensures.stop ∙ sym c.in-None.ensures.place
 
 tree : (c : goal.After-parameters) → IsTree c.args.format.now (tree_of c.args.format.now)
 tree c = ((is_computed c.args.format.now).tree (tree_of c.args.format.now)).1 (whole c, refl)

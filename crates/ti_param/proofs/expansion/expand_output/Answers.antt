@@ -12,7 +12,7 @@ use Rattle.ti_param.proofs.expansion.expand_output.Goals as goal
 
 stuck : (c : goal.After-drop-machine-inside) → stuck_place c.args.format.now ≡ Some c.in-Some.place
 stuck c =
-    sym (reading_stop _ _ c.new-lexer.ensures.reading) ∙ sym c.run-ran.ensures.stop ∙ sym c.in-Some.ensures
+    sym (reading_stop _ _ c.new-lexer.ensures.reading) ∙ sym c.run-ran.ensures.stop ∙ sym c.in-Some.ensures.place
 
 pub returns-in-Some-clause-bad_format : goal.returns-in-Some-clause-bad_format
 returns-in-Some-clause-bad_format c = refused-bad_format c.args.format.now (BadFormat c.in-Some.place) (stuck c)
@@ -21,7 +21,7 @@ returns-in-Some-clause-bad_format c = refused-bad_format c.args.format.now (BadF
 
 whole-in_err : (c : goal.After-drop-machine-inside-in_err-ran) → stuck_place c.args.format.now ≡ None
 whole-in_err c =
-    sym (reading_stop _ _ c.new-lexer.ensures.reading) ∙ sym c.run-ran.ensures.stop ∙ sym c.in_default.ensures
+    sym (reading_stop _ _ c.new-lexer.ensures.reading) ∙ sym c.run-ran.ensures.stop ∙ sym c.in_default.ensures.place
 
 runs-in_err : (c : goal.After-drop-machine-inside-in_err-ran) → Runs c.args.format.now c.new-machine.result (Err c.in_err-ran.field-0.0) c.run-ran.new.machine
 runs-in_err c = λ t tree.
@@ -44,7 +44,7 @@ returns-in_err-ran-clause-memory c = λ _. run-memory c.args.format.now (whole-i
 
 whole : (c : goal.After-finish) → stuck_place c.args.format.now ≡ None
 whole c =
-    sym (reading_stop _ _ c.new-lexer.ensures.reading) ∙ sym c.run-ran.ensures.stop ∙ sym c.in_default.ensures
+    sym (reading_stop _ _ c.new-lexer.ensures.reading) ∙ sym c.run-ran.ensures.stop ∙ sym c.in_default.ensures.place
 
 runs : (c : goal.After-finish) → Runs c.args.format.now c.new-machine.result (Ok c.in_ok-ran.field-0) c.run-ran.new.machine
 runs c = λ t tree.

@@ -10,6 +10,3 @@ loop-smaller c = one-less _ _ _ c.next_token.ensures.token c.loop-test.ensures
 
 pub loop-preserved : goal.loop-preserved
 loop-preserved c = c.next_token.ensures.stop ∙ c.loop.invariant
-
-pub returns : goal.returns
-returns c = c.stop.ensures ∙ c.next_token.ensures.stop ∙ c.loop.invariant
