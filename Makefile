@@ -10,8 +10,10 @@
 ##   make package    checks pages, completions, install and packages
 ##   make newcomers  runs the commands of the pages in a new system of Debian, as root
 ##   make hostile    runs malicious inputs of full size, and 20,000 random ones
-##   make wrong-bodies   tries the further wrong bodies, which the prover must refuse too
-##   make library    builds the C library: libti.a, libti.so.1 and ti.pc
+##   make audit      tries all wrong bodies, which the prover must refuse; with CRATES="A B" those
+##                   of some crates, with SINCE=COMMIT those of the crates that changed since it
+##                   and of those above them
+##   make library    builds the C library: libti.a, libti.so.2 and ti.pc
 ##   make tinfo      builds the C library and libtinfo.so.6 over it, for programs that
 ##                   are built for ncurses's
 ##   make lsp        builds the language server, ti-lsp
@@ -59,7 +61,7 @@ EXAMPLES = $(wildcard examples/*)
 # lead to the examples, and those to what is not below DOCDIR become their words
 DOCS = README.md SECURITY.md $(wildcard docs/*.md docs/*.svg)
 LINKS = -e 's!\]\((\.\./)?editors/!](\1examples/editors/!g' \
-	-e 's!\[([^]]*)\]\((\.\./)?(man|include|CHANGELOG|CONTRIBUTING|LICENSE)[^)]*\)!\1!g'
+	-e 's!\[([^]]*)\]\((\.\./)?(man|include|bindings|CHANGELOG|CONTRIBUTING|LICENSE)[^)]*\)!\1!g'
 # what is for one editor and runs as it is, and what a user copies
 VIM_FILES = $(patsubst editors/vim/%,%,$(wildcard editors/vim/*/terminfo.vim))
 EDITORS = $(wildcard $(addprefix editors/,*.el *.json *.lua *.toml *.vim *.xml textmate/* vim/*/* vscode/*))
@@ -70,19 +72,19 @@ PAGES = man/ti.1 man/ti-profile-tic.1 man/ti-profile-infocmp.1 man/ti-profile-tp
 # the links to ti-everyday
 TOOL_NAMES = ti-tic ti-infocmp ti-tput ti-fmt ti-lint
 LIBRARY = crates/ti_c/out/lib
-HEADERS = ti.h ti_names.h
+HEADERS = ti.h ti.hpp ti_names.h
 # what ti.h declares: each name leads to the page
 CALLS := $(shell sed -n 's/.*\b\(ti_[a-z_]*\)\x28.*/\1/p' include/ti.h | sort -u)
-LIBRARY_FILES = $(addprefix $(INCLUDEDIR)/,$(HEADERS)) $(LIBDIR)/libti.a $(LIBDIR)/libti.so.1 $(LIBDIR)/libti.so \
+LIBRARY_FILES = $(addprefix $(INCLUDEDIR)/,$(HEADERS)) $(LIBDIR)/libti.a $(LIBDIR)/libti.so.2 $(LIBDIR)/libti.so \
 	$(LIBDIR)/pkgconfig/ti.pc $(MANDIR)/man3/ti.3 $(CALLS:%=$(MANDIR)/man3/%.3)
 PYTHON_FILES = ti/__init__.py ti/py.typed
 # not where the loader looks by itself: the system's libtinfo.so.6 stays the one that is found
 TINFODIR = $(LIBDIR)/ti
 TINFO = $(LIBRARY)/ti/libtinfo.so.6
-TINFO_FILES = $(TINFODIR)/libtinfo.so.6 $(BINDIR)/ti-run $(MANDIR)/man1/ti-run.1
+TINFO_FILES = $(TINFODIR)/libtinfo.so.6 $(TINFODIR)/ti-run.so $(BINDIR)/ti-run $(MANDIR)/man1/ti-run.1
 PC_VALUES = -e 's|@PREFIX@|$(PREFIX)|' -e 's|@LIBDIR@|$(LIBDIR)|' -e 's|@INCLUDEDIR@|$(INCLUDEDIR)|'
 
-.PHONY: all help check test cli integration package hostile wrong-bodies library tinfo lsp
+.PHONY: all help check test cli integration package hostile audit library tinfo lsp
 .PHONY: everyday bench newcomers
 .PHONY: install install-library install-python install-tinfo
 .PHONY: uninstall uninstall-library uninstall-python uninstall-tinfo
@@ -116,8 +118,8 @@ hostile: all lsp
 	python3 build/build.py dev_probe
 	python3 tests/hostile/run.py --all
 
-wrong-bodies:
-	tests/wrong-bodies
+audit:
+	tests/audit $(CRATES) $(if $(SINCE),--since $(SINCE))
 
 library:
 	python3 build/library.py
@@ -183,14 +185,14 @@ install-library:
 	install -d "$(DESTDIR)$(INCLUDEDIR)" "$(DESTDIR)$(LIBDIR)/pkgconfig" "$(DESTDIR)$(MANDIR)/man3"
 	install -m 644 $(addprefix include/,$(HEADERS)) "$(DESTDIR)$(INCLUDEDIR)"
 	install -m 644 $(LIBRARY)/libti.a "$(DESTDIR)$(LIBDIR)/libti.a"
-	install -m 755 $(LIBRARY)/libti.so.1 "$(DESTDIR)$(LIBDIR)/libti.so.1"
-	ln -sf libti.so.1 "$(DESTDIR)$(LIBDIR)/libti.so"
+	install -m 755 $(LIBRARY)/libti.so.2 "$(DESTDIR)$(LIBDIR)/libti.so.2"
+	ln -sf libti.so.2 "$(DESTDIR)$(LIBDIR)/libti.so"
 	sed $(PC_VALUES) include/ti.pc.in >"$(DESTDIR)$(LIBDIR)/pkgconfig/ti.pc"
 	chmod 644 "$(DESTDIR)$(LIBDIR)/pkgconfig/ti.pc"
 	install -m 644 man/ti.3 "$(DESTDIR)$(MANDIR)/man3/ti.3"
 	for call in $(CALLS); do ln -sf ti.3 "$(DESTDIR)$(MANDIR)/man3/$$call.3" || exit 1; done
 
-# it calls libti.so.1 by its name, so it runs with any version of Python
+# it calls libti.so.2 by its name, so it runs with any version of Python
 install-python:
 	for file in $(PYTHON_FILES); do \
 		install -D -m 644 "python/$$file" "$(DESTDIR)$(PYTHONDIR)/$$file" || exit 1; \
@@ -201,6 +203,7 @@ install-tinfo:
 	test -f $(TINFO) || $(MAKE) tinfo
 	install -d "$(DESTDIR)$(BINDIR)" "$(DESTDIR)$(TINFODIR)" "$(DESTDIR)$(MANDIR)/man1"
 	install -m 644 $(TINFO) "$(DESTDIR)$(TINFODIR)/libtinfo.so.6"
+	install -m 644 $(dir $(TINFO))ti-run.so "$(DESTDIR)$(TINFODIR)/ti-run.so"
 	sed "s|@LIBRARIES@|$$(realpath -m --relative-to='$(BINDIR)' '$(TINFODIR)')|" tinfo/ti-run.in \
 		>"$(DESTDIR)$(BINDIR)/ti-run"
 	chmod 755 "$(DESTDIR)$(BINDIR)/ti-run"
@@ -246,7 +249,7 @@ dist:
 deb: all lsp library tinfo everyday
 	python3 build/packages.py deb
 
-wheel:
+wheel: library
 	python3 build/wheel.py
 
 release: all lsp library tinfo everyday

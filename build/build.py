@@ -5,9 +5,12 @@ crate of how many is proved.
 
     build/build.py [PROGRAM]            `ti`, if none is named; of a static library its archive
     build/build.py --built [PROGRAM]    notes that the program that is in its place was built from
-                                        what is there now, as the gate has built it
+                                        what is there now, as the gate has built it; one that has a
+                                        part in C, which the gate leaves out, is linked again with it
     build/build.py --proved [PROGRAM]   takes the libraries below it as the gate has just proved
                                         them from what is there now, and then builds it
+
+What of a program is in C (build/border.py) is compiled by the C compiler that CC names, or cc.
 
 If a crate is not proved, what the prover said is shown, and the status is 1. It uses as many
 processors as TI_JOBS says; if that is not set, as many as there are, as far as there are so many
@@ -25,9 +28,11 @@ import os
 import re
 import shutil
 import sys
+import tempfile
 from concurrent.futures import FIRST_COMPLETED, ThreadPoolExecutor, wait
 
 import toolchain
+from border import compile_objects, files_in_c
 from crates import all_below, direct_needs, files_of, read_crates
 from repository import TOP
 
@@ -60,7 +65,8 @@ def digest(*parts):
 
 
 def digest_of(crates, name, known):
-    """A digest of all that a crate is made from: its files, the crates below it, the toolchain.
+    """A digest of all that a crate is made from: its files, those in C too, the crates below it, the
+    toolchain.
 
     What is known already, by name, is not read again, and what is found is added to it.
     """
@@ -68,7 +74,7 @@ def digest_of(crates, name, known):
         made_from = [read(toolchain.IDENTITY), repr(crates[name].needs).encode()]
         for need in direct_needs(crates, name):
             made_from.append(digest_of(crates, need, known).encode())
-        for file in files_of(name):
+        for file in [*files_of(name), *files_in_c(name)]:
             made_from += [os.path.relpath(file, TOP).encode(), read(file)]
         known[name] = digest(*made_from)
     return known[name]
@@ -168,8 +174,19 @@ def link_program(crates, name, jobs):
     proved, said = prove(crates, name, jobs, "main", *toolchain.object_words(f"{program}.o"))
     if not proved:
         return False, said
-    linked, more = toolchain.link(program, f"{program}.o")
+    linked, more = link_with_c(name, program, f"{program}.o")
     return linked, said + more
+
+
+def link_with_c(name, program, made):
+    """Links the object of a program with what of it is in C. Gives whether that went well, and what
+    was said."""
+    with tempfile.TemporaryDirectory() as room:
+        objects, said = compile_objects(name, room)
+        if objects is None:
+            return False, said
+        linked, more = toolchain.link(program, made, objects)
+        return linked, said + more
 
 
 def make_archive(crates, name, jobs):
@@ -205,6 +222,30 @@ def is_built(digests, crate):
         return read(f"{place_of(crate)}.sum").decode() == built_from(digests, crate)
     except OSError:
         return False
+
+
+def link_again(crate):
+    """Links the program that the gate has built again, with what of it is in C. Gives whether the
+    object from which it was built is still there, and that went well."""
+    place = place_of(crate)
+    with tempfile.TemporaryDirectory() as room:
+        alone, whole = f"{room}/alone", f"{room}/whole"
+        if not os.path.exists(f"{place}.o") or not toolchain.link(alone, f"{place}.o")[0] or read(alone) != read(place):
+            return False
+        linked, _ = link_with_c(crate.name, whole, f"{place}.o")
+        if linked:
+            shutil.copy(whole, f"{place}.new")
+            os.replace(f"{place}.new", place)
+        return linked
+
+
+def take_built(crates, digests, program):
+    """Takes a program as the gate has just built it. Gives the exit status."""
+    if not files_in_c(program) or link_again(crates[program]):
+        mark_built(digests, crates[program])
+        return 0
+    take_proved(crates, digests, program)
+    return build_if_changed(program)
 
 
 def place_program(digests, crate):
@@ -298,8 +339,7 @@ def main():
     digests = {}
     digest_of(crates, program, digests)
     if "--built" in sys.argv[1:]:
-        mark_built(digests, crates[program])
-        return 0
+        return take_built(crates, digests, program)
     if "--proved" in sys.argv[1:]:
         take_proved(crates, digests, program)
     return build_if_changed(program)

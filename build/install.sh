@@ -25,9 +25,9 @@ install)
         sed "s|=/usr|=${PREFIX:-/usr/local}|" lib/pkgconfig/ti.pc >"$target/lib/pkgconfig/ti.pc"
     fi
     # the loader finds a new library only after this
-    if [ -z "${DESTDIR:-}" ] && [ -f lib/libti.so.1 ]; then
+    if [ -z "${DESTDIR:-}" ] && [ -f lib/libti.so.2 ]; then
         PATH=$PATH:/sbin:/usr/sbin ldconfig 2>/dev/null ||
-            echo "install.sh: run ldconfig as root, so that programs find libti.so.1" >&2
+            echo "install.sh: run ldconfig as root, so that programs find libti.so.2" >&2
     fi
     ;;
 uninstall)

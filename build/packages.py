@@ -2,7 +2,7 @@
 """Makes what a release consists of, from the built program, into a directory, or packages/.
 
     build/packages.py deb [DIRECTORY]        the packages of debian/control, by debhelper: ti,
-                                             libti1, libti-dev, libti-tinfo and python3-ti
+                                             libti2, libti-dev, libti-tinfo and python3-ti
     build/packages.py release [DIRECTORY]    ti-VERSION-ARCH-linux.tar.gz with install.sh and
                                              README, the source as ti-VERSION.tar.gz, the module for
                                              Python as ti_terminfo-VERSION-py3-none-any.whl, the
@@ -27,7 +27,7 @@ import tempfile
 
 from extension import extension, platform
 from repository import TOP, files_below, text_of
-from wheel import project, wheel, wheel_name
+from wheel import LIBRARY, project, wheel, wheel_name
 
 LICENCES = ("LICENSE-MIT", "LICENSE-APACHE")
 # what is built is not a file of the repository
@@ -159,7 +159,8 @@ def make_release(made):
             cwd=TOP, stdout=subprocess.PIPE, check=True,
         ).stdout
         archives[f"{name}.tar.gz"] = compressed(source)
-    archives[wheel_name(project())] = wheel(when)
+    if os.path.exists(LIBRARY):
+        archives[wheel_name(project())] = wheel(when)
     if os.path.exists(os.path.join(TOP, BUILT[1])):
         archives[f"ti-lsp-{version()}-{platform()}.vsix"] = extension(when)
     sums = [f"{hashlib.sha256(archives[file]).hexdigest()}  {file}\n" for file in sorted(archives)]

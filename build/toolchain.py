@@ -62,7 +62,7 @@ def object_words(file):
     return [*TOOLS, "-o", file]
 
 
-def link(program, made):
-    """Links the object of a program. Gives what `run` gives."""
-    words = ["--target", "x86_64-unknown-linux-gnu", *TOOLS, "-o", program, made]
+def link(program, made, objects=()):
+    """Links the object of a program, and objects that are in C after it. Gives what `run` gives."""
+    words = ["--target", "x86_64-unknown-linux-gnu", *TOOLS, "-o", program, made, *objects]
     return run(os.path.dirname(program), "rattle-link", *words, SYSTEM_LIBRARY, C_LIBRARY)

@@ -3,6 +3,7 @@
 import os
 import re
 import shutil
+import subprocess
 import sys
 
 # after the directories of tests, one of which also has a module `packages`
@@ -51,6 +52,18 @@ def programs_of(page):
     """The programs in C and Python of a page of Markdown that have a name there, `As NAME` after
     them: the text and the name of each."""
     return re.findall(r"^```(?:c|python)\n([^`]*)^```\n\nAs `([\w.]+)`", text_of(page), re.M)
+
+
+def lines_printed(*words):
+    """The lines that a command prints in the repository."""
+    return subprocess.run(words, cwd=TOP, check=True, capture_output=True, text=True).stdout.split("\n")
+
+
+def changed_paths(commit):
+    """The files of crates that differ from a commit, or that git does not know yet."""
+    paths = lines_printed("git", "diff", "--name-only", commit, "--", "crates")
+    paths += lines_printed("git", "ls-files", "--others", "--exclude-standard", "--", "crates")
+    return [path for path in paths if path]
 
 
 def is_missing(program, word):

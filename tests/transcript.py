@@ -67,7 +67,7 @@ def differences(path):
         yield f"{path}: no commands"
         return
     script = "exec 2>&1\n" + "".join(f"{command}\necho; echo '{MARK}'\n" for command, _ in every)
-    done = subprocess.run(["sh", "-c", script], stdin=subprocess.DEVNULL, stdout=subprocess.PIPE, timeout=100)
+    done = subprocess.run(["sh", "-c", script], stdin=subprocess.DEVNULL, stdout=subprocess.PIPE, timeout=300)
     printed = done.stdout.decode("utf-8", errors="backslashreplace").split(f"\n{MARK}\n")
     for (command, shown), got in zip(every, printed):
         if got.rstrip("\n") != shown.rstrip("\n"):

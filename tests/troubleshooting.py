@@ -94,6 +94,9 @@ TOOLS_ROWS = {
     ".. error: NAME: .. [E6 MissingUse]": (["printf 'x,\\n\\tuse=no-such,\\n' | ti-tic -c -"], {}, ""),
     "FILE:1:1: error: .. [BlockTooLong]": ([f"{LONG_SOURCE} | ti-tic -c -"], {}, ""),
     "FILE:..:1: error: .. [TooManyBlocks]": (["seq -f 'x%.0f,' 65536 | ti-tic -c -"], {}, ""),
+    "FILE:1:1: error: .. [TermcapSource]": (
+        ["printf 'x|termcap:\\\\\n\t:am:co#80:\n' >x.tc; ti-tic -c x.tc"], {"FILE": "x.tc"}, "",
+    ),
     "FILE:1:1: error: .. [TooManyNames]": (["{ echo x,; seq -f '\tU%.0f,' 1025; } | ti-tic -x -c -"], {}, ""),
     "ti-tic: FILE: No such file or directory, Permission denied, Is a directory": (
         ["ti-tic -c no-such.ti", "ti-tic -c .", ": >closed.ti; chmod 0 closed.ti; ti-tic -c closed.ti"],
@@ -119,6 +122,7 @@ TOOLS_ROWS = {
     'unknown terminal "NAME"': (["ti-infocmp no-such", "ti-tput -T no-such cols"], {}, ""),
     "PATH: No such file or directory of ti-infocmp": (["ti-infocmp ./no-such"], {}, ""),
     "no terminal is named": (["ti-tput cols"], {}, "ti-tput cols"),
+    "unknown terminfo capability 'NAME'": ([f"{ENTRIES} ti-tput -T dumb bel Tc"], {"TERM": "dumb"}, ""),
     "ti-everyday: call it ti-tic, ..": (["ti-everyday"], {"..": "-V"}, ""),
 }
 TABLES = {"ti": ROWS, "ti-tic, ti-infocmp and ti-tput": TOOLS_ROWS}

@@ -8,7 +8,7 @@ import struct
 import subprocess
 import tempfile
 
-from limits import PROBE, PROGRAM, ROOM
+from limits import EVERYDAY, PROBE, PROGRAM, ROOM
 from model.base import compile_source
 from model.caps import FLAG, FIND, NAMES_OF, NUMBER, TEXT
 from model.entry import read, read_file
@@ -219,20 +219,25 @@ def one_text(take):
             ["infocmp", "-u", "same"] + ["last"] * 20, b"", 0, relative(entries["same"], [entries["last"]] * 20), env=env)
 
 
-def reading_time(place, name, runs=60, batches=3):
-    """The least CPU time of this many runs that read an entry and print nothing of it."""
+def least_time(words, place, wanted, runs=60, batches=3):
+    """The least CPU time of this many runs of a program that reads an entry of a directory."""
     used = []
     for _ in range(batches):
         before = resource.getrusage(resource.RUSAGE_CHILDREN)
         for _ in range(runs):
             done = subprocess.run(
-                [PROGRAM, "tput", "-T", name, "am"], env={"TERMINFO": place},
+                words, env={"TERMINFO": place},
                 stdin=subprocess.DEVNULL, stdout=subprocess.PIPE, stderr=subprocess.PIPE, check=False)
-            if (done.returncode, done.stdout, done.stderr) != (1, b"", b""):
-                raise ValueError(f"{name}: {done}")
+            if (done.returncode, done.stdout, done.stderr) != wanted:
+                raise ValueError(f"{words}: {done}")
         after = resource.getrusage(resource.RUSAGE_CHILDREN)
         used.append(after.ru_utime + after.ru_stime - before.ru_utime - before.ru_stime)
     return min(used)
+
+
+def reading_time(place, name):
+    """That of runs which print nothing of an entry."""
+    return least_time([PROGRAM, "tput", "-T", name, "am"], place, (1, b"", b""))
 
 
 @case("414 offsets into one text of 32,000 bytes: read in the time of one offset")
@@ -243,6 +248,31 @@ def one_text_is_read_once(take):
         room.put("many", of_one_text(b"A" * 32_000, [0] * 414))
         one, many = reading_time(room.path, "one"), reading_time(room.path, "many")
     # one search for each offset would be 13 million steps a run, ten times what a run takes
+    return None if many < 2 * one + 0.05 else f"{many:.3f} s compared with {one:.3f} s"
+
+
+def of_one_value(offsets):
+    """An entry and an extension whose values lead into one text that leaves no room for a name."""
+    table = b"A" * 32_765 + b"\0"
+    header = struct.pack("<5H", 0, 0, len(offsets), 2 * len(offsets), len(table))
+    places = struct.pack(f"<{2 * len(offsets)}H", *offsets, *[0] * len(offsets))
+    return of_one_text(b"", []) + b"\0" + header + places + table
+
+
+@case("8,000 user-defined strings of one text of 32,765 bytes: refused in the time of one string")
+def one_value_is_read_once(take):
+    del take
+    with Room() as room:
+        program = os.path.join(room.path, "ti-tput")
+        os.symlink(EVERYDAY, program)
+        used = []
+        # absent strings have no text
+        for name, offsets in (("one", [0] + [0xFFFF] * 7_999), ("many", [0] * 8_000)):
+            room.put(name, of_one_value(offsets))
+            refusal = f"ti-tput: {room.path}/{name[0]}/{name}: bad entry (BadExtension)\n".encode()
+            used.append(least_time([program, "-T", name, "Xx"], room.path, (3, b"", refusal)))
+    one, many = used
+    # one search for each string would be 262 million steps a run
     return None if many < 2 * one + 0.05 else f"{many:.3f} s compared with {one:.3f} s"
 
 

@@ -312,11 +312,15 @@ def long_preface(take):
         b"tic: block too long at line %d\n" % (lines + 1))
 
 
+def all_items():
+    """An item for each of the 497 capabilities."""
+    flags, numbers, texts = (NAMES_OF[kind] for kind in (FLAG, NUMBER, TEXT))
+    return b",".join(flags + [name + b"#1" for name in numbers] + [name + b"=A" for name in texts])
+
+
 def full_chain(count):
     """A chain whose first block has all capabilities, which all others inherit."""
-    flags, numbers, texts = (NAMES_OF[kind] for kind in (FLAG, NUMBER, TEXT))
-    items = flags + [name + b"#1" for name in numbers] + [name + b"=A" for name in texts]
-    return chain(count, b",".join(items))
+    return chain(count, all_items())
 
 
 @case("a chain of 10,000 blocks, each with all 497 capabilities of the first")

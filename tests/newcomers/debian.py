@@ -3,6 +3,7 @@
 import os
 import re
 import shutil
+import signal
 import subprocess
 import sys
 import time
@@ -17,7 +18,9 @@ ENTER = os.path.join(HERE, "enter")
 # what the pages ask for of Debian: a compiler and pkg-config, make, Python, an editor, and the
 # programs that ti-run runs
 OF_DEBIAN = ("gcc", "libc6-dev", "less", "make", "neovim", "pkg-config", "python3", "tmux", "vim")
-SECONDS = 300
+# in how many seconds a command ends, and debootstrap, which gets 130 MB and unpacks them
+SECONDS = 600
+SECONDS_OF_SYSTEM = 2400
 # a user who is not root
 USER = 1000
 AS_USER = ("setpriv", f"--reuid={USER}", f"--regid={USER}", "--clear-groups")
@@ -27,13 +30,18 @@ ENVIRONMENT = {
 }
 
 
-def run(words, **more):
-    """Runs a command. Gives its status, and all that it wrote."""
-    done = subprocess.run(
-        words, stdin=subprocess.DEVNULL, stdout=subprocess.PIPE, stderr=subprocess.STDOUT, timeout=SECONDS,
-        check=False, **more,
-    )
-    return done.returncode, done.stdout.decode(errors="replace")
+def run(words, seconds=SECONDS, **more):
+    """Runs a command, and ends it and what it started after so many seconds. Gives its status, and all
+    that it wrote."""
+    with subprocess.Popen(
+        words, stdin=subprocess.DEVNULL, stdout=subprocess.PIPE, stderr=subprocess.STDOUT, start_new_session=True, **more
+    ) as started:
+        try:
+            said, _ = started.communicate(timeout=seconds)
+        except subprocess.TimeoutExpired:
+            os.killpg(started.pid, signal.SIGKILL)
+            raise
+    return started.returncode, said.decode(errors="replace")
 
 
 def release():
@@ -82,7 +90,8 @@ class System:
     def make_root(self):
         began = time.monotonic()
         words = ["debootstrap", "--variant=minbase", f"--include={','.join(OF_DEBIAN)}", release()]
-        if run([*words, self.root])[0]:
+        status, _ = run([*words, self.root], SECONDS_OF_SYSTEM)
+        if status:
             raise Skipped("debootstrap could make no system here")
         os.mkdir(os.path.join(self.root, "room"))
         if run([ENTER, self.root, self.directory, "true"])[0]:

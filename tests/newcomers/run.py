@@ -113,7 +113,7 @@ def check_packager(system):
 # The author of a terminal's entry
 
 # prints the errors and warnings of the source that is open, once the server has sent them all
-SHOW = """vim.wait(20000, function() return #vim.diagnostic.get(0) == COUNT end, 20)
+SHOW = """vim.wait(120000, function() return #vim.diagnostic.get(0) == COUNT end, 20)
 for _, found in ipairs(vim.diagnostic.get(0)) do
   io.stdout:write((found.lnum + 1) .. ' ' .. (found.code or found.user_data.lsp.code) .. '\\n')
 end
@@ -246,7 +246,7 @@ def check_programs(system):
         room.faults += [wrong for wrong, _ in compared if wrong]
     print(f"    {', '.join(commands)}")
     os.remove(os.path.join(system.root, "etc", "tmux.conf"))
-    room.root_does("dpkg --purge libti-tinfo libti1")
+    room.root_does("dpkg --purge libti-tinfo libti2")
     return room.faults
 
 

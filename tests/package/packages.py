@@ -37,11 +37,11 @@ int main(void) {
 }
 """
 OF_LIBRARY = (
-    "/include/ti.h", "/include/ti_names.h", "/libti.a", "/libti.so", "/pkgconfig/ti.pc", "/man3/ti.3.gz",
+    "/include/ti.h", "/include/ti.hpp", "/include/ti_names.h", "/libti.a", "/libti.so", "/pkgconfig/ti.pc", "/man3/ti.3.gz",
     "/man3/ti_open.3.gz",
 )
 # the packages of debian/control, sorted
-PACKAGES = ["libti-dev", "libti-tinfo", "libti1", "python3-ti", "ti"]
+PACKAGES = ["libti-dev", "libti-tinfo", "libti2", "python3-ti", "ti"]
 LIBRARY = os.path.join(TOP, "crates", "ti_c", "out", "lib")
 HAS_LIBRARY = os.path.exists(os.path.join(LIBRARY, "libti.a"))
 HAS_TINFO = os.path.exists(os.path.join(LIBRARY, "ti", "libtinfo.so.6"))
@@ -51,8 +51,14 @@ def version():
     return text_of("VERSION").strip()
 
 
+def library_version():
+    """The version of libti and of its module for Python."""
+    return re.search(r'^#define TI_VERSION "(.*)"', text_of("include", "ti.h"), re.M)[1]
+
+
 def check_version():
-    """Whether help, pages, changes, the header and the extension have the version in VERSION."""
+    """Whether help, pages, changes and the extension have the version in VERSION, and what is of the
+    C library that of its header."""
     if f" {version()}" not in ti("--help").split("\n", 1)[0]:
         yield f"the first line of help is {ti('--help').split(chr(10), 1)[0]!r}"
     for page in sorted(os.listdir(os.path.join(TOP, "man"))):
@@ -63,9 +69,15 @@ def check_version():
         yield f"the newest version of CHANGELOG.md is {newest and newest[1]}"
     if not text_of("debian", "changelog").startswith(f"ti ({version()}-"):
         yield f"debian/changelog is not of {version()}"
-    for path in ("include/ti.h", "editors/vscode/package.json", "python/pyproject.toml"):
-        if f'"{version()}"' not in text_of(path):
-            yield f'{path} does not have "{version()}"'
+    if f'"{version()}"' not in text_of("editors/vscode/package.json"):
+        yield f'editors/vscode/package.json does not have "{version()}"'
+    of_library = {
+        "include/ti.pc.in": f"Version: {library_version()}\n", "python/pyproject.toml": f'version = "{library_version()}"\n',
+        "python/ti/__init__.py": f'__version__ = "{library_version()}"\n', "CHANGELOG.md": f"libti {library_version()}",
+    }
+    for path, line in of_library.items():
+        if line not in text_of(path):
+            yield f"{path} does not have {line!r}"
 
 
 def check_install():
@@ -193,14 +205,14 @@ def library_faults(shared, unpacked):
     with open(source, "w", encoding="utf-8") as file:
         file.write(SOURCE)
     headers = os.path.join(unpacked, "usr", "include")
-    libraries = {"libti-dev": unpacked, "libti1": shared}
-    for package, ending in (("libti-dev", "/libti.a"), ("libti1", "/libti.so.1")):
+    libraries = {"libti-dev": unpacked, "libti2": shared}
+    for package, ending in (("libti-dev", "/libti.a"), ("libti2", "/libti.so.2")):
         place = libraries[package]
         library = next(os.path.join(place, name) for name in files_below(place) if name.endswith(ending))
         program = os.path.join(unpacked, f"program-of-{package}")
         output(["cc", "-std=c99", "-I", headers, source, library, "-o", program])
         got = output([program], env={"LD_LIBRARY_PATH": os.path.dirname(library)})
-        if got != f"{version()} 1 10\n":
+        if got != f"{library_version()} 1 10\n":
             yield f"a program that takes {package} prints {got!r}"
 
 
@@ -225,23 +237,23 @@ def wheel_faults(path, room):
         digest = base64.urlsafe_b64encode(hashlib.sha256(files[name]).digest()).rstrip(b"=").decode()
         if name != record and (said, size) != (f"sha256={digest}", str(len(files[name]))):
             yield f"the wheel's {name} is not as its list says"
-    if not any(f"\nVersion: {version()}\n" in text.decode() for name, text in files.items() if name.endswith("/METADATA")):
-        yield f"the wheel is not of {version()}"
+    if not any(f"\nVersion: {library_version()}\n" in text.decode() for name, text in files.items() if name.endswith("/METADATA")):
+        yield f"the wheel is not of {library_version()}"
     if subprocess.run(["python3", "-m", "pip", "--version"], stdout=subprocess.DEVNULL, check=False).returncode == 0:
         output(["python3", "-m", "pip", "install", "-q", "--no-index", "--no-deps", "--target", room, path])
     else:
         output(["python3", "-m", "zipfile", "-e", path, room])
-    if HAS_LIBRARY:
-        yield from python_faults("the wheel", room, LIBRARY)
+    # the module takes the library that is next to it
+    yield from python_faults("the wheel", room, "/no-such")
 
 
 def tinfo_faults(made, names, unpacked):
     """What is wrong with ti-run of the unpacked packages: which libraries it has a program take."""
     for name in names:
-        if name.startswith(("libti-tinfo_", "libti1_")):
+        if name.startswith(("libti-tinfo_", "libti2_")):
             output(["dpkg-deb", "-x", os.path.join(made, name), unpacked])
     got = output([os.path.join(unpacked, "usr", "bin", "ti-run"), "bash", "-c", "cat /proc/$$/maps; true"])
-    for library in ("ti/libtinfo.so.6", "libti.so.1"):
+    for library in ("ti/libtinfo.so.6", "libti.so.2"):
         if not re.search(rf" {re.escape(unpacked)}/\S*/{library}\n", got):
             yield f"bash by ti-run has loaded {got!r}"
 
@@ -273,11 +285,11 @@ def check_deb():
         if [name.split("_")[0] for name in names] != PACKAGES:
             yield f"the packages are {names}"
             return
-        yield from library_faults(os.path.join(room, "libti1"), os.path.join(room, "libti-dev"))
+        yield from library_faults(os.path.join(room, "libti2"), os.path.join(room, "libti-dev"))
         yield from tinfo_faults(made, names, os.path.join(room, "with-tinfo"))
         modules = os.path.join(room, "python3-ti", "usr", "lib", "python3", "dist-packages")
-        libraries = os.path.join(room, "libti1", "usr", "lib")
-        shared = next(name for name in files_below(libraries) if name.endswith("libti.so.1"))
+        libraries = os.path.join(room, "libti2", "usr", "lib")
+        shared = next(name for name in files_below(libraries) if name.endswith("libti.so.2"))
         yield from python_faults("python3-ti", modules, os.path.dirname(os.path.join(libraries, shared)))
 
 
@@ -341,5 +353,8 @@ def check_release():
             yield f"install.sh uninstall leaves {files_below(os.path.join(room, 'stage'))[:5]}"
         for name in (name for name in names if name.endswith(".vsix")):
             yield from extension_faults(os.path.join(room, "packages", name), os.path.join(room, "extension"))
-        (wheel,) = (name for name in names if name.endswith(".whl"))
-        yield from wheel_faults(os.path.join(room, "packages", wheel), os.path.join(room, "wheel"))
+        wheels = [name for name in names if name.endswith(".whl")]
+        if len(wheels) != HAS_LIBRARY:
+            yield f"there are the wheels {wheels}, and the library is {'' if HAS_LIBRARY else 'not '}built"
+        for wheel in wheels:
+            yield from wheel_faults(os.path.join(room, "packages", wheel), os.path.join(room, "wheel"))

@@ -39,7 +39,7 @@ OF_CODE = os.path.join("docs", "CONTRACTS.md")
 # what is read for these, apart from pages
 PLAIN = (
     "debian/control", "debian/ti.README.Debian", "editors/vscode/README.md", "editors/vscode/package.json",
-    "include/ti.h", "include/ti_names.h", "include/ti.c", "python/ti/__init__.py",
+    "include/ti.h", "include/ti.hpp", "include/ti_names.h", "include/ti.c", "python/ti/__init__.py",
 )
 # its rows quote the comments of definitions, and are written by docs/definitions.py
 GENERATED = os.path.join("docs", "DEFINITIONS.md")

@@ -23,7 +23,8 @@ readme       the first command of README writes what README says of it, and the
 links        README and docs are installed, and links of installed pages lead to what is installed
 install      what `make install` puts into a directory runs from there, and `make uninstall`
              takes all of it away
-version      help, pages, changes, the header and the extension have the version of VERSION
+version      help, pages, changes and the extension have the version of VERSION, and what is of the C
+             library that of its header
 deb          the Debian packages are the same each time, run unpacked, and please lintian
 release      the archives of a release are the same each time; install.sh installs what runs; the
              extension of Visual Studio Code has what it names, and the wheel's module runs
@@ -33,6 +34,9 @@ tarball-builds
 build        ./ti proves each crate after those that it depends on, ends if one is refused, and
              proves again what an edit reaches and nothing else (with a substitute for the toolchain)
 small-build  ./ti proves, compiles and links with the toolchain itself: one library, a small program
+audit        tests/audit finds the wrong bodies that are proved or cannot be applied, and chooses the
+             crates that changed and those above (with a substitute for the toolchain)
+claims       docs/claims.py finds a name that is not there, and a call that no program makes
 
 What needs a program that is not installed is skipped, and said to be. The last line is
 `package: N passed, M failed`.
@@ -41,7 +45,9 @@ What needs a program that is not installed is skipped, and said to be. The last 
 import subprocess
 import sys
 
+import auditing
 import building
+import claiming
 import completions
 import grammars
 import packages
@@ -71,12 +77,13 @@ CHECKS = {
     "tarball-builds": building.check_tarball_builds,
     "build": building.check_build,
     "small-build": building.check_small_build,
+    "audit": auditing.check_audit,
+    "claims": claiming.check_claims,
 }
 # these look at the repository alone, and not at the built program
 WITHOUT_PROGRAM = {
     "tables", "markdown", "scripts", "spelling", "pages", "grammar", "everyday-options", "links", "tarball",
-    "tarball-builds", "build",
-    "small-build",
+    "tarball-builds", "build", "small-build", "audit", "claims",
 }
 EXPECTED = (subprocess.SubprocessError, OSError, IndexError, KeyError, TypeError, StopIteration)
 

@@ -7,7 +7,7 @@ from .base import Meaning
 from .caps import FIND, FLAG, KINDS, NAMES_OF, NUMBER, TEXT, described
 from .listing import written
 from .source import ADVICE, CANCEL, FAULTS, WHITE, ends_of_items, read, unescape
-from .strings import explained
+from .strings import explained, last_pushed
 from .texts import blocks_of, offset_of, refused_line, width
 
 STRUCT = 23  # of "SymbolKind"
@@ -227,6 +227,42 @@ def prepared_of(text, place):
     return owned_at(text, blocks_with_lines(text), place)[2]
 
 
+def is_kept(line):
+    """Whether a line is a comment, or blank."""
+    return line.startswith(b"#") or not line.strip(WHITE)
+
+
+def stays_in_line(block, start, end, new):
+    """Whether an edit is within a line of items, which it leaves one."""
+    line, old, new = block[:start].split(b"\n")[-1], block[start:end], new.encode("ascii")
+    return b"\n" not in old and not is_kept(line + old) and not is_kept(line + new)
+
+
+def is_place(block, offset):
+    """Whether an editor has a place there: none is between a CR and its LF."""
+    return block[offset - 1 : offset + 1] != b"\r\n"
+
+
+def lines_of_part(where, start, end):
+    """The parts of a block that bytes of its folded text are in: one on each line."""
+    parts = []
+    for at in where[start:end]:
+        if parts and parts[-1][1] == at:
+            parts[-1][1] = at + 1
+        else:
+            parts.append([at, at + 1])
+    return parts
+
+
+def dealt(parts, new):
+    """A new text in the place of parts: each but the first gets as many bytes as it had, from the
+    last on, and the first what is left."""
+    for at, (start, end) in enumerate(parts):
+        count = max(len(new) - sum(last - first for first, last in parts[at + 1 :]), 0)
+        yield start, end, new[:count]
+        new = new[count:]
+
+
 def renamed_of(text, uri, place, new):
     """The edits that give the name at a place another one, or None."""
     held = blocks_with_lines(text)
@@ -245,7 +281,10 @@ def renamed_of(text, uri, place, new):
         parts += [part for part in (use_in(folded, *item) for item in items_in(folded)) if part is not None]
         for part in parts:
             if folded[slice(*part)] == name:
-                edits.append({"newText": new, "range": range_in(block, line, *span_of(where, *part))})
+                for start, end, put in dealt(lines_of_part(where, *part), wanted):
+                    if not (is_place(block, start) and is_place(block, end) and stays_in_line(block, start, end, put.decode())):
+                        raise Refused
+                    edits.append({"newText": put.decode(), "range": range_in(block, line, start, end)})
     return {"changes": {uri: edits}}
 
 
@@ -432,4 +471,37 @@ def hover_of(text, place):
             if told is not None:
                 words, span = told
                 return {"contents": {"kind": "plaintext", "value": words}, "range": range_in(block, line, *span)}
+    return None
+
+
+def active_in(raw, before):
+    """The parameter that is active after so many bytes of the text of a string, or None."""
+    place = place_in_value(raw, before - 1) if before > 0 else None
+    read = unescape(raw)
+    return last_pushed(read[0], place) if place is not None and read[2] is None else None
+
+
+def signature_told(text, within):
+    """The parameters of the string of an item with this text, so many bytes before a place; or None."""
+    text = text.rstrip(WHITE)
+    name, sign, raw = text.partition(b"=")
+    cap = FIND.get(name)
+    parameters = described(cap[0], name)[2] if cap is not None and sign and within > len(name) else ""
+    if not parameters:
+        return None
+    shown = {"label": f"{name.decode()}({parameters})", "parameters": [{"label": each} for each in parameters.split(", ")]}
+    active = active_in(raw, within - len(name) - 1)
+    return {"activeSignature": 0, "signatures": [shown]} | ({} if active is None else {"activeParameter": active})
+
+
+def signature_of(text, place):
+    """The parameters of the string that a place of a text is in, or None."""
+    offset = len(text[: offset_of(text, *place)].encode("utf-8"))
+    for block, _, start in blocks_with_lines(text):
+        if start <= offset < start + len(block):
+            folded, where = fold_at(block)
+            for part in items_in(folded):
+                span = span_of(where, *part)
+                if is_on(offset - start, span):
+                    return signature_told(folded[slice(*part)], sum(span[0] <= at < offset - start for at in where))
     return None

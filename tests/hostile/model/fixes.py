@@ -2,7 +2,9 @@
 
 import re
 
-from .answers import blocks_with_lines, fold_at, is_name, items_in, place_in, range_in, span_of, use_in
+from .answers import (
+    blocks_with_lines, fold_at, is_name, is_place, items_in, place_in, range_in, span_of, stays_in_line, use_in,
+)
 from .base import Meaning
 from .caps import FIND, FLAG, KINDS, NAMES_OF, NUMBER, TEXT
 from .listing import written
@@ -120,6 +122,25 @@ def offered(block, at, owners, start, stop):
     return found
 
 
+def shared(old, new):
+    """With how many bytes both begin, if one of each is left."""
+    most = min(len(old), len(new)) - 1
+    return next((at for at in range(most) if old[at] != new[at]), max(0, most))
+
+
+def narrowed(folded, where, span, new):
+    """The part and the text of an edit without the bytes that it leaves as they are."""
+    places = [(byte, at) for byte, at in zip(folded, where) if span[0] <= at < span[1]]
+    new = new.encode("ascii")
+    front = shared([byte for byte, _ in places], new)
+    if new[front : front + 1] in (b"", b" ", b"\t"):
+        front = 0
+    places, new = places[front:], new[front:]
+    back = shared([byte for byte, _ in reversed(places)], new[::-1])
+    places, new = places[: len(places) - back], new[: len(new) - back]
+    return (places[0][1], places[-1][1] + 1), new.decode("ascii")
+
+
 def diagnostic(mark):
     """A diagnostic as it is sent."""
     line, start, end, severity, code, message = mark
@@ -132,11 +153,6 @@ def offset_in(text, line, column):
     return len(text[: offset_of(text, line, column)].encode("utf-8"))
 
 
-def is_place(block, offset):
-    """Whether an editor has a place there: none is between a CR and its LF."""
-    return block[offset - 1 : offset + 1] != b"\r\n"
-
-
 def fixes_of(text, uri, start, end, marks):
     """The quick fixes for a range of a text: of the block in which it begins, each with the
     diagnostic of its fault, which is one of `marks`."""
@@ -146,14 +162,17 @@ def fixes_of(text, uri, start, end, marks):
         if front <= first < front + len(block):
             # an end before the block is in its first line
             stop = offset_in(block.decode("utf-8"), max(0, end[0] - line), end[1])
-            for item, code, title, span, new in offered(block, at, owners, first - front, stop):
-                if not all(is_place(block, offset) for offset in span):
+            folded, where = fold_at(block)
+            for item, code, title, whole, text in offered(block, at, owners, first - front, stop):
+                span, new = narrowed(folded, where, whole, text)
+                if not all(is_place(block, offset) for offset in span) or not stays_in_line(block, *span, new):
                     continue
                 edit = {"newText": new, "range": range_in(block, line, *span)}
                 place = place_in(block, line, item)
                 key = place["line"], place["character"], code
                 resolved = [diagnostic(mark) for mark in marks if (mark[0], mark[1], mark[4]) == key]
                 action = {"edit": {"changes": {uri: [edit]}}, "kind": "quickfix", "title": title, "diagnostics": resolved}
-                # another name is a guess; each other fix is the only one of its fault
-                found.append(action if title.startswith("Replace `") else {**action, "isPreferred": True})
+                # another name is a guess, and an odd escape has two corrections
+                guess = title.startswith(("Replace `", "Rewrite "))
+                found.append(action if guess else {**action, "isPreferred": True})
     return found

@@ -4,6 +4,7 @@ from .source import WHITE, cut, ends_of_items, fold, is_head
 from .texts import lines_of, width
 
 COLUMNS = 80
+MARK = b"\xef\xbb\xbf"
 TAB = 8
 
 
@@ -45,6 +46,11 @@ def items_of(block):
     return found
 
 
+def columns_of(item):
+    """How many columns an item takes: a tab takes eight."""
+    return len(item) + (TAB - 1) * item.count(b"\t")
+
+
 def lay_out_block(block, columns):
     block = block if block.endswith(b"\n") else block + b"\n"
     kept = [(at + 1, line) for at, line in enumerate(split_lines(block)) if is_kept(line)]
@@ -59,10 +65,10 @@ def lay_out_block(block, columns):
         while kept and kept[0][0] < line:
             push_kept()
         new, item = kind_of(item), item + (b"," if ended else b"")
-        if column and (0 in (kind, new) or kind == new) and column + 1 + len(item) <= columns:
-            out, column, kind = out + b" " + item, column + 1 + len(item), new or kind
+        if column and (0 in (kind, new) or kind == new) and column + 1 + columns_of(item) <= columns:
+            out, column, kind = out + b" " + item, column + 1 + columns_of(item), new or kind
         else:
-            out, column, kind = out + (b"\n\t" if column else b"\t") + item, TAB + len(item), new
+            out, column, kind = out + (b"\n\t" if column else b"\t") + item, TAB + columns_of(item), new
     while kept:
         push_kept()
     return out + (b"\n" if column else b"")
@@ -73,9 +79,23 @@ def lay_out(source, columns):
     return preface + b"".join(lay_out_block(block, columns) for block in blocks)
 
 
+def plain(source):
+    """A source as it is read: without a byte order mark in front, and without the CR of each CR LF."""
+    return source.removeprefix(MARK).replace(b"\r\n", b"\n")
+
+
+def written_like(source, text):
+    """A text in the place of a source: with its byte order mark, and the line ends of its first line."""
+    first, newline, _ = source.partition(b"\n")
+    if newline and first.endswith(b"\r") or b"\r\n" in text:
+        text = text.replace(b"\n", b"\r\n")
+    return MARK + text if source.startswith(MARK) or text.startswith(MARK) else text
+
+
 def layout_of(text):
     """The edits that lay out a text: one, or none."""
-    laid = lay_out(text.encode("utf-8"), COLUMNS).decode("utf-8")
+    source = text.encode("utf-8")
+    laid = written_like(source, lay_out(plain(source), COLUMNS)).decode("utf-8")
     if laid == text:
         return []
     lines = lines_of(text)

@@ -7,7 +7,7 @@ import re
 
 from .answers import (
     Refused, completion_of, definition_of, hover_of, message_of, part_of, place_in, prepared_of, references_of,
-    renamed_of, symbols_of,
+    renamed_of, signature_of, symbols_of,
 )
 from .base import Meaning
 from .fixes import fixes_of
@@ -23,7 +23,7 @@ QUESTIONS = {
     "textDocument/completion": True, "textDocument/hover": True, "textDocument/definition": True,
     "textDocument/references": True, "textDocument/documentSymbol": False, "textDocument/rename": True,
     "textDocument/prepareRename": True, "textDocument/codeAction": False, "textDocument/documentHighlight": True,
-    "textDocument/foldingRange": False, "textDocument/formatting": False,
+    "textDocument/foldingRange": False, "textDocument/formatting": False, "textDocument/signatureHelp": True,
 }
 # the methods that tell of a document
 TELLING = ["textDocument/didOpen", "textDocument/didChange", "textDocument/didClose"]
@@ -231,6 +231,8 @@ def answer_of(nests, method, text, uri, place, more):
         return prepared_of(text, place)
     if method == "textDocument/hover":
         return hover_of(text, place)
+    if method == "textDocument/signatureHelp":
+        return signature_of(text, place)
     if method == "textDocument/codeAction":
         return fixes_of(text, uri, *place, diagnostics_of(text)) if more else []
     if method == "textDocument/foldingRange":

@@ -96,6 +96,13 @@ def tokens_of(text):
     return tokens, at
 
 
+def last_pushed(text, place):
+    """The last parameter, from 0, that a string pushes by a code which begins at a place or before it, or None."""
+    codes = [code for at, _, code in tokens_of(text)[0] if at <= place and code is not None]
+    pushed = [int(code["parameter"]) - 1 for code in codes if code["parameter"] is not None]
+    return pushed[-1] if pushed else None
+
+
 def form_words(code):
     """What a printf form writes."""
     letter, flags, width = code["conversion"].decode(), code["flags"], code["width"]

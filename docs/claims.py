@@ -1,0 +1,168 @@
+#!/usr/bin/env python3
+"""Compares docs/CLAIMS.md with the code: what it names is there, and a program uses it.
+
+    docs/claims.py [--check] [PAGE]     PAGE in its place; nothing is written either way
+
+Each row of the tables of "What is proved" names in its last column calls and laws. Of these:
+
+- each is a public function, type or method of the row's crates; in a row without crates, of any
+  crate that is no test;
+- each call is reached from a program (`main`) or from an export of the C library, by the names that
+  functions use of their own crate and of those that it depends on, and by the methods of traits. A
+  type counts if a method of it is reached;
+- a law speaks of a definition that the contract of a reached call names: of what programs do.
+
+The reading is by names, so it reaches too much rather than too little. The status is 1 if a row
+names something of which this is not so. The last line counts the names.
+"""
+
+import os
+import re
+import sys
+
+sys.path.append(os.path.join(os.path.dirname(os.path.dirname(os.path.abspath(__file__))), "tests"))
+from common import TOP, Tally, files_below, text_of  # noqa: E402
+from crates import all_below, read_crates  # noqa: E402
+
+PAGE = os.path.join("docs", "CLAIMS.md")
+ROOTS = ("ti", "ti_everyday", "ti_lsp", "ti_c")
+ROW = re.compile(r"^\| (.*?) \| .* \| (.*?) \|$", re.M)
+QUOTED = re.compile(r"`([A-Za-z_][\w:]*)`")
+FUNCTION = re.compile(r"^( *)((?:pub(?:\(\w+\))? )?(?:const )?(?:unsafe )?(?:extern \"C?\" )?)fn (\w+)", re.M)
+TYPE = re.compile(r"^ *pub (?:struct|enum|trait|type) (\w+)", re.M)
+OWNER = re.compile(r"^(?:unsafe )?(?:impl|(?:pub )?trait)\b(?:<[^{]*?>)? ?(.* for )?(?:\w+::)*(\w+)", re.M)
+WORD = re.compile(r"\b[A-Za-z_]\w*\b")
+STATEMENT = re.compile(r"^(?:(?:abbrev |unfoldable )?pub(?: abbrev| unfoldable| record| data)?) (?!use\b|mod\b)(\w\S*)(?= )", re.M)
+
+
+class Function:
+    """A function of a crate: its name, whether it is public or a law, its owner, its words."""
+
+    def __init__(self, crate, owner, found, text):
+        self.crate, self.name = crate, found[3]
+        self.is_of_trait, self.owner = owner
+        self.is_public = "pub " in found[2]
+        self.is_law = re.match(r" *[^\n]*fn \w+\(\)\s+ensures", text) is not None
+        clauses, _, body = text.partition("\n{") if "\n{" in text else text.partition("\n    {")
+        self.contract = set(WORD.findall(clauses))
+        self.uses = set(WORD.findall(body)) | (set(WORD.findall(clauses)) if not body else set())
+
+
+def without_comments(text):
+    """A source without its comments and the texts between quotes."""
+    return re.sub(r'"(?:\\.|[^"\\\n])*"', '""', re.sub(r"//[^\n]*", "", text))
+
+
+def functions_of(crate):
+    """The functions of a crate, and the names of its public types."""
+    functions, types = [], set()
+    directory = os.path.join("crates", crate, "src")
+    for path in files_below(os.path.join(TOP, directory)):
+        text = without_comments(text_of(directory, path))
+        types |= set(TYPE.findall(text))
+        owners = [(match.start(), (bool(match[1]), match[2])) for match in OWNER.finditer(text)]
+        matches = list(FUNCTION.finditer(text))
+        for match, after in zip(matches, [*matches[1:], None]):
+            owner = next((it for start, it in reversed(owners) if start < match.start()), (False, None))
+            body = text[match.start() : after.start() if after else len(text)]
+            functions.append(Function(crate, owner if match[1] else (False, None), match, body))
+    return functions, types
+
+
+def reached(crates, functions):
+    """The functions that a program or an export of the library leads to."""
+    found, todo = set(), [function for name in ROOTS for function in functions[name]]
+    by_name, of_traits = {}, {}
+    for crate, own in functions.items():
+        for function in own:
+            by_name.setdefault((crate, function.name), []).append(function)
+            if function.is_of_trait:
+                of_traits.setdefault(function.name, []).append(function)
+    below = {crate: [crate, *all_below(crates, crate)] for crate in functions}
+    while todo:
+        function = todo.pop()
+        if function in found:
+            continue
+        found.add(function)
+        for word in function.uses:
+            todo += of_traits.get(word, ())
+            for crate in below[function.crate]:
+                todo += by_name.get((crate, word), ())
+    return found
+
+
+def statements(crate):
+    """The definitions of a crate, each with the words of its own text."""
+    found = {}
+    directory = os.path.join("crates", crate, "specs")
+    for path in files_below(os.path.join(TOP, directory)):
+        text = re.sub(r"^ *--.*$", "", text_of(directory, path), flags=re.M)
+        starts = list(STATEMENT.finditer(text))
+        for start, after in zip(starts, [*starts[1:], None]):
+            found[start[1]] = set(re.findall(r"[^\s(){}.,:;]+", text[start.end() : after.start() if after else len(text)]))
+    return found
+
+
+def definitions_of(law, told, cited):
+    """The words of a law's statement and of the definitions that it names, down to what is cited."""
+    seen, todo = set(), set(law.contract)
+    while todo:
+        name = todo.pop()
+        if name in seen:
+            continue
+        seen.add(name)
+        if name in told and name not in cited:
+            todo |= told[name]
+    return seen
+
+
+def candidates(functions, types, crates, name):
+    """The functions of crates that a name of the page means; a type means its methods."""
+    *before, last = name.split("::")
+    of = [function for crate in crates for function in functions[crate] if function.is_public or function.owner]
+    if last[0].isupper():
+        return [function for function in of if function.owner == last and last in types[function.crate]]
+    of = [function for function in of if function.name == last]
+    return [function for function in of if not before or before[-1][0].islower() or function.owner == before[-1]]
+
+
+def faults_of_page(page):
+    """Each name of the page of which something is not so, and how many names there are."""
+    crates = {name: crate for name, crate in read_crates().items() if crate.group not in ("test_", "dev_")}
+    read = {name: functions_of(name) for name in crates}
+    functions, types = {name: it[0] for name, it in read.items()}, {name: it[1] for name, it in read.items()}
+    is_reached = reached(crates, functions)
+    told = {name: words for crate in crates for name, words in statements(crate).items()}
+    laws = [function for own in functions.values() for function in own if function.is_law]
+    cited = {word for function in is_reached if not function.is_law for word in function.contract if word in told}
+    faults, count = [], 0
+    part = page.split("\n## What is proved\n")[1].split("\n## ")[0]
+    for first, last in ROW.findall(part):
+        of = [name for name in QUOTED.findall(first) if name in crates] or list(crates)
+        of = [name for name in QUOTED.findall(last) if name in crates] + of
+        for name in QUOTED.findall(last):
+            if name in crates:
+                continue
+            count += 1
+            means = candidates(functions, types, of, name)
+            if not means:
+                faults.append(f"`{name}` of the row {first}: no public function or type of this name")
+            elif not any(function in is_reached for function in means):
+                named = [law for law in means if law.is_law]
+                if not any(definitions_of(law, told, cited) & cited for law in named):
+                    faults.append(f"`{name}` of the row {first}: no program reaches it")
+    if not laws or not count:
+        faults.append("nothing was compared")
+    return faults, count
+
+
+def main():
+    page = next((word for word in sys.argv[1:] if word != "--check"), PAGE)
+    faults, count = faults_of_page(text_of(page))
+    tally = Tally("claims")
+    tally.add(page, faults)
+    print(f"    {count} calls and laws of {page}")
+    return tally.close()
+
+
+sys.exit(main())
