@@ -5,8 +5,8 @@
                                              libti2, libti-dev, libti-tinfo and python3-ti
     build/packages.py release [DIRECTORY]    ti-VERSION-ARCH-linux.tar.gz with install.sh and
                                              README, the source as ti-VERSION.tar.gz, the module for
-                                             Python as ti_terminfo-VERSION-py3-none-any.whl, the
-                                             extension of Visual Studio Code as
+                                             Python as ti_terminfo-VERSION-py3-none-PLATFORM.whl if
+                                             the C library is built, the extension of Visual Studio Code as
                                              ti-lsp-VERSION-PLATFORM.vsix if the server is built, and
                                              SHA256SUMS of all
 

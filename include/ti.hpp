@@ -142,6 +142,14 @@ private:
     std::string path_;
 };
 
+/* What bytes from a terminal begin with: the longest key, and how many of them it is, or 0; and
+   whether they may be the front of a longer key, so that a program waits for more. */
+struct key {
+    std::string_view name;
+    std::size_t size;
+    bool is_unfinished;
+};
+
 /* A terminal that closes itself. Its file stays open. */
 class terminal {
 public:
@@ -175,6 +183,13 @@ public:
     terminal &change(std::initializer_list<ti_change> changes) {
         is_sent(ti_terminal_change(held_.get(), changes.begin(), changes.size()));
         return *this;
+    }
+
+    /* The key that bytes from the terminal begin with. */
+    key key_of(std::string_view bytes) const {
+        ti_text name = TI_NOTHING;
+        const ti_outcome found = ti_terminal_key(held_.get(), bytes_of(bytes), bytes.size(), &name);
+        return { view_of(name), found.size, found.status == TI_UNFINISHED };
     }
 
     ti_size size() const { return ti_terminal_size(held_.get()); }

@@ -49,9 +49,9 @@ def commands_of(page, heading):
 
 
 def programs_of(page):
-    """The programs in C and Python of a page of Markdown that have a name there, `As NAME` after
+    """The programs in C, C++ and Python of a page of Markdown that have a name there, `As NAME` after
     them: the text and the name of each."""
-    return re.findall(r"^```(?:c|python)\n([^`]*)^```\n\nAs `([\w.]+)`", text_of(page), re.M)
+    return re.findall(r"^```(?:c|cpp|python)\n([^`]*)^```\n\nAs `([\w.]+)`", text_of(page), re.M)
 
 
 def lines_printed(*words):

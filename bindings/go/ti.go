@@ -10,7 +10,8 @@
 //	terminal.Put("sgr0")
 //
 // The name of a terminal is that of the variable TERM if it is empty. Names of capabilities are those
-// that ti_string_named takes. An entry and a terminal are used by one goroutine at a time.
+// that ti_string_named takes. An entry and a terminal are used by one goroutine at a time. Once they
+// are closed they have no values, and what is asked of them is refused by os.ErrClosed.
 package ti
 
 /*
@@ -22,7 +23,9 @@ import "C"
 
 import (
 	"fmt"
+	"math"
 	"os"
+	"strings"
 	"unsafe"
 )
 
@@ -32,6 +35,7 @@ type Error uint32
 // The statuses that programs tell apart; ti.h has the others.
 const (
 	NoTerminal    Error = C.TI_NO_TERMINAL
+	BadName       Error = C.TI_BAD_NAME
 	BadParameter  Error = C.TI_BAD_PARAMETER
 	BadCapability Error = C.TI_BAD_CAPABILITY
 	BadValue      Error = C.TI_BAD_VALUE
@@ -71,12 +75,20 @@ func (t *texts) free() {
 	}
 }
 
-// name is the name of a terminal for C: NULL for TERM.
-func (t *texts) name(name string) *C.char {
-	if name == "" {
-		return nil
+// name is a name for C, which ends with a NUL there and so has none.
+func (t *texts) name(name string) (*C.char, error) {
+	if strings.IndexByte(name, 0) >= 0 {
+		return nil, BadName
 	}
-	return t.cString(name)
+	return t.cString(name), nil
+}
+
+// terminal is the name of a terminal for C: NULL for TERM.
+func (t *texts) terminal(name string) (*C.char, error) {
+	if name == "" {
+		return nil, nil
+	}
+	return t.name(name)
 }
 
 func goBytes(text C.struct_ti_text) []byte {
@@ -128,21 +140,38 @@ func (t *texts) changes(changes []Change) (*C.struct_ti_change, error) {
 	return at, nil
 }
 
-// Values are those of an entry, while that is not closed or changed.
-type Values struct{ entry *C.struct_ti_entry }
+// holder is what has an entry until it is closed.
+type holder interface{ held() *C.struct_ti_entry }
+
+// Values are those of an entry or of a terminal, none once that is closed.
+type Values struct{ of holder }
+
+// named is the entry, and a name for C. There are none of what is closed, and of a name with a NUL.
+func (v Values) named(t *texts, name string) (*C.struct_ti_entry, *C.char, bool) {
+	text, err := t.name(name)
+	if err != nil || v.of == nil || v.of.held() == nil {
+		return nil, nil, false
+	}
+	return v.of.held(), text, true
+}
 
 // Flag says whether a boolean is set.
 func (v Values) Flag(name string) bool {
 	var t texts
 	defer t.free()
-	return C.ti_flag_named(v.entry, t.cString(name)) == 1
+	entry, text, is := v.named(&t, name)
+	return is && C.ti_flag_named(entry, text) == 1
 }
 
 // Number is a number; the second result is false if the entry does not have it.
 func (v Values) Number(name string) (int, bool) {
 	var t texts
 	defer t.free()
-	number := C.ti_number_named(v.entry, t.cString(name))
+	entry, text, is := v.named(&t, name)
+	if !is {
+		return 0, false
+	}
+	number := C.ti_number_named(entry, text)
 	if number < 0 {
 		return 0, false
 	}
@@ -154,7 +183,8 @@ func (v Values) String(name string) ([]byte, bool) {
 	var t texts
 	defer t.free()
 	var text C.struct_ti_text
-	if C.ti_string_named(v.entry, t.cString(name), &text) != 1 {
+	entry, given, is := v.named(&t, name)
+	if !is || C.ti_string_named(entry, given, &text) != 1 {
 		return nil, false
 	}
 	return goBytes(text), true
@@ -163,14 +193,31 @@ func (v Values) String(name string) ([]byte, bool) {
 // Names is the names field.
 func (v Values) Names() string {
 	var text C.struct_ti_text
-	C.ti_names(v.entry, &text)
+	if v.of == nil || v.of.held() == nil {
+		return ""
+	}
+	C.ti_names(v.of.held(), &text)
 	return string(goBytes(text))
 }
 
-// Entry is a compiled entry, which has to be closed.
-type Entry struct {
+// Entry is a compiled entry, which has to be closed. Its copies are of the same entry.
+type Entry struct{ handle *entryHandle }
+
+// entryHandle is an entry, which is nil once it is closed.
+type entryHandle struct {
 	entry *C.struct_ti_entry
 	path  string
+}
+
+func newEntry(entry *C.struct_ti_entry, path string) *Entry {
+	return &Entry{&entryHandle{entry, path}}
+}
+
+func (e *Entry) held() *C.struct_ti_entry {
+	if e == nil || e.handle == nil {
+		return nil
+	}
+	return e.handle.entry
 }
 
 // Find finds the entry of a terminal.
@@ -179,12 +226,16 @@ func Find(name string) (*Entry, error) {
 	defer t.free()
 	var entry *C.struct_ti_entry
 	var path *C.char
-	status := C.ti_open_path(t.name(name), &entry, &path)
+	wanted, err := t.terminal(name)
+	if err != nil {
+		return nil, err
+	}
+	status := C.ti_open_path(wanted, &entry, &path)
 	defer C.free(unsafe.Pointer(path))
 	if err := check(status); err != nil {
 		return nil, err
 	}
-	return &Entry{entry, C.GoString(path)}, nil
+	return newEntry(entry, C.GoString(path)), nil
 }
 
 // OfBytes reads an entry from a copy of its bytes.
@@ -196,7 +247,7 @@ func OfBytes(bytes []byte) (*Entry, error) {
 	if err := check(C.ti_entry_new(text.bytes, text.size, &entry)); err != nil {
 		return nil, err
 	}
-	return &Entry{entry, ""}, nil
+	return newEntry(entry, ""), nil
 }
 
 // Changed is the entry with changes, of which the last of a name decides.
@@ -207,37 +258,68 @@ func (e *Entry) Changed(changes ...Change) (*Entry, error) {
 	if err != nil {
 		return nil, err
 	}
+	if e.held() == nil {
+		return nil, os.ErrClosed
+	}
 	var entry *C.struct_ti_entry
-	made := C.ti_entry_change(e.entry, given, C.size_t(len(changes)), &entry)
+	made := C.ti_entry_change(e.held(), given, C.size_t(len(changes)), &entry)
 	if err := check(made.status); err != nil {
 		return nil, err
 	}
-	return &Entry{entry, ""}, nil
+	return newEntry(entry, ""), nil
 }
 
 // Bytes are those of the compiled entry.
 func (e *Entry) Bytes() []byte {
 	var text C.struct_ti_text
-	C.ti_entry_bytes(e.entry, &text)
+	if e.held() == nil {
+		return nil
+	}
+	C.ti_entry_bytes(e.held(), &text)
 	return goBytes(text)
 }
 
 // Values are its values.
-func (e *Entry) Values() Values { return Values{e.entry} }
+func (e *Entry) Values() Values { return Values{e} }
 
 // Path is that of the file in which it was found.
-func (e *Entry) Path() string { return e.path }
-
-// Close frees the entry.
-func (e *Entry) Close() {
-	C.ti_entry_free(e.entry)
-	e.entry = nil
+func (e *Entry) Path() string {
+	if e.held() == nil {
+		return ""
+	}
+	return e.handle.path
 }
 
-// Terminal is a terminal that is opened once, which has to be closed.
-type Terminal struct {
+// Close frees the entry. To close it again does nothing.
+func (e *Entry) Close() {
+	if e.held() != nil {
+		C.ti_entry_free(e.handle.entry)
+		e.handle.entry = nil
+	}
+}
+
+// Terminal is a terminal that is opened once, which has to be closed. Its copies are of the same
+// terminal.
+type Terminal struct{ handle *terminalHandle }
+
+// terminalHandle is a terminal, which is nil once it is closed, and its file, which lives as long.
+type terminalHandle struct {
 	terminal *C.struct_ti_terminal
 	file     *os.File
+}
+
+func (t *Terminal) opened() *C.struct_ti_terminal {
+	if t == nil || t.handle == nil {
+		return nil
+	}
+	return t.handle.terminal
+}
+
+func (t *Terminal) held() *C.struct_ti_entry {
+	if t.opened() == nil {
+		return nil
+	}
+	return C.ti_terminal_entry(t.opened())
 }
 
 // Open opens the terminal of a name, to which a file leads. The file stays open.
@@ -245,10 +327,47 @@ func Open(name string, file *os.File) (*Terminal, error) {
 	var t texts
 	defer t.free()
 	var terminal *C.struct_ti_terminal
-	if err := check(C.ti_terminal_open(t.name(name), C.int(file.Fd()), &terminal)); err != nil {
+	wanted, err := t.terminal(name)
+	if err != nil {
 		return nil, err
 	}
-	return &Terminal{terminal, file}, nil
+	if err := check(C.ti_terminal_open(wanted, C.int(file.Fd()), &terminal)); err != nil {
+		return nil, err
+	}
+	return &Terminal{&terminalHandle{terminal, file}}, nil
+}
+
+// parameter makes a parameter for C. An int has to be one of 32 bits.
+func (t *texts) parameter(param any) (made C.struct_ti_parameter, err error) {
+	switch value := param.(type) {
+	case int:
+		if value < math.MinInt32 || value > math.MaxInt32 {
+			return made, BadParameter
+		}
+		made.number = C.int32_t(value)
+	case string:
+		made.kind, made.text = 1, t.text(value)
+	case []byte:
+		made.kind, made.text = 1, t.text(string(value))
+	default:
+		return made, fmt.Errorf("a parameter is an int, a string or bytes, and not %T", param)
+	}
+	return made, nil
+}
+
+// parameters puts parameters where C may read them.
+func (t *texts) parameters(params []any) (*C.struct_ti_parameter, error) {
+	size := C.size_t(unsafe.Sizeof(C.struct_ti_parameter{}))
+	at := (*C.struct_ti_parameter)(t.keep(C.calloc(C.size_t(len(params)+1), size)))
+	given := unsafe.Slice(at, len(params))
+	for i, param := range params {
+		made, err := t.parameter(param)
+		if err != nil {
+			return nil, err
+		}
+		given[i] = made
+	}
+	return at, nil
 }
 
 // Put sends a string by its name, with parameters that are ints, strings or bytes. It is false if
@@ -256,22 +375,18 @@ func Open(name string, file *os.File) (*Terminal, error) {
 func (t *Terminal) Put(name string, params ...any) (bool, error) {
 	var held texts
 	defer held.free()
-	size := C.size_t(unsafe.Sizeof(C.struct_ti_parameter{}))
-	at := (*C.struct_ti_parameter)(held.keep(C.calloc(C.size_t(len(params)+1), size)))
-	given := unsafe.Slice(at, len(params))
-	for i, param := range params {
-		switch value := param.(type) {
-		case int:
-			given[i].number = C.int32_t(value)
-		case string:
-			given[i].kind, given[i].text = 1, held.text(value)
-		case []byte:
-			given[i].kind, given[i].text = 1, held.text(string(value))
-		default:
-			return false, fmt.Errorf("a parameter is an int, a string or bytes, and not %T", param)
-		}
+	wanted, err := held.name(name)
+	if err != nil {
+		return false, err
 	}
-	sent := C.ti_put_named_values(t.terminal, held.cString(name), at, C.size_t(len(params)))
+	given, err := held.parameters(params)
+	if err != nil {
+		return false, err
+	}
+	if t.opened() == nil {
+		return false, os.ErrClosed
+	}
+	sent := C.ti_put_named_values(t.opened(), wanted, given, C.size_t(len(params)))
 	if sent.status == C.TI_ABSENT {
 		return false, nil
 	}
@@ -283,7 +398,10 @@ func (t *Terminal) PutText(text string) error {
 	var held texts
 	defer held.free()
 	given := held.text(text)
-	return check(C.ti_put_text(t.terminal, given.bytes, given.size).status)
+	if t.opened() == nil {
+		return os.ErrClosed
+	}
+	return check(C.ti_put_text(t.opened(), given.bytes, given.size).status)
 }
 
 // Change changes its entry, for what is sent later.
@@ -294,34 +412,54 @@ func (t *Terminal) Change(changes ...Change) error {
 	if err != nil {
 		return err
 	}
-	return check(C.ti_terminal_change(t.terminal, given, C.size_t(len(changes))).status)
+	if t.opened() == nil {
+		return os.ErrClosed
+	}
+	return check(C.ti_terminal_change(t.opened(), given, C.size_t(len(changes))).status)
 }
 
-// Key is the name of the key that bytes from the terminal begin with, and how many bytes it takes;
-// 0 if there is none.
-func (t *Terminal) Key(bytes []byte) (name string, size int) {
+// Key is the name of the key that bytes from the terminal begin with, and how many bytes it takes,
+// 0 if there is none; and whether the bytes may be the front of a longer key, so that a program waits
+// some time for more.
+func (t *Terminal) Key(bytes []byte) (name string, size int, isUnfinished bool) {
 	var held texts
 	defer held.free()
 	var text C.struct_ti_text
 	given := held.text(string(bytes))
-	key := C.ti_terminal_key(t.terminal, given.bytes, given.size, &text)
-	if key.size == 0 {
-		return "", 0
+	if t.opened() == nil {
+		return "", 0, false
 	}
-	return string(goBytes(text)), int(key.size)
+	key := C.ti_terminal_key(t.opened(), given.bytes, given.size, &text)
+	if key.size > 0 {
+		name = string(goBytes(text))
+	}
+	return name, int(key.size), key.status == C.TI_UNFINISHED
 }
 
 // Size is that of the screen in characters, 0 if it is not known.
 func (t *Terminal) Size() (height, width int) {
-	size := C.ti_terminal_size(t.terminal)
+	if t.opened() == nil {
+		return 0, 0
+	}
+	size := C.ti_terminal_size(t.opened())
 	return int(size.height), int(size.width)
 }
 
-// Values are those of its entry.
-func (t *Terminal) Values() Values { return Values{C.ti_terminal_entry(t.terminal)} }
+// Values are those of its entry, as it is changed.
+func (t *Terminal) Values() Values { return Values{t} }
 
-// Close frees the terminal and its entry.
+// Path is that of the file in which its entry was found.
+func (t *Terminal) Path() string {
+	if t.opened() == nil {
+		return ""
+	}
+	return C.GoString(C.ti_terminal_path(t.opened()))
+}
+
+// Close frees the terminal and its entry. To close it again does nothing.
 func (t *Terminal) Close() {
-	C.ti_terminal_close(t.terminal)
-	t.terminal = nil
+	if t.opened() != nil {
+		C.ti_terminal_close(t.handle.terminal)
+		t.handle.terminal = nil
+	}
 }

@@ -53,15 +53,41 @@ func TestStringsAreSent(t *testing.T) {
 	if _, width := terminal.Size(); width == 0 {
 		t.Error("the width is not known")
 	}
-	if key, size := terminal.Key([]byte("\x1bOAx")); key != "kcuu1" || size != 3 {
-		t.Error(key, size)
+	for _, pressed := range []struct {
+		bytes, name string
+		size        int
+		unfinished  bool
+	}{{"\x1bOAx", "kcuu1", 3, false}, {"\x1b[", "", 0, true}, {"x", "", 0, false}} {
+		key, size, is := terminal.Key([]byte(pressed.bytes))
+		if key != pressed.name || size != pressed.size || is != pressed.unfinished {
+			t.Errorf("%q: %q, %d, %v", pressed.bytes, key, size, is)
+		}
+	}
+	for _, params := range [][]any{{1 << 31, 0}, {-1<<31 - 1, 0}} {
+		if sent, err := terminal.Put("cup", params...); sent || err != BadParameter {
+			t.Error(params, sent, err)
+		}
+	}
+	if filepath.Base(terminal.Path()) != name {
+		t.Error(terminal.Path())
 	}
 	if err := terminal.Change(changes...); err != nil {
 		t.Error(err)
 	}
 	put(true, "Smulx", 3)
 	put(false, "smcup")
+	values := terminal.Values()
+	if text, is := values.String("Smulx"); !is || string(text) != "<%p1%d>" {
+		t.Errorf("%q", text)
+	}
+	copied := *terminal
 	terminal.Close()
+	for _, closed := range []*Terminal{terminal, &copied, new(Terminal)} {
+		isClosed(t, closed)
+	}
+	if _, is := values.String("Smulx"); is || values.Flag("am") || values.Names() != "" {
+		t.Error("a terminal that is closed has values")
+	}
 	file.Close()
 	sent, err := os.ReadFile(path)
 	if err != nil || string(sent) != "\x1b[5;10H\x1b[4:3m\x1b]52;c;aGk=\atext<3>" {
@@ -109,5 +135,56 @@ func TestErrorsHaveASentence(t *testing.T) {
 	}
 	if _, err := OfBytes([]byte("no")); err == nil {
 		t.Error("two bytes are no entry")
+	}
+}
+
+// isClosed checks that each call of a terminal that is closed is refused or gives nothing.
+func isClosed(t *testing.T, terminal *Terminal) {
+	_, put := terminal.Put("sgr0")
+	key, size, is := terminal.Key([]byte("\x1bOA"))
+	height, width := terminal.Size()
+	for _, err := range []error{put, terminal.PutText("x"), terminal.Change(changes...)} {
+		if err != os.ErrClosed {
+			t.Error(err)
+		}
+	}
+	if key != "" || size != 0 || is || height != 0 || width != 0 || terminal.Path() != "" {
+		t.Error("a terminal that is closed has keys, a size or a path")
+	}
+	if _, is := terminal.Values().Number("colors"); is {
+		t.Error("a terminal that is closed has values")
+	}
+	terminal.Close()
+}
+
+func TestClosedEntries(t *testing.T) {
+	entry := find(t)
+	copied, values := *entry, entry.Values()
+	entry.Close()
+	for _, closed := range []*Entry{entry, &copied, new(Entry), nil} {
+		if _, err := closed.Changed(changes...); err != os.ErrClosed {
+			t.Error(err)
+		}
+		if _, is := closed.Values().String("bel"); is || closed.Bytes() != nil || closed.Path() != "" {
+			t.Error("an entry that is closed has values")
+		}
+		closed.Close()
+	}
+	if _, is := values.Number("colors"); is || new(Values).Flag("am") || new(Values).Names() != "" {
+		t.Error("an entry that is closed has values")
+	}
+}
+
+func TestNamesWithANul(t *testing.T) {
+	if _, err := Find(name + "\x00"); err != BadName {
+		t.Error(err)
+	}
+	if _, err := Open(name+"\x00", os.Stdout); err != BadName {
+		t.Error(err)
+	}
+	entry := find(t)
+	defer entry.Close()
+	if _, is := entry.Values().Number("colors\x00"); is || entry.Values().Flag("am\x00") {
+		t.Error("a name with a NUL is one without it")
 	}
 }

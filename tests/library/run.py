@@ -6,7 +6,8 @@
 The archive of crates/ti_c is built already, by the gate or by `make library`. The cases:
 
 header        ti.h and ti_names.h compile in C99 to C23 and C++98 to C++23 without a warning, before and
-              after curses.h and term.h; a status of another enum gets a warning
+              after curses.h and term.h, and by themselves with every warning that clang has; a status of
+              another enum gets a warning
 symbols       both libraries export what ti.h declares, and nothing else; the shared one with a
               version, as debian/libti2.symbols lists them
 names         ti_names.h follows from the tables of ti_caps, and its constants are the places of the
@@ -16,7 +17,8 @@ sending       strings sent by name, delays, look-ups by place, rates (sending.c)
 changed       entries that are changed in memory (changed.c), and those of the system compared, byte by
               byte, with what tic of ncurses makes of their changed sources
 wrapper       ti.hpp compiles in C++17 to C++23 without a warning, and does what it says (wrapper.cpp)
-rust          bindings/rust is compiled by rustc without a warning, and its tests pass
+rust          bindings/rust is compiled by rustc without a warning, and its tests pass; by that of
+              Debian too, if another one is found first
 go            bindings/go is compiled by go and cgo, without a network, and its tests pass
 terminal      a terminal that is opened once (terminal.c), on an entry with user-defined strings too
 memory        each allocation refused in turn (memory.c), also under sanitizers
@@ -56,7 +58,7 @@ from concurrent.futures import ThreadPoolExecutor
 HERE = os.path.dirname(os.path.abspath(__file__))
 sys.path.insert(0, os.path.dirname(HERE))
 from common import (  # noqa: E402
-    ENTRY_DIRECTORIES, PROGRAM, TOP, Skipped, Tally, entry_file, files_below, programs_of, text_of,
+    ENTRY_DIRECTORIES, PROGRAM, TOP, Skipped, Tally, entry_file, files_below, need, programs_of, text_of,
 )
 import library  # noqa: E402
 import transcript  # noqa: E402
@@ -137,6 +139,8 @@ def has_header(room, header):
 WARN_MORE = ["-Wshadow", "-Wconversion", "-Wcast-qual", "-Wcast-align", "-Wundef", "-Wredundant-decls", "-Wswitch-enum"]
 OF_C = ["-Wstrict-prototypes", "-Wmissing-prototypes", "-Wold-style-definition", "-Wwrite-strings", "-Wc++-compat"]
 OF_CXX = ["-Wold-style-cast", "-Wzero-as-null-pointer-constant", "-Weffc++", "-Wsign-promo", "-Wmissing-declarations"]
+# every warning of clang, but that a struct has padding, and that C++11 is not C++98
+EACH_OF_CLANG = ["-Weverything", "-Wno-padded", "-Wno-c++98-compat", "-Wno-c++98-compat-pedantic"]
 # each compiler, its language, and its standards
 COMPILERS = [
     ("gcc", "c", ["c99", "c11", "c17", "c2x"], OF_C), ("clang", "c", ["c99", "c11", "c17", "c2x"], OF_C),
@@ -195,6 +199,7 @@ def syntax(compiler, language, standard, warnings, source):
 
 def check_header(room):
     sources = [room.write("uses.c", OURS + USES)]
+    alone = room.write("alone.c", OURS)
     if run([room.compiler, "-E", "-x", "c", "-"], input=THEIRS.encode())[0]:
         print("    not tried with curses.h and term.h, which are not installed")
     else:
@@ -210,6 +215,8 @@ def check_header(room):
                 said = syntax(compiler, language, standard, [*WARN_MORE, *warnings], source)
                 faults += [f"{compiler} {standard}: {line}" for line in said]
             faults += syntax(compiler, language, standard, [], f"{INCLUDE}/ti.c")
+            if compiler.startswith("clang"):
+                faults += syntax(compiler, language, standard, EACH_OF_CLANG, alone)
     other = 'enum other { ANOTHER = 1 };\nint main(void) { return ti_strerror(TI_OK) && TI_SHORT == ANOTHER; }\n'
     if not syntax(room.compiler, "c", "c99", [], room.write("other.c", OURS + other)):
         faults.append("a status compared with another enum gets no warning")
@@ -391,12 +398,20 @@ def check_rust(room):
         raise Skipped("rustc is not installed")
     if not entry_file("tmux-256color"):
         raise Skipped("the system has no entry of tmux-256color")
-    directory = room.path("rust")
-    os.makedirs(directory, exist_ok=True)
+    faults = []
+    for at, compiler in enumerate(sorted({shutil.which("rustc"), shutil.which("rustc", path="/usr/bin")} - {None})):
+        directory = room.path(f"rust{at}")
+        os.makedirs(directory)
+        faults += [f"{compiler}: {fault}" for fault in rust_faults(room, compiler, directory)]
+    return faults
+
+
+def rust_faults(room, compiler, directory):
+    """What a compiler says of the binding for Rust, and its tests."""
     # the name that the linker looks for
     shutil.copy(room.path("libti.so.2"), f"{directory}/libti.so")
     source, made = os.path.join(TOP, "bindings", "rust"), f"{directory}/libti_rust.rlib"
-    words = ["rustc", "--edition", "2021", "-D", "warnings", "-L", directory]
+    words = [compiler, "--edition", "2021", "-D", "warnings", "-L", directory]
     status, said = run([*words, "--crate-type", "rlib", "--crate-name", "ti", f"{source}/src/lib.rs", "-o", made])
     if status or said:
         return said.splitlines()
@@ -910,8 +925,8 @@ def check_types(room):
 
 
 def check_commands(room):
-    if not shutil.which("pkg-config"):
-        raise Skipped("pkg-config is not installed")
+    for program in ("pkg-config", "c++"):
+        need(program)
     if not entry_file("xterm-256color"):
         raise Skipped("the system has no entry of xterm-256color")
     prefix, place, page = room.path("prefix"), room.path("commands"), os.path.join(TOP, "docs", "LIBRARY.md")

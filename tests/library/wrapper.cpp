@@ -40,6 +40,9 @@ static void sends(int to, int from) {
     CHECK(!out.put("nosuch") && !out.put(TI_AM));
     CHECK(out.put_text("a").put_text("b").put(TI_BEL) && read_all(from) == "ab\a");
     CHECK(thrown([&] { out.put("Ms", 1, 2); }) == TI_BAD_PARAMETER);
+    const ti::key up = out.key_of("\033OAx"), begun = out.key_of("\033["), none = out.key_of("x");
+    CHECK(up.name == "kcuu1" && up.size == 3 && !up.is_unfinished && begun.size == 0 && begun.is_unfinished);
+    CHECK(none.name.empty() && none.size == 0 && !none.is_unfinished);
     CHECK(out.all().flag("am") && out.all().number("colors") == 256 && !out.all().number("nosuch"));
     CHECK(out.all().string("bel") == "\a" && !out.all().string("am") && out.size().width > 0);
     out.change({ ti::change("Smulx", "<%p1%d>"), ti::removal("bel") });

@@ -15,12 +15,16 @@ import packages  # noqa: E402
 from common import Skipped, files_below, need  # noqa: E402
 
 ENTER = os.path.join(HERE, "enter")
-# what the pages ask for of Debian: a compiler and pkg-config, make, Python, an editor, and the
-# programs that ti-run runs
-OF_DEBIAN = ("gcc", "libc6-dev", "less", "make", "neovim", "pkg-config", "python3", "tmux", "vim")
-# in how many seconds a command ends, and debootstrap, which gets 130 MB and unpacks them
-SECONDS = 600
+# what the pages ask for of Debian: compilers and pkg-config, make, Python with its environments, an
+# editor, and the programs that ti-run runs
+OF_DEBIAN = (
+    "g++", "gcc", "libc6-dev", "less", "make", "neovim", "pkg-config", "python3", "python3-venv", "tmux", "vim",
+)
+# in how many seconds a command ends, and debootstrap, which gets 150 MB and unpacks them
+SECONDS = 900
 SECONDS_OF_SYSTEM = 2400
+# how often debootstrap is tried, since a file may not come through
+TRIES_OF_SYSTEM = 2
 # a user who is not root
 USER = 1000
 AS_USER = ("setpriv", f"--reuid={USER}", f"--regid={USER}", "--clear-groups")
@@ -79,7 +83,7 @@ class System:
         for program in ("debootstrap", "dh", "git", "make"):
             need(program)
         if not packages.HAS_LIBRARY or not packages.HAS_LSP or not packages.HAS_TINFO:
-            raise Skipped("not all is made: make lsp tinfo")
+            raise Skipped("not all is made: make all lsp tinfo everyday")
         if os.geteuid() != 0:
             raise Skipped("a chroot takes root's rights")
         for what in ("deb", "release"):
@@ -87,11 +91,26 @@ class System:
             packages.make(what, self.made)
             print(f"    make {what}: {time.monotonic() - began:.0f} seconds", flush=True)
 
+    def bootstrap(self):
+        """Makes the system. What is mounted for that is gone when it ends. Gives what debootstrap said at
+        last, if there is none."""
+        words = ["unshare", "--mount", "debootstrap", "--variant=minbase", f"--include={','.join(OF_DEBIAN)}"]
+        said = ""
+        for _ in range(TRIES_OF_SYSTEM):
+            shutil.rmtree(self.root, ignore_errors=True)
+            try:
+                status, said = run([*words, release(), self.root], SECONDS_OF_SYSTEM)
+            except subprocess.TimeoutExpired:
+                return f"it did not end within {SECONDS_OF_SYSTEM} seconds"
+            if status == 0:
+                return ""
+        return (said.strip().splitlines() or ["nothing"])[-1]
+
     def make_root(self):
         began = time.monotonic()
-        words = ["debootstrap", "--variant=minbase", f"--include={','.join(OF_DEBIAN)}", release()]
-        status, _ = run([*words, self.root], SECONDS_OF_SYSTEM)
-        if status:
+        why_not = self.bootstrap()
+        if why_not:
+            print(f"    debootstrap: {why_not}", flush=True)
             raise Skipped("debootstrap could make no system here")
         os.mkdir(os.path.join(self.root, "room"))
         if run([ENTER, self.root, self.directory, "true"])[0]:

@@ -12,8 +12,9 @@ author       who writes the entry of a terminal: the commands of README, example
              docs/TROUBLESHOOTING.md and the manual pages, as the package has them and as a user who
              is not root; Neovim shows the errors and warnings of a source, set up by docs/EDITORS.md
              and by ti-lsp(1)
-programmer   the programs of README, docs/LIBRARY.md, ti(3) and examples/, in C and Python, built
-             and run as the pages say
+programmer   the programs of README, docs/LIBRARY.md, ti(3) and examples/, in C, C++ and Python,
+             built and run as the pages say; the wheel in an environment of its own, once the
+             packages are removed
 programs     the commands of docs/TINFO.md in a terminal, each next to the same without ti-run
 
 What cannot be had is skipped, and said to be. The last line is
@@ -30,12 +31,11 @@ import sys
 import tempfile
 from concurrent.futures import ThreadPoolExecutor
 
-import debian  # puts the directories of the following modules on the path
-from debian import ENTER, Room, System
+from debian import ENTER, Room, System  # puts the directories of the following modules on the path
 import packages
 import screens
 import transcript
-from common import TOP, Skipped, Tally, commands_of, programs_of, text_of
+from common import TOP, Skipped, Tally, commands_of, need, programs_of, text_of
 from shared import INSTALLED_PAGES, install_command
 
 DOC = "usr/share/doc/ti"
@@ -187,15 +187,21 @@ def check_author(system):
 
 # The programmer
 
+# the programs of examples/, and what each writes on a terminal of 256 colors
+PROGRAMS_OF_EXAMPLES = {
+    "colours.c": "\033[38;5;200m", "styles.c": "\033[33morange\r\n", "colours.py": "\033[38;5;200mcolour 200",
+    "screen.py": "\033[32m",
+}
+
 
 def check_programmer(system):
     room = Room(system, "programmer")
     for command in commands_of("docs/LIBRARY.md", "## Install"):
         room.root_does(command)
     room.root_does(inline("docs/LIBRARY.md", "dpkg -i packages/python3-ti"))
-    for name in ("transcript.py", "docs/LIBRARY.md", "examples/colours.c", "examples/colours.py", "examples/screen.py"):
-        source = os.path.join(debian.TESTS if name == "transcript.py" else TOP, name)
-        shutil.copy(source, room.path(os.path.basename(name)))
+    shutil.copy(transcript.__file__, room.path("transcript.py"))
+    for name in ("docs/LIBRARY.md", *(f"examples/{name}" for name in PROGRAMS_OF_EXAMPLES)):
+        shutil.copy(os.path.join(TOP, name), room.path(os.path.basename(name)))
     for text, name in programs_of("docs/LIBRARY.md"):
         room.write(name, text)
     room.wants("docs/LIBRARY.md", room.user_does("python3 transcript.py LIBRARY.md"), "")
@@ -206,13 +212,24 @@ def check_programmer(system):
     room.write("width.c", "\n".join(next(transcript.blocks(os.path.join(TOP, "man", "ti.3")))) + "\n")
     room.user_does(re.search(r"^\.Ql (cc width\.c .*?) ?\.?$", page, re.M)[1])
     room.wants("the program of ti(3)", room.user_does("./a.out", TERM=TERM), f"{TERM}: 80 columns\n")
-    for name, shown in (("colours.c", "\033[38;5;200m"), ("colours.py", "\033[38;5;200mcolour 200"), ("screen.py", "\033[32m")):
+    for name, shown in PROGRAMS_OF_EXAMPLES.items():
         command = re.search(rf"((?:cc|python3) {name}[^\n\"]*)", text_of("examples", name))[1]
         printed = room.user_does(command, TERM=TERM)
         if shown not in printed:
             room.faults.append(f"{command}: printed {printed[:400]!r}")
     room.root_does(f"dpkg --purge {' '.join(name for name in packages.PACKAGES if name != 'ti' and 'tinfo' not in name)}")
+    try_wheel(room)
     return room.faults
+
+
+def try_wheel(room):
+    """Installs the wheel by the commands of docs/LIBRARY.md, where no package has the library."""
+    for command in commands_of("docs/LIBRARY.md", "## Python"):
+        room.user_does(command)
+    script = "import ti; print(ti.Entry.find().number('cols'), ti._library_name())"
+    printed = room.user_does(f'own/bin/python -c "{script}"', TERM=TERM)
+    if not re.fullmatch(r"80 /room/own/\S*/site-packages/ti/libti\.so\.2\n", printed):
+        room.faults.append(f"the module of the wheel printed {printed!r}")
 
 
 # Programs of libtinfo
@@ -229,6 +246,7 @@ class Terminals:
 
 
 def check_programs(system):
+    need("tmux")
     room = Room(system, "programs")
     (install,) = commands_of("docs/TINFO.md", "## Turn it on")
     room.root_does(install)

@@ -74,6 +74,7 @@ def check_version():
     of_library = {
         "include/ti.pc.in": f"Version: {library_version()}\n", "python/pyproject.toml": f'version = "{library_version()}"\n',
         "python/ti/__init__.py": f'__version__ = "{library_version()}"\n', "CHANGELOG.md": f"libti {library_version()}",
+        "docs/LIBRARY.md": f"/ti_terminfo-{library_version()}-py3-",
     }
     for path, line in of_library.items():
         if line not in text_of(path):

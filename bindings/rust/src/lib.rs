@@ -13,6 +13,8 @@
 //! }
 //! ```
 
+#![deny(unsafe_op_in_unsafe_fn)]
+
 mod sys;
 
 use std::ffi::{CStr, CString};
@@ -29,6 +31,19 @@ pub struct Error {
 }
 
 impl Error {
+    /// No directory has an entry of the name.
+    pub const NO_TERMINAL: Error = Error { status: 10 };
+    /// The name has a byte that no name has.
+    pub const BAD_NAME: Error = Error { status: sys::BAD_NAME };
+    /// A parameter is a number where the string takes a string, or the other way round.
+    pub const BAD_PARAMETER: Error = Error { status: 20 };
+    /// No capability can have the name of a change.
+    pub const BAD_CAPABILITY: Error = Error { status: 25 };
+    /// A capability cannot have the value of a change.
+    pub const BAD_VALUE: Error = Error { status: 26 };
+    /// A changed entry would have more bytes than its limit.
+    pub const TOO_LARGE: Error = Error { status: 27 };
+
     /// The number of the status.
     pub fn status(&self) -> u32 {
         self.status
@@ -55,7 +70,7 @@ fn check(status: u32) -> Result<(), Error> {
 
 /// A name as C takes it. No terminal and no capability has a NUL in its name.
 fn c_name(name: &str) -> Result<CString, Error> {
-    CString::new(name).map_err(|_| Error { status: sys::BAD_NAME })
+    CString::new(name).map_err(|_| Error::BAD_NAME)
 }
 
 /// The bytes of a text, which are valid as long as what it is of.
@@ -254,6 +269,15 @@ impl Parameter<'_> {
     }
 }
 
+/// What bytes from a terminal begin with.
+#[derive(Clone, Copy, Debug, PartialEq, Eq)]
+pub struct Keys<'t> {
+    /// The name of the longest key, such as kcuu1, and how many of the bytes it is.
+    pub longest: Option<(&'t [u8], usize)>,
+    /// Whether the bytes may be the front of a longer key, so that a program waits for more.
+    pub is_unfinished: bool,
+}
+
 /// A terminal that is opened once, to which a file leads.
 pub struct Terminal<'f> {
     terminal: NonNull<sys::Opaque>,
@@ -311,6 +335,24 @@ impl<'f> Terminal<'f> {
     pub fn values(&self) -> Values<'_> {
         // SAFETY: the entry lives as long as the terminal.
         Values { entry: unsafe { sys::ti_terminal_entry(self.terminal.as_ptr()) }, of: PhantomData }
+    }
+
+    /// The key that bytes from the terminal begin with.
+    pub fn key(&self, bytes: &[u8]) -> Keys<'_> {
+        let mut name = sys::Text { bytes: null(), size: 0 };
+        // SAFETY: the bytes are so many; the name is the library's or the entry's.
+        let (found, name) = unsafe {
+            let found = sys::ti_terminal_key(self.terminal.as_ptr(), bytes.as_ptr(), bytes.len(), &mut name);
+            (found, bytes_of(name))
+        };
+        let longest = (found.size > 0).then(|| (name, found.size));
+        Keys { longest, is_unfinished: found.status == sys::UNFINISHED }
+    }
+
+    /// The path of the file in which its entry was found.
+    pub fn path(&self) -> &CStr {
+        // SAFETY: a terminal that was opened has a path, which lives as long.
+        unsafe { CStr::from_ptr(sys::ti_terminal_path(self.terminal.as_ptr())) }
     }
 
     /// The height and the width of the screen, 0 if they are not known.

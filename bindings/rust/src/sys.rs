@@ -6,6 +6,7 @@ use std::os::raw::{c_char, c_int, c_void};
 pub const OK: u32 = 0;
 pub const BAD_NAME: u32 = 17;
 pub const ABSENT: u32 = 18;
+pub const UNFINISHED: u32 = 24;
 
 /// `struct ti_entry` and `struct ti_terminal`, into which the library alone looks.
 #[repr(C)]
@@ -81,6 +82,13 @@ extern "C" {
     pub fn ti_terminal_open(name: *const c_char, file: c_int, terminal: *mut *mut Opaque) -> u32;
     pub fn ti_terminal_close(terminal: *mut Opaque);
     pub fn ti_terminal_entry(terminal: *const Opaque) -> *const Opaque;
+    pub fn ti_terminal_key(
+        terminal: *const Opaque,
+        bytes: *const u8,
+        size: usize,
+        name: *mut Text,
+    ) -> Outcome;
+    pub fn ti_terminal_path(terminal: *const Opaque) -> *const c_char;
     pub fn ti_terminal_size(terminal: *const Opaque) -> Size;
     pub fn ti_terminal_change(
         terminal: *mut Opaque,

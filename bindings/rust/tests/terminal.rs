@@ -2,7 +2,7 @@
 
 use std::fs::{self, File};
 use std::os::unix::io::AsFd;
-use ti::{Change, Entry, Error, Parameter, Terminal, Value};
+use ti::{Change, Entry, Error, Keys, Parameter, Terminal, Value};
 
 const NAME: Option<&str> = Some("tmux-256color");
 
@@ -15,10 +15,16 @@ fn strings_are_sent() -> Result<(), Error> {
     assert!(terminal.put("Smulx", &[3.into()])?);
     assert!(terminal.put("Ms", &["c".into(), "aGk=".into()])?);
     assert!(!terminal.put("nosuch", &[])?);
-    assert_eq!(terminal.put("Ms", &[1.into(), 2.into()]).map_err(|error| error.status()), Err(20));
+    assert_eq!(terminal.put("Ms", &[1.into(), 2.into()]), Err(Error::BAD_PARAMETER));
+    assert_eq!(terminal.put("sgr0\0", &[]), Err(Error::BAD_NAME));
     terminal.put_text(b"text")?;
     assert_eq!(terminal.values().number("colors"), Some(256));
     assert!(terminal.size().1 > 0);
+    assert!(terminal.path().to_bytes().ends_with(b"/tmux-256color"));
+    let up = Keys { longest: Some((&b"kcuu1"[..], 3)), is_unfinished: false };
+    assert_eq!(terminal.key(b"\x1bOAx"), up);
+    assert_eq!(terminal.key(b"\x1b["), Keys { longest: None, is_unfinished: true });
+    assert_eq!(terminal.key(b"x"), Keys { longest: None, is_unfinished: false });
     terminal.change(&CHANGES)?;
     assert!(terminal.put("Smulx", &[3.into()])? && !terminal.put("smcup", &[])?);
     drop(terminal);
@@ -60,9 +66,10 @@ fn entries_are_changed() -> Result<(), Error> {
         assert_eq!((values.number("colors"), values.number("cols")), (Some(1 << 24), Some(80)));
         assert_eq!((values.string("Smulx"), values.string("smcup")), (Some(&b"<%p1%d>"[..]), None));
     }
-    let status = |name, value| changed.changed(&[Change { name, value }]).err().map(|error| error.status());
-    assert_eq!((status("a b", None), status("cup", Some(Value::Flag))), (Some(25), Some(26)));
-    assert_eq!(status("XX", Some(Value::Text(&[b'x'; 40000]))), Some(27));
+    let refusal = |name, value| changed.changed(&[Change { name, value }]).err();
+    assert_eq!(refusal("a b", None), Some(Error::BAD_CAPABILITY));
+    assert_eq!(refusal("cup", Some(Value::Flag)), Some(Error::BAD_VALUE));
+    assert_eq!(refusal("XX", Some(Value::Text(&[b'x'; 40000]))), Some(Error::TOO_LARGE));
     Ok(())
 }
 
@@ -70,6 +77,7 @@ fn entries_are_changed() -> Result<(), Error> {
 fn errors_have_a_status() {
     let status = |name| Entry::find(Some(name)).err().map(|error| error.status());
     assert_eq!((status("no-such"), status(""), status("a/b"), status("a\0b")), (Some(10), Some(22), Some(23), Some(17)));
+    assert_eq!(Entry::find(Some("no-such")).err(), Some(Error::NO_TERMINAL));
     let refused = Entry::of_bytes(b"no").err().expect("two bytes are not an entry");
     assert_eq!(refused.status(), 1);
     assert_eq!(refused.to_string(), "The entry has fewer bytes than a header");
