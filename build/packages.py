@@ -30,6 +30,8 @@ from repository import TOP, files_below, text_of
 from wheel import LIBRARY, project, wheel, wheel_name
 
 LICENCES = ("LICENSE-MIT", "LICENSE-APACHE")
+# how much is shown of what debhelper says, if it fails
+LINES_SAID = 40
 # what is built is not a file of the repository
 BUILT = ("crates/ti/out/ti", "crates/ti_lsp/out/ti_lsp", "crates/ti_everyday/out/ti_everyday")
 
@@ -121,7 +123,9 @@ def make_deb(made):
         copy_tree(tree)
         words = ["dpkg-buildpackage", "--build=binary", "--no-sign"]
         env = {**os.environ, "SOURCE_DATE_EPOCH": str(epoch())}
-        subprocess.run(words, cwd=tree, env=env, check=True, stdout=subprocess.DEVNULL, stderr=subprocess.PIPE)
+        ran = subprocess.run(words, cwd=tree, env=env, stdout=subprocess.PIPE, stderr=subprocess.STDOUT, errors="replace")
+        if ran.returncode:
+            raise SystemExit("".join(ran.stdout.splitlines(keepends=True)[-LINES_SAID:]))
         for name in sorted(os.listdir(room)):
             if name.endswith(".deb") and "-dbgsym" not in name:
                 shutil.move(os.path.join(room, name), os.path.join(made, name))

@@ -169,6 +169,12 @@ def is_compared_version():
     return os.path.realpath(system_library()).endswith(".so.6.4")
 
 
+def versions(room):
+    """The versions of symbols that the library over libti defines."""
+    _, said = run(["objdump", "-p", f"{room.libraries}/libtinfo.so.6"])
+    return set(re.findall(r"^\d+ 0x00 0x\w+ (\S+)", said, re.M))
+
+
 def check_symbols(room):
     need("objdump")
     ours, theirs = symbols(f"{room.libraries}/libtinfo.so.6"), symbols(system_library())
@@ -182,6 +188,9 @@ def check_symbols(room):
     public = {name for name in theirs if not name.startswith("_nc_") and name != "SP"}
     if is_compared_version():
         faults += [f"{name} of ncurses's is not exported" for name in public - set(ours)]
+    # a version without a symbol is not there, so that the loader refuses a program that needs it
+    of_symbols = {version for _, _, version in ours.values()}
+    faults += [f"the version {name} has no symbol" for name in versions(room) - of_symbols]
     _, said = run(["readelf", "-d", "-W", f"{room.libraries}/libtinfo.so.6"])
     needed = re.findall(r"NEEDED.*\[(.*)\]", said)
     if sorted(needed) != ["libc.so.6", "libti.so.2"] or "[libtinfo.so.6]" not in said:
