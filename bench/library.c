@@ -1,9 +1,9 @@
 /*
  * `library WHAT COUNT`: does one thing COUNT times, for bench/library.py, which counts
  * instructions. WHAT is the library (libti, ncurses or unibilium), `-` and the thing: setaf, cup,
- * find (the string of a name), get (the string of an index), read (an entry from its bytes) or send
- * (the user-defined Ss by its name, to a function that counts bytes). The entry is that of the file
- * that TERMINFO_FILE names.
+ * find (the string of a name), get (the string of an index), read (an entry from its bytes), send or
+ * curly (the user-defined Ss or Smulx by its name, to a function that counts bytes). The entry is
+ * that of the file that TERMINFO_FILE names, and ncurses finds it by TERM.
  */
 #include "ti.h"
 
@@ -41,13 +41,19 @@ static int count_byte(int byte) {
     return byte;
 }
 
-/* Sends the style of the cursor by the terminal of the entry. */
-static size_t send_with_libti(void) {
+/* The user-defined string that is sent, or NULL: the style of the cursor or of an underline. */
+static const char *name_sent(const char *what) {
+    if (!strcmp(what, "send")) return "Ss";
+    return strcmp(what, "curly") ? NULL : "Smulx";
+}
+
+/* Sends a string by the terminal of the entry. */
+static size_t send_with_libti(const char *name) {
     struct ti_entry *copy = NULL;
     struct ti_terminal *terminal = NULL;
     struct ti_output output = { count_bytes, NULL, NULL };
     if (ti_entry_new(bytes, size, &copy) || ti_terminal_new(copy, 0, &output, &terminal)) return 0;
-    for (int i = 0; i < count; i++) ti_put_named(terminal, "Ss", i % 7);
+    for (int i = 0; i < count; i++) ti_put_named(terminal, name, i % 7);
     ti_terminal_close(terminal);
     return sent;
 }
@@ -58,7 +64,7 @@ static size_t with_libti(const char *what, struct ti_entry *entry) {
     struct ti_variables variables = { { 0 } };
     struct ti_parameter params[2] = { ti_number_given(0), ti_number_given(0) };
     struct ti_text text = TI_NOTHING;
-    if (!strcmp(what, "send")) return send_with_libti();
+    if (name_sent(what)) return send_with_libti(name_sent(what));
     if (is_cup || !strcmp(what, "setaf")) {
         ti_string_named(entry, what, &text);
         for (int i = 0; i < count; i++) {
@@ -84,8 +90,9 @@ static size_t with_ncurses(const char *what) {
         for (int i = 0; i < count; i++) total += strlen(tiparm(text, i % 256, i % 80));
     } else if (!strcmp(what, "setaf")) {
         for (int i = 0; i < count; i++) total += strlen(tiparm(text, i % 256));
-    } else if (!strcmp(what, "send")) {
-        for (int i = 0; i < count; i++) tputs(tiparm(tigetstr((char *)"Ss"), i % 7), 1, count_byte);
+    } else if (name_sent(what)) {
+        char *name = (char *)name_sent(what);
+        for (int i = 0; i < count; i++) tputs(tiparm(tigetstr(name), i % 7), 1, count_byte);
         total = sent;
     } else {
         for (int i = 0; i < count; i++) {
@@ -130,7 +137,7 @@ int main(int argc, char **argv) {
     int error = 0;
     struct ti_entry entry = TI_ENTRY_EMPTY;
     if (argc != 3 || !read_file(getenv("TERMINFO_FILE"))) return 2;
-    if (ti_entry_read(bytes, size, &entry) || setupterm((char *)"xterm-256color", 1, &error) != OK) return 2;
+    if (ti_entry_read(bytes, size, &entry) || setupterm(NULL, 1, &error) != OK) return 2;
     count = atoi(argv[2]);
     const char *what = strchr(argv[1], '-');
     if (!what) return 2;

@@ -5,7 +5,8 @@ callgrind.
     bench/library.py
 
 The C library is made already (`make library`). What a call takes is the difference of a run of
-20,000 calls and one of 10,000, by 10,000, on the system's entry of xterm-256color.
+20,000 calls and one of 10,000, by 10,000, on the system's entry of xterm-256color; of `curly` on that
+of tmux-256color, which has Smulx.
 """
 
 import os
@@ -19,8 +20,11 @@ sys.path.append(os.path.join(os.path.dirname(os.path.dirname(os.path.abspath(__f
 from repository import TOP, entry_file  # noqa: E402
 
 LIBRARY = os.path.join(TOP, "crates", "ti_c", "out", "lib", "libti.a")
-THINGS = ("setaf", "cup", "find", "get", "read", "send")
-LACKING = {"ncurses-get", "ncurses-read", "unibilium-find", "unibilium-send"}
+# what is measured, and with which entry
+THINGS = {
+    **dict.fromkeys(("setaf", "cup", "find", "get", "read", "send"), "xterm-256color"), "curly": "tmux-256color",
+}
+LACKING = {"ncurses-get", "ncurses-read", "unibilium-find", "unibilium-send", "unibilium-curly"}
 COUNT = 10_000
 
 
@@ -32,11 +36,10 @@ def instructions(program, what, count, environment):
 
 
 def main():
-    entry = entry_file("xterm-256color")
-    if not entry or not shutil.which("valgrind") or not os.path.exists(LIBRARY):
-        print("not measured: valgrind, the entry of xterm-256color and the C library are needed")
+    entries = {name: entry_file(name) for name in THINGS.values()}
+    if not all(entries.values()) or not shutil.which("valgrind") or not os.path.exists(LIBRARY):
+        print(f"not measured: valgrind, the C library and the entries of {', '.join(entries)} are needed")
         return 1
-    environment = {**os.environ, "TERMINFO_FILE": entry}
     libraries = ["libti", "ncurses", "unibilium"]
     with tempfile.TemporaryDirectory() as room:
         program = os.path.join(room, "library")
@@ -46,8 +49,8 @@ def main():
             subprocess.run(words, check=True)
             libraries.remove("unibilium")
         print("instructions a call".ljust(24), *(name.rjust(10) for name in libraries))
-        for thing in THINGS:
-            row = []
+        for thing, terminal in THINGS.items():
+            environment, row = {**os.environ, "TERMINFO_FILE": entries[terminal], "TERM": terminal}, []
             for name in libraries:
                 what = f"{name}-{thing}"
                 if what in LACKING:
