@@ -16,7 +16,8 @@ calls         every call and every refusal (calls.c), from each library and unde
 sending       strings sent by name, delays, look-ups by place, rates (sending.c), likewise
 changed       entries that are changed in memory (changed.c), and those of the system compared, byte by
               byte, with what tic of ncurses makes of their changed sources
-wrapper       ti.hpp compiles in C++17 to C++23 without a warning, and does what it says (wrapper.cpp)
+wrapper       ti.hpp compiles in C++17 to C++23 without a warning, before and after curses.h and term.h too,
+              and does what it says (wrapper.cpp)
 rust          bindings/rust is compiled by rustc without a warning, and its tests pass; by that of
               Debian too, if another one is found first
 go            bindings/go is compiled by go and cgo, without a network, and its tests pass
@@ -375,14 +376,26 @@ def check_changed(room):
     return faults
 
 
+WRAPPER = '#include "ti.hpp"\n'
+SENDS = """int main() {
+    ti::terminal out(1, "xterm");
+    return out.put(TI_CUP, 1, 2) && out.key_of("x").size == 0 ? 0 : 1;
+}
+"""
+
+
 def check_wrapper(room):
     if not entry_file("tmux-256color"):
         raise Skipped("the system has no entry of tmux-256color")
     environment = clean_environment(TERMINFO_DIRS=":".join(ENTRY_DIRECTORIES))
     source, faults = os.path.join(HERE, "wrapper.cpp"), []
+    sources = [source]
+    if run([room.compiler, "-E", "-x", "c", "-"], input=THEIRS.encode())[0] == 0:
+        sources += [room.write("after.cpp", f"{THEIRS}{WRAPPER}{SENDS}"), room.write("before.cpp", f"{WRAPPER}{THEIRS}{SENDS}")]
     for compiler, language, standards, warnings in COMPILERS:
         for standard in ("c++17", "c++20", "c++2b") if language == "c++" and shutil.which(compiler) else ():
-            faults += syntax(compiler, language, standard, [*WARN_MORE, *warnings], source)
+            for each in sources:
+                faults += syntax(compiler, language, standard, [*WARN_MORE, *warnings], each)
         if language == "c++" and shutil.which(compiler):
             program = room.path(f"wrapper-{compiler}")
             words = [compiler, "-std=c++17", *SANITIZE, "-I", INCLUDE, source, room.archive(SANITIZE), "-o", program]
