@@ -1,9 +1,9 @@
 /*
  * `library WHAT COUNT`: does one thing COUNT times, for bench/library.py, which counts
  * instructions. WHAT is the library (libti, ncurses or unibilium), `-` and the thing: setaf, cup,
- * find (the string of a name), get (the string of an index), read (an entry from its bytes), send or
- * curly (the user-defined Ss or Smulx by its name, to a function that counts bytes). The entry is
- * that of the file that TERMINFO_FILE names, and ncurses finds it by TERM.
+ * find (the string of a name), get (the string of an index), read (an entry from its bytes), send
+ * or curly (the user-defined Ss or Smulx by its name, to a function that counts bytes). The entry
+ * is that of the file that TERMINFO_FILE names, and ncurses finds it by TERM.
  */
 #include "ti.h"
 
