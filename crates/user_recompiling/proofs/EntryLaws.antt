@@ -53,7 +53,7 @@ use Rattle.user_relisting.proofs.Listed.{laid_out}
 use Rattle.user_relisting.proofs.Related.{relative_laid_out, relative-plain}
 use Rattle.user_relisting.proofs.Telling.{can-use, has-listing, writable}
 use Rattle.user_recompiling.specs.Entries.{IsEntry, IsUsedEntry, CompilesTo, ShownEntry, listings, with_others, OwnTheirNames}
-use Rattle.user_recompiling.specs.Entries.{Relisting, Relistings, RelativeSource}
+use Rattle.user_recompiling.specs.Entries.{Relisting, RelistingAnywhere, Relistings, RelativeSource}
 use Rattle.user_recompiling.proofs.SourceNames.{IsAmong, rows-among}
 use Rattle.user_recompiling.proofs.UserBytes.{ContentBytes, GivesBytes, user-bytes}
 
@@ -219,6 +219,10 @@ relisting known user tables bytes shown layout made =
       record { cut = one.cut; single = All-cons OneBlock text [] one (All-nil OneBlock) },
       listing-compiles known user tables bytes shown layout is (text ∷ []),
     )
+
+pub relisting_anywhere : AreKnown → ListingsSayTheEntry → ListingsSayTheTables → RelistingAnywhere
+relisting_anywhere known user tables bytes shown layout texts made =
+    listing-compiles known user tables bytes shown layout (is-shown known bytes shown made) texts
 
 abbrev IsEntryShown : ShownEntry → Type 0
 IsEntryShown entry = IsEntry entry.0 entry.1

@@ -60,6 +60,12 @@ Relisting =
     → IsSourceOf (extended_listing shown layout) (extended_listing shown layout ∷ [])
     × CompilesTo (extended_listing shown layout ∷ []) (extended_listing shown layout) bytes
 
+-- It compiles to the entry in whatever source it is.
+abbrev pub RelistingAnywhere : Type 0
+RelistingAnywhere =
+    (bytes : List ℕ) (shown : Extended) (layout : Layout) (texts : List (List ℕ)) → IsEntry bytes shown
+    → CompilesTo texts (extended_listing shown layout) bytes
+
 -- It has no more user-defined names than the source of which the entry is, so that it is not refused
 -- for them.
 abbrev pub ListingsHaveNoMoreNames : Type 0

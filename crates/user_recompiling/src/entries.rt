@@ -1,5 +1,5 @@
 //! The laws of compiled entries with user-defined capabilities: they come back byte for byte.
-ghost use Rattle.user_recompiling.specs.Entries.{EntriesOfSources, ListingsHaveNoMoreNames, RelativeSource, Relisting, Relistings};
+ghost use Rattle.user_recompiling.specs.Entries.{EntriesOfSources, ListingsHaveNoMoreNames, RelativeSource, Relisting, RelistingAnywhere, Relistings};
 
 use ti_layout::laws::one_reading as entries_have_one_reading;
 
@@ -12,10 +12,12 @@ pub fn sources_have_entries()
 }
 
 /// The listing of a compiled entry with user-defined capabilities, in any layout, is a source of
-/// one block, which compiles to the entry by `-x`, byte for byte. It has no more user-defined names
-/// than the source of the entry, so it is not refused for them.
+/// one block, which compiles to the entry by `-x`, byte for byte, also where other blocks are in the
+/// source. It has no more user-defined names than the source of the entry, so it is not refused for
+/// them.
 pub fn listings_compile_back()
     ensures compile { Relisting }
+    ensures anywhere { RelistingAnywhere }
     ensures names { ListingsHaveNoMoreNames }
 {
     ti_caps::laws::each_kind_is_in_order();
