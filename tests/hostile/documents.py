@@ -4,7 +4,6 @@ what the model says, and its diagnostics those that `ti tic -c` reports of the s
 
 import copy
 import itertools
-import json
 import random
 import re
 import subprocess
@@ -12,7 +11,8 @@ import tempfile
 
 from generate import Source
 from limits import LSP, SECONDS_MAX, quick
-from model.server import QUESTIONS, Server, agree, frames_in, seen
+from lsp import body_of, framed, frames_in, notification
+from model.server import QUESTIONS, Server, agree, seen
 
 EDITS_A_RUN = 20
 # how many bytes the server asks for at a time
@@ -44,19 +44,6 @@ ODD_BODIES = [
     b"[" * 128 + b"]" * 128, b"[" * 127 + b"]" * 127, b"NaN", b'{"a":1,}', b"\xef\xbb\xbf{}", b'{"id":"\\ud834\\udd1e"}',
     b'"\x00"', b"[1", b"{}", b"tru", b"01", b"-",
 ]
-
-
-def framed(body):
-    return b"Content-Length: %d\r\n\r\n" % len(body) + body
-
-
-def body_of(value):
-    """A text of a value, in UTF-8 or escaped."""
-    return json.dumps(value, ensure_ascii=False).encode("utf-8")
-
-
-def notification(method, params):
-    return {"jsonrpc": "2.0", "method": method, "params": params}
 
 
 # the model is of the profile, and of errors and warnings alone

@@ -6,8 +6,9 @@ import os
 import resource
 import subprocess
 
-from documents import INITIALIZE, body_of, framed, notification, run_fault
+from documents import INITIALIZE, run_fault
 from limits import LSP, SECONDS_MAX
+from lsp import body_of, framed, notification
 from registry import case
 
 NO_JSON = b'{"error":{"code":-32700,"message":"the body is not JSON, or is too long"},"id":null,"jsonrpc":"2.0"}'

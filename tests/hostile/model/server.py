@@ -372,21 +372,6 @@ class Server:
         return self.take(uri, document, text)
 
 
-def frames_in(output):
-    """The values of the frames of an output."""
-    found = []
-    while output:
-        header = re.match(rb"Content-Length: ([0-9]+)\r\n\r\n", output)
-        if header is None:
-            raise ValueError(f"no header: {output[:80]!r}")
-        end = header.end() + int(header[1])
-        if len(output) < end:
-            raise ValueError("the last frame is cut off")
-        found.append(json.loads(output[header.end() : end].decode("utf-8")))
-        output = output[end:]
-    return found
-
-
 def seen_diagnostic(shown):
     """A diagnostic that was sent, as `mark` has it."""
     start, end = shown["range"]["start"], shown["range"]["end"]
