@@ -4,6 +4,8 @@
     run       in place of args, a command that sh runs with `ti` on PATH, and `ti-lsp`, `ti-everyday`,
               `ti-tic`, `ti-infocmp`, `ti-tput`, `ti-fmt` and `ti-lint` if they are built: it lays out what `before` cannot, as
               a link or a FIFO, and then runs `ti`
+    exchanges in place of args and run, what a client sends to `ti-lsp`, and what must come back: the
+              head of tests/exchanges.py says how
     env       NAME=VALUE a line; apart from these only PATH is set
     stdin     what standard input has (none: nothing)
     data/     the files of the directory that it runs in
@@ -39,7 +41,8 @@ import subprocess
 import sys
 import tempfile
 
-from common import EVERYDAY, LSP, PROGRAM, TOP, Tally, bytes_of, files_below, is_missing, lines_of
+from common import EVERYDAY, LSP, PROGRAM, TOP, Tally, bytes_of, files_below, is_missing, lines_of, text_of
+from exchanges import exchange_faults
 
 SECONDS = 120
 SHOWN = 400
@@ -115,6 +118,8 @@ class Case:
         why = self.prepare()
         if why:
             return [why]
+        if self.has("exchanges"):
+            return self.exchange_faults()
         before = contents(self.here)
         done = subprocess.run(
             self.words(), input=self.bytes("stdin"), cwd=self.here, env=self.environment(),
@@ -126,6 +131,10 @@ class Case:
             found.append(f"status is {done.returncode}, wanted {status}")
         found += [*self.file_faults(before), self.then_fault()]
         return [fault for fault in found if fault]
+
+    def exchange_faults(self):
+        text = text_of("tests", "cli", "names") + self.bytes("exchanges").decode()
+        return exchange_faults(text, [os.path.join(self.tools, "ti-lsp")], self.here, self.environment(), SECONDS)
 
     def text_fault(self, what, got):
         """What is wrong with the text that came on standard output or error, or None."""

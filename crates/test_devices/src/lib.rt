@@ -1,6 +1,23 @@
 //! For tests: a reader and a writer that move one byte a call, and come to an end when they are
-//! told to.
+//! told to. What the tools do with such devices is tested here:
+//!
+//! - `session`: the session
+//! - `lines`: the lines of `tput -S`
+//! - `compiler`: `ti-tic`
+//! - `failing_trees`: sources in a tree of files of which one call fails
+//! - `memory`: what is said where memory is refused
 #![tactic(auto)]
+
+#[cfg(test)]
+mod compiler;
+#[cfg(test)]
+mod failing_trees;
+#[cfg(test)]
+mod lines;
+#[cfg(test)]
+mod memory;
+#[cfg(test)]
+mod session;
 
 ghost use Rattle.std.specs.Prelude.{◌≡◌, IfOk};
 
