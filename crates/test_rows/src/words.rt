@@ -3,7 +3,8 @@
 //!
 //! - `\E`, `\n`, `\r`, `\t`, `\b`, `\f`, `\s`: the bytes that they are in terminfo(5)
 //! - `\` and up to three octal digits: the byte of that number, and NUL for 0
-//! - `\(N:` .. `\)`: what is between, N times
+//! - `\(N:` .. `\)`: what is between, N times; in it `\i` is how many copies come before this one,
+//!   and `\j` one more
 //! - `\` and any other byte that is no letter: this byte
 use std::alloc::{AllocError, AllocFailed, Global};
 
@@ -53,6 +54,8 @@ struct Decoder {
     copies: usize,
     // Where the piece begins that is copied.
     piece: Option<usize>,
+    // Where in the piece numbers of copies go, and that of the first copy.
+    numbers: Vec<(usize, usize)>,
 }
 
 // The byte that a letter after a backslash is for.
@@ -84,6 +87,7 @@ impl Decoder {
             mode: Mode::Plain,
             copies: 0,
             piece: None,
+            numbers: Vec::new(alloc),
         }
     }
 
@@ -107,6 +111,32 @@ impl Decoder {
         self.push(byte)
     }
 
+    // Notes that a number of copies goes here.
+    fn take_number(&mut self, first: usize) -> Result<(), RowError> {
+        let Some(start) = self.piece else {
+            return Err(RowError::Bad("a number of copies is in a piece"));
+        };
+        let place = self.bytes.len().saturating_sub(start);
+        self.numbers.push((place, first))?;
+        self.mode = Mode::Plain;
+        Ok(())
+    }
+
+    // Adds a copy of a piece, with this many copies before it.
+    fn push_copy(&mut self, alloc: Global, piece: &[u8], before: usize) -> Result<(), AllocError> {
+        let mut from: usize = 0;
+        for (place, first) in &self.numbers {
+            let number = before.saturating_add(*first);
+            let text = format!(in alloc; "{number}")?;
+            self.bytes
+                .extend_from_slice(piece.get(from..*place).unwrap_or(&[]))?;
+            self.bytes.extend_from_slice(text.as_bytes())?;
+            from = *place;
+        }
+        self.bytes
+            .extend_from_slice(piece.get(from..).unwrap_or(&[]))
+    }
+
     // Copies the piece that ends here.
     fn end_piece(&mut self, alloc: Global) -> Result<(), RowError> {
         let Some(start) = self.piece else {
@@ -117,9 +147,10 @@ impl Decoder {
             return Err(RowError::Bad("a word is too long"));
         }
         self.bytes.truncate(start);
-        for _ in 0..self.copies {
-            self.bytes.extend_from_slice(&piece)?;
+        for before in 0..self.copies {
+            self.push_copy(alloc, &piece, before)?;
         }
+        self.numbers.clear();
         self.piece = None;
         self.mode = Mode::Plain;
         Ok(())
@@ -137,6 +168,8 @@ impl Decoder {
                 Ok(())
             }
             b')' => self.end_piece(alloc),
+            b'i' => self.take_number(0),
+            b'j' => self.take_number(1),
             _ => match escaped(byte) {
                 Some(byte) => {
                     self.mode = Mode::Plain;

@@ -148,23 +148,35 @@ fn overwrite(bytes: &mut Vec<u8>, place: usize, others: &[u8]) -> Result<(), Row
     Ok(())
 }
 
-// The bytes that were taken, with others at places.
-fn change(
+/// The bytes that were taken, with others at places: the words from one on are places and bytes.
+///
+/// # Errors
+/// `Bad`
+pub fn changed(
     alloc: Global,
-    bytes: &mut Bytes,
+    bytes: &Bytes,
     given: Given<'_>,
-    answer: &mut Answer,
-) -> Result<(), RowError> {
+    from: usize,
+) -> Result<Vec<u8>, RowError> {
     let mut changed = Vec::from_slice(alloc, &bytes.whole)?;
-    for pair in 0..given.len() / 2 {
-        let at = pair.saturating_mul(2);
+    for pair in 0..given.from(from).len() / 2 {
+        let at = from.saturating_add(pair.saturating_mul(2));
         overwrite(
             &mut changed,
             given.count(at)?,
             given.bytes(at.saturating_add(1))?,
         )?;
     }
-    bytes.now = changed;
+    Ok(changed)
+}
+
+fn change(
+    alloc: Global,
+    bytes: &mut Bytes,
+    given: Given<'_>,
+    answer: &mut Answer,
+) -> Result<(), RowError> {
+    bytes.now = changed(alloc, bytes, given, 0)?;
     push_reading(alloc, &bytes.now, answer)
 }
 

@@ -1,45 +1,34 @@
 //! Calls of `ti_source`: sources cut into blocks, names fields, and blocks as they are read.
 use crate::answers::Answer;
+use crate::calls::values::said;
 use crate::given::Given;
 use crate::words::RowError;
 use std::alloc::{AllocError, Global};
 use std::rc::RcSlice;
 use ti_caps::name;
+use ti_layout::Content;
 use ti_source::{
     Code, Item, Local, Parsed, SharedTexts, What, blocks, is_block, is_lookup_name, lookup_names,
     names_field, parse, parse_sharing,
 };
 
-// A word of some text and of bytes.
-fn joined(alloc: Global, front: &str, back: &[u8]) -> Result<Vec<u8>, AllocError> {
-    let mut word = Vec::from_slice(alloc, front.as_bytes())?;
-    word.extend_from_slice(back)?;
-    Ok(word)
-}
-
 // What an item says: `NAME`, `NAME#N`, `NAME=BYTES`, `NAME@` or `use=BYTES`.
-fn said(alloc: Global, what: &What) -> Result<Vec<u8>, AllocError> {
-    match what {
-        What::Flag(cap) => Vec::from_slice(alloc, name(*cap).as_bytes()),
-        What::Number(cap, number) => {
-            let (name, number) = (name(*cap), *number);
-            joined(alloc, format!(in alloc; "{name}#{number}")?.as_str(), b"")
-        }
-        What::Text(cap, text) => {
-            let name = name(*cap);
-            joined(
-                alloc,
-                format!(in alloc; "{name}=")?.as_str(),
-                text.as_slice(),
-            )
-        }
-        What::Cancel(cap) => joined(alloc, name(*cap), b"@"),
-        What::Import(owner) => joined(alloc, "use=", owner.as_slice()),
-    }
+fn said_by(alloc: Global, what: &What) -> Result<Vec<u8>, AllocError> {
+    let (name, content) = match what {
+        What::Flag(cap) => (name(*cap), Content::True),
+        What::Number(cap, number) => (name(*cap), Content::Number(*number)),
+        What::Text(cap, text) => (name(*cap), Content::Text(text.as_slice())),
+        What::Cancel(cap) => (name(*cap), Content::Cancelled),
+        What::Import(owner) => ("use", Content::Text(owner.as_slice())),
+    };
+    said(alloc, name.as_bytes(), content)
 }
 
-// The ordinal and the line of an item: `0:1`.
-fn push_place(
+/// The ordinal and the line of an item: `0:1`.
+///
+/// # Errors
+/// Out of memory.
+pub fn push_place(
     alloc: Global,
     ordinal: usize,
     line: usize,
@@ -51,7 +40,7 @@ fn push_place(
 
 fn push_item(alloc: Global, item: &Item, answer: &mut Answer) -> Result<(), AllocError> {
     push_place(alloc, item.ordinal, item.line, answer)?;
-    answer.word(&said(alloc, &item.what)?)
+    answer.word(&said_by(alloc, &item.what)?)
 }
 
 // A fault: its place, its label, its name and its detail, which is empty if there is none.

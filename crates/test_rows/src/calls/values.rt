@@ -1,14 +1,15 @@
 //! The values that a row gives: `NAME`, `NAME#N`, `NAME=BYTES` and `NAME@`, which cancels. Before a
-//! name, `-` takes its value away, and `?` gives a value only if there is none.
+//! name, `-` takes its value away, and `?` gives a value only if there is none. What is said of a name
+//! is shown in the same way.
 ghost use Rattle.std.specs.Prelude.{◌≤◌, ◌↔◌, IfOk, IsTrue};
 ghost use Rattle.ti_layout.specs.Values.{Agrees, HasNoNul, content_of};
 
 use crate::words::RowError;
-use std::alloc::Global;
+use std::alloc::{AllocError, Global};
 use std::rc::RcSlice;
 use std::str;
 use ti_caps::{Cap, Kind, find};
-use ti_layout::{Table, Value};
+use ti_layout::{Content, Table, Value};
 
 const NUMBER_MAX: u32 = 2_147_483_647;
 
@@ -48,6 +49,50 @@ pub fn split(word: &[u8]) -> (&[u8], &[u8]) {
         word.get(..end).unwrap_or(word),
         word.get(end..).unwrap_or(&[]),
     )
+}
+
+/// What is said after a name, which may be one of any kind.
+///
+/// # Errors
+/// `Bad`
+pub fn content_of(rest: &[u8]) -> Result<Content<'_>, RowError> {
+    match rest {
+        [] => Ok(Content::True),
+        [b'@'] => Ok(Content::Cancelled),
+        [b'#', digits @ ..] => Ok(Content::Number(number_of(digits)?)),
+        [b'=', text @ ..] => Ok(Content::Text(text)),
+        _ => Err(RowError::Bad("a word is to say something of a name")),
+    }
+}
+
+/// A value, with its string where it is.
+pub fn shown(value: &Value) -> Content<'_> {
+    match value {
+        Value::True => Content::True,
+        Value::Number(number) => Content::Number(*number),
+        Value::Text(text) => Content::Text(text.as_slice()),
+        Value::Cancelled => Content::Cancelled,
+    }
+}
+
+/// A name, and what is said of it.
+///
+/// # Errors
+/// Out of memory.
+pub fn said(alloc: Global, name: &[u8], content: Content<'_>) -> Result<Vec<u8>, AllocError> {
+    let mut word = Vec::from_slice(alloc, name)?;
+    match content {
+        Content::True => {}
+        Content::Number(number) => {
+            word.extend_from_slice(format!(in alloc; "#{number}")?.as_bytes())?;
+        }
+        Content::Text(text) => {
+            word.push(b'=')?;
+            word.extend_from_slice(text)?;
+        }
+        Content::Cancelled => word.push(b'@')?,
+    }
+    Ok(word)
 }
 
 /// The value that is after a name.
