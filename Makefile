@@ -6,6 +6,7 @@
 ##   make check      checks a change without proofs
 ##   make test       runs every proof and test, as CI does
 ##   make cli        runs only the black-box cases, on the built program
+##   make editor     runs the sources with marks through the language server and ti-lint
 ##   make integration  runs the program with editors, and with programs in a terminal
 ##   make package    checks pages, completions, install and packages
 ##   make newcomers  runs the commands of the pages in a new system of Debian, as root
@@ -84,7 +85,7 @@ TINFO = $(LIBRARY)/ti/libtinfo.so.6
 TINFO_FILES = $(TINFODIR)/libtinfo.so.6 $(TINFODIR)/ti-run.so $(BINDIR)/ti-run $(MANDIR)/man1/ti-run.1
 PC_VALUES = -e 's|@PREFIX@|$(PREFIX)|' -e 's|@LIBDIR@|$(LIBDIR)|' -e 's|@INCLUDEDIR@|$(INCLUDEDIR)|'
 
-.PHONY: all help check test cli integration package hostile audit library tinfo lsp
+.PHONY: all help check test cli editor integration package hostile audit library tinfo lsp
 .PHONY: everyday bench newcomers
 .PHONY: install install-library install-python install-tinfo
 .PHONY: uninstall uninstall-library uninstall-python uninstall-tinfo
@@ -104,6 +105,9 @@ test:
 
 cli: all everyday
 	python3 tests/cli/run.py
+
+editor: lsp everyday
+	python3 tests/editor/run.py
 
 integration: all lsp everyday
 	python3 tests/integration/run.py
