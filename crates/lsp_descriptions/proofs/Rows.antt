@@ -1,12 +1,9 @@
 -- The row of a capability; the rows of the texts are in parts.
-use Rattle.std.proofs.Common.{◌≡◌, ℕ, zero, suc, ◌+◌, ◌++◌, List, [], ◌∷◌, length, map, slice_get, Option, Some, unwrap_or, subst, arith, sym, ◌∙◌, ap, refl}
-use Rattle.std.proofs.lemmas.List.{map-append}
+use Rattle.std.proofs.Common.{◌≡◌, ℕ, zero, suc, ◌+◌, ◌++◌, List, [], ◌∷◌, length, map, slice_get, Option, Some, unwrap_or, subst, arith, sym, ◌∙◌, ap}
 use Rattle.ti_caps.specs.declared.capability.Kind.{Kind}
 use Rattle.ti_caps.specs.declared.capability.Kind.TheVariants.{Flag, Number, Text}
-use Rattle.ti_caps.specs.Names.{flag_names, number_names, text_names}
-use Rattle.ti_caps.specs.Tables.{Capability, names}
-use Rattle.lsp_descriptions.specs.Descriptions.{Described, RowsAreNamed, described, named_rows, rows, said_in, told}
-use Rattle.lsp_descriptions.specs.Rows.{flag_rows, number_rows, text_rows_1, text_rows_2, text_rows_3, text_rows_4, text_rows_5, text_rows_6}
+use Rattle.ti_caps.specs.Tables.{Capability}
+use Rattle.lsp_descriptions.specs.Descriptions.{Described, described, rows, told}
 use Rattle.lsp_descriptions.specs.declared.descriptions.TheConstants.{FLAGS, NUMBERS, PART_1, PART_2, PART_3, PART_4, PART_5, PART_6}
 
 -- the row of a capability is what is said of it
@@ -19,20 +16,13 @@ said_of c kind index x k i h =
 
 -- ---- the rows of the flags and of the numbers
 
-flags_are : map (λ r. told r.0.now r.1.now r.2.now) FLAGS ≡ rows Flag
-unfolding rows named_rows flag_rows
-flags_are = refl
-
 pub in_flags : (index : ℕ) (x : Described) → slice_get (map (λ r. told r.0.now r.1.now r.2.now) FLAGS) index ≡ Some x → slice_get (rows Flag) index ≡ Some x
-in_flags index x = subst (λ (rs : List Described). slice_get rs index ≡ Some x) flags_are
+unfolding rows
+in_flags index x h = h
 
-numbers_are : map (λ r. told r.0.now r.1.now r.2.now) NUMBERS ≡ rows Number
-unfolding rows named_rows number_rows
-numbers_are = refl
-
-pub in_numbers : (index : ℕ) (x : Described) → slice_get (map (λ r. told r.0.now r.1.now r.2.now) NUMBERS) index ≡ Some x
-    → slice_get (rows Number) index ≡ Some x
-in_numbers index x = subst (λ (rs : List Described). slice_get rs index ≡ Some x) numbers_are
+pub in_numbers : (index : ℕ) (x : Described) → slice_get (map (λ r. told r.0.now r.1.now r.2.now) NUMBERS) index ≡ Some x → slice_get (rows Number) index ≡ Some x
+unfolding rows
+in_numbers index x h = h
 
 -- ---- the rows of the texts
 
@@ -78,44 +68,9 @@ first_four = first ++ second ++ third ++ fourth
 abbrev first_five : List Described
 first_five = first ++ second ++ third ++ fourth ++ fifth
 
--- each part of the code is that of the specification
-first_is : first ≡ map said_in text_rows_1
-unfolding text_rows_1
-first_is = refl
-
-second_is : second ≡ map said_in text_rows_2
-unfolding text_rows_2
-second_is = refl
-
-third_is : third ≡ map said_in text_rows_3
-unfolding text_rows_3
-third_is = refl
-
-fourth_is : fourth ≡ map said_in text_rows_4
-unfolding text_rows_4
-fourth_is = refl
-
-fifth_is : fifth ≡ map said_in text_rows_5
-unfolding text_rows_5
-fifth_is = refl
-
-sixth_is : sixth ≡ map said_in text_rows_6
-unfolding text_rows_6
-sixth_is = refl
-
-joined : {A B : Type 0} (f : A → B) (a b c d e g : List A) (s t u v w x : List B) → s ≡ map f a → t ≡ map f b → u ≡ map f c → v ≡ map f d → w ≡ map f e
-    → x ≡ map f g
-    → s ++ t ++ u ++ v ++ w ++ x ≡ map f (a ++ b ++ c ++ d ++ e ++ g)
-joined f a b c d e g s t u v w x h i j k l m = rw (h, i, j, k, l, m) (sym (simp map-append))
-
-texts_are : first_five ++ sixth ≡ rows Text
-unfolding rows named_rows
-texts_are =
-    joined said_in text_rows_1 text_rows_2 text_rows_3 text_rows_4 text_rows_5 text_rows_6 first second third fourth fifth sixth
-    first_is second_is third_is fourth_is fifth_is sixth_is
-
 in_texts : (index : ℕ) (x : Described) → slice_get (first_five ++ sixth) index ≡ Some x → slice_get (rows Text) index ≡ Some x
-in_texts index x = subst (λ (rs : List Described). slice_get rs index ≡ Some x) texts_are
+unfolding rows
+in_texts index x h = h
 
 -- the row at a place of a part, past the parts before it
 
@@ -144,11 +99,3 @@ in_part_5 index place x at h = in_texts index x (earlier first_five sixth index 
 
 pub in_part_6 : (index place : ℕ) (x : Described) → index ≡ 345 + place → slice_get sixth place ≡ Some x → slice_get (rows Text) index ≡ Some x
 in_part_6 index place x at h = in_texts index x (later first_five sixth place index at ∙ h)
-
--- ---- the names of the rows
-
-pub rows_named : RowsAreNamed
-unfolding names flag_names number_names text_names named_rows flag_rows number_rows text_rows_1 text_rows_2 text_rows_3 text_rows_4 text_rows_5 text_rows_6
-rows_named Flag = refl
-rows_named Number = refl
-rows_named Text = refl

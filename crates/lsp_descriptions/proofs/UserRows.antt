@@ -1,5 +1,5 @@
 -- The rows of the user-defined capabilities, and the first that has a name.
-use Rattle.std.proofs.Common.{◌≡◌, ◌<◌, ◌+◌, ℕ, suc, Bool, ◌++◌, List, [], ◌∷◌, Option, None, Some, map, length, take, drop, get_or, codes}
+use Rattle.std.proofs.Common.{◌≡◌, ◌<◌, ◌+◌, ℕ, suc, Bool, ◌++◌, List, [], ◌∷◌, Option, None, Some, map, length, take, drop, get_or}
 use Rattle.std.proofs.Common.{refl, sym, ◌∙◌, ap, add-one, append_assoc}
 use Rattle.std.proofs.lemmas.List.{append-nil, map-append}
 use Rattle.std.proofs.lemmas.List.Folds.{find-append}
@@ -9,33 +9,14 @@ use Rattle.std.specs.Borrow.{Bor}
 use Rattle.std.specs.Fmt.{digits}
 use Rattle.std.specs.List.{find, flat_map}
 use Rattle.std.specs.Option.{option_or}
-use Rattle.lsp_descriptions.specs.Rows.{Row}
 use Rattle.lsp_descriptions.specs.UserDescriptions.{UserDescribed, described_rows, function_keys, modified, modified_by, modified_keys, modifiers, shifted, shifted_keys, user_told}
-use Rattle.lsp_descriptions.specs.UserRows.{capital_rows, keys, other_rows}
 use Rattle.lsp_descriptions.specs.declared.user_rows.TheConstants.{CAPITALS, FUNCTION_KEYS, KEYS, MODIFIERS, OTHERS}
 
--- ---- the code's rows are those of the specification
-
--- what a row of the specification says
-abbrev row_told : Row → UserDescribed
-row_told r = user_told (codes r.0) (codes r.1) (codes r.2) (codes r.3)
-
-capitals_are : map (λ r. user_told r.0.now r.1.now r.2.now r.3.now) CAPITALS ≡ map row_told capital_rows
-unfolding capital_rows
-capitals_are = refl
-
-others_are : map (λ r. user_told r.0.now r.1.now r.2.now r.3.now) OTHERS ≡ map row_told other_rows
-unfolding other_rows
-others_are = refl
-
-joined : {A B : Type 0} (f : A → B) (a b : List A) (s t : List B) → s ≡ map f a → t ≡ map f b → s ++ t ≡ map f (a ++ b)
-joined f a b s t h i = rw (h, i) (sym (map-append f a b))
+-- ---- the tables
 
 pub rows_are : map (λ r. user_told r.0.now r.1.now r.2.now r.3.now) CAPITALS ++ map (λ r. user_told r.0.now r.1.now r.2.now r.3.now) OTHERS ≡ described_rows
 unfolding described_rows
-rows_are =
-    joined row_told capital_rows other_rows (map (λ r. user_told r.0.now r.1.now r.2.now r.3.now) CAPITALS)
-    (map (λ r. user_told r.0.now r.1.now r.2.now r.3.now) OTHERS) capitals_are others_are
+rows_are = refl
 
 pub modifiers_are : map (λ m. (m.0.now, m.1.now)) MODIFIERS ≡ modifiers
 unfolding modifiers digits
@@ -45,7 +26,7 @@ pub modified_by_are : (key : List ℕ × List ℕ) → map (λ m. modified key (
 modified_by_are key = ap (map (modified key)) modifiers_are
 
 pub keys_are : flat_map modified_by (map (λ k. (k.0.now, k.1.now)) KEYS) ≡ modified_keys
-unfolding modified_keys keys
+unfolding modified_keys
 keys_are = refl
 
 numbers_are : map (λ n. n.now) FUNCTION_KEYS ≡ function_keys

@@ -1,11 +1,13 @@
--- What is said about each user-defined capability that is known (own): user_caps(5).
+-- What is said about each user-defined capability that is known: what the tables of this crate say of
+-- those with a row of their own, which are data (user_caps(5), screen(1), tmux(1) and ncurses's entries;
+-- own sentences), and by rule of keys with modifiers.
 use Rattle.std.specs.Prelude.{ℕ, ◌+◌, ◌/◌, ◌%◌, ◌==◌, Bool, List, [], ◌∷◌, ◌++◌, Option, codes, if◌then◌else◌, map}
 use Rattle.std.specs.Fmt.{decimal}
 use Rattle.std.specs.List.{find, flat_map}
 use Rattle.std.specs.Str.{bytes_eq}
 use Rattle.std.specs.String.{string_bytes}
-use Rattle.lsp_descriptions.specs.UserRows.{capital_rows, keys, other_rows}
 use Rattle.lsp_descriptions.specs.Words.{parameters_text}
+use Rattle.lsp_descriptions.specs.declared.user_rows.TheConstants.{CAPITALS, KEYS, OTHERS}
 use Rattle.lsp_descriptions.specs.declared.user_words.UserDescription.{UserDescription}
 
 -- its name, the kinds that its value may have, and a sentence with the parameters that a string
@@ -23,7 +25,7 @@ user_told name kinds sentence parameters = record { name = name; kinds = kinds; 
 
 -- what the rows say
 unfoldable pub described_rows : List UserDescribed
-described_rows = map (λ r. user_told (codes r.0) (codes r.1) (codes r.2) (codes r.3)) (capital_rows ++ other_rows)
+described_rows = map (λ r. user_told r.0.now r.1.now r.2.now r.3.now) CAPITALS ++ map (λ r. user_told r.0.now r.1.now r.2.now r.3.now) OTHERS
 
 -- ---- keys that are pressed together with modifiers
 
@@ -66,7 +68,7 @@ modified_by key = map (modified key) modifiers
 
 -- what is said about the keys with modifiers
 unfoldable pub modified_keys : List UserDescribed
-modified_keys = flat_map modified_by (map (λ k. (codes k.0, codes k.1)) keys)
+modified_keys = flat_map modified_by (map (λ k. (k.0.now, k.1.now)) KEYS)
 
 -- ---- function keys that are pressed together with Shift
 

@@ -2,13 +2,13 @@
 //! Curses and, for a string, the parameters that it takes.
 //!
 //! The rows have the order of the compiled entry, as terminfo(5) gives it: a capability is
-//! described by the row of its kind at its index. They are proved equal to those of the
-//! specification, which have the names of the capabilities too. Those of the texts are in six
-//! parts, since the proof of a function grows faster than the table that it reads.
+//! described by the row of its kind at its index. They are data: `tests/editor/capabilities.marks`
+//! has each of them beside the name of its capability. Those of the texts are in six parts, since
+//! the proof of a function grows faster than the table that it reads.
 ghost use Rattle.std.specs.Prelude.{◌≡◌, ◌<◌, Some, length, map, slice_get};
 ghost use Rattle.ti_caps.specs.Tables.{count_of};
 ghost use Rattle.ti_caps.specs.declared.capability.Kind.TheVariants.{Text};
-ghost use Rattle.lsp_descriptions.specs.Descriptions.{RowsAreNamed, described, description_seen, rows, told};
+ghost use Rattle.lsp_descriptions.specs.Descriptions.{described, description_seen, rows, told};
 
 use ti_caps::{Cap, FLAG_COUNT, Kind, NUMBER_COUNT, TEXT_COUNT};
 
@@ -47,11 +47,6 @@ pub fn description_of(cap: Cap) -> Description
         Kind::Text => text_row(cap.index()),
     }
 }
-
-/// A law, with no code: each row has the name of the capability that it describes.
-pub fn rows_have_the_names()
-    ensures { RowsAreNamed }
-{}
 
 // What the row at a place of a list says.
 fn row_at(rows: &'static [Row], place: usize) -> Description

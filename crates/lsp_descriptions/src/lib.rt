@@ -9,7 +9,6 @@
 
 mod descriptions;
 mod known_names;
-pub mod laws;
 mod user_rows;
 mod user_words;
 mod words;

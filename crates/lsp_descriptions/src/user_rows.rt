@@ -1,9 +1,9 @@
 //! The user-defined capabilities that are known: those of user_caps(5), screen(1) and tmux(1), and
 //! of ncurses's entries.
 //!
-//! The rows are proved equal to those of the specification. A key that is pressed together with
-//! modifiers has a name by rule, as `kUP3` is the name of the up arrow key with Alt, and `kF5` that of
-//! function key F5 with Shift.
+//! The rows are data: `tests/editor/user-capabilities.marks` has each of them. A key that is pressed
+//! together with modifiers has a name by rule, as `kUP3` is the name of the up arrow key with Alt, and
+//! `kF5` that of function key F5 with Shift.
 ghost use Rattle.std.specs.Prelude.{◌≡◌, ◌++◌, map, option_map};
 ghost use Rattle.std.specs.List.{find, flat_map};
 ghost use Rattle.std.specs.Str.{bytes_eq};
