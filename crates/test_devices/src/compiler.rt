@@ -66,12 +66,7 @@ fn expect_report_fault(rt: &impl Abort, alloc: Global, room: usize, end: End) {
 
 #[test]
 fn each_write_of_the_report_failing_in_turn(rt: HostRuntime) {
-    for end in [
-        End::Fails,
-        End::FailsOnce,
-        End::IsInterrupted,
-        End::MovesNothing,
-    ] {
+    for end in End::ALL {
         for room in 0..REPORT.len() {
             expect_report_fault(&rt, rt.alloc(), room, end);
         }

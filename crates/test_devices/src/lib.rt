@@ -1,9 +1,10 @@
 //! For tests: a reader and a writer that move one byte a call, and come to an end when they are
-//! told to. What the tools do with such devices is tested here:
+//! told to. What the tools and the language server do with such devices is tested here:
 //!
 //! - `session`: the session
 //! - `lines`: the lines of `tput -S`
 //! - `compiler`: `ti-tic`
+//! - `server`: the language server
 //! - `failing_trees`: sources in a tree of files of which one call fails
 //! - `memory`: what is said where memory is refused
 #![tactic(auto)]
@@ -17,10 +18,13 @@ mod lines;
 #[cfg(test)]
 mod memory;
 #[cfg(test)]
+mod server;
+#[cfg(test)]
 mod session;
 
 ghost use Rattle.std.specs.Prelude.{◌≡◌, IfOk};
 
+use std::alloc::{AllocError, Global};
 use std::io::{self, ErrorKind, Read, Write};
 
 /// What a device returns when it comes to its end.
@@ -37,6 +41,14 @@ pub enum End {
 }
 
 impl End {
+    /// Each of them.
+    pub const ALL: [End; 4] = [
+        End::Fails,
+        End::FailsOnce,
+        End::IsInterrupted,
+        End::MovesNothing,
+    ];
+
     // The answer at the end.
     fn answer(self) -> io::Result<usize>
         ensures { IfOk result (λ count. count ≡ 0) }
@@ -110,4 +122,25 @@ impl Write for Narrow {
     fn flush(&mut self) -> io::Result<()> {
         Ok(())
     }
+}
+
+/// What pieces write that are complete in so many bytes: each is what is read, and what it writes.
+///
+/// # Errors
+/// Out of memory.
+pub fn written_before(
+    alloc: Global,
+    pieces: &[(&[u8], &[u8])],
+    taken: usize,
+) -> Result<Vec<u8>, AllocError> {
+    let mut written = Vec::new(alloc);
+    let mut left = taken;
+    for (piece, text) in pieces {
+        if piece.len() > left {
+            break;
+        }
+        left -= piece.len();
+        written.extend_from_slice(text)?;
+    }
+    Ok(written)
 }

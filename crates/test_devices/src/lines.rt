@@ -1,5 +1,5 @@
 //! The lines of `tput -S` with devices that fail at each byte in turn.
-use crate::{Drip, End, Narrow};
+use crate::{Drip, End, Narrow, written_before};
 use std::alloc::{AllocError, Global};
 use std::process::Abort;
 use ti_layout::View;
@@ -42,31 +42,12 @@ fn expect_write_fault(rt: &impl Abort, alloc: Global, view: &View<'_>, room: usi
 #[test]
 fn each_write_failing_in_turn(rt: HostRuntime) -> Result<(), ToolError> {
     let view = entry(DUMB)?;
-    for end in [
-        End::Fails,
-        End::FailsOnce,
-        End::IsInterrupted,
-        End::MovesNothing,
-    ] {
+    for end in End::ALL {
         for room in 0..WRITTEN.len() {
             expect_write_fault(&rt, rt.alloc(), &view, room, end);
         }
     }
     Ok(())
-}
-
-// What the lines that are complete in this many bytes write.
-fn written_before(alloc: Global, taken: usize) -> Result<Vec<u8>, AllocError> {
-    let mut written = Vec::new(alloc);
-    let mut left = taken;
-    for (line, text) in PIECES {
-        if line.len() > left {
-            break;
-        }
-        left -= line.len();
-        written.extend_from_slice(text)?;
-    }
-    Ok(written)
 }
 
 // How a run ends whose reader gives this many bytes and then ends so, and what it writes.
@@ -95,7 +76,7 @@ fn expect_read_fault(
     end: End,
 ) -> Result<(), ToolError> {
     let (stop, written) = run_of(alloc, view, reads, end);
-    let expected = written_before(alloc, reads)?;
+    let expected = written_before(alloc, &PIECES, reads)?;
     assert!(rt; stop == Err(ToolError::ReadFault), "at {reads}: {end:?}");
     assert!(rt; written == expected, "at {reads}: {end:?}");
     Ok(())

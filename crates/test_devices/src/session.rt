@@ -1,5 +1,5 @@
 //! The session with devices that fail at each byte in turn.
-use crate::{Drip, End, Narrow};
+use crate::{Drip, End, Narrow, written_before};
 use std::alloc::{AllocError, Global};
 use std::process::Abort;
 use std::test::Fail;
@@ -50,30 +50,11 @@ fn expect_write_fault(rt: &impl Abort, alloc: Global, room: usize, end: End) {
 
 #[test]
 fn each_write_failing_in_turn(rt: HostRuntime) {
-    for end in [
-        End::Fails,
-        End::FailsOnce,
-        End::IsInterrupted,
-        End::MovesNothing,
-    ] {
+    for end in End::ALL {
         for room in 0..REPLIES.len() {
             expect_write_fault(&rt, rt.alloc(), room, end);
         }
     }
-}
-
-// The replies to the commands that are complete in this many bytes.
-fn replies_before(alloc: Global, taken: usize) -> Result<Vec<u8>, AllocError> {
-    let mut replies = Vec::new(alloc);
-    let mut left = taken;
-    for (lines, reply) in COMMANDS {
-        if lines.len() > left {
-            break;
-        }
-        left -= lines.len();
-        replies.extend_from_slice(reply)?;
-    }
-    Ok(replies)
 }
 
 // How a session ends whose reader gives this many bytes and then ends so, and its replies.
@@ -97,7 +78,7 @@ fn expect_read_fault(
     end: End,
 ) -> Result<(), AllocError> {
     let (stop, written) = replies_to(alloc, reads, end);
-    let expected = replies_before(alloc, reads)?;
+    let expected = written_before(alloc, &COMMANDS, reads)?;
     assert!(rt; stop == Err(ToolError::ReadFault), "at {reads}: {end:?}");
     assert!(rt;
         written.as_slice() == expected.as_slice(),

@@ -14,23 +14,10 @@ const HEADS: [&str; 8] = [
     "a,", "b,", "c,", "d,", "a|b,", "b|c|d,", "d|d|a,", "c|words,",
 ];
 
+#[rattlefmt::skip]
 const ITEMS: [&str; 16] = [
-    "am,",
-    "am@,",
-    "cols#1,",
-    "cols#2,",
-    "cols#x,",
-    "pairs#65536,",
-    "bel=^G,",
-    "bel=\\q,",
-    "bel=\\400,",
-    "foo,",
-    "lines=x,",
-    "use=a,",
-    "use=b,",
-    "use=c,",
-    "use=d,",
-    "use=zz,",
+    "am,", "am@,", "cols#1,", "cols#2,", "cols#x,", "pairs#65536,", "bel=^G,", "bel=\\q,", "bel=\\400,",
+    "foo,", "lines=x,", "use=a,", "use=b,", "use=c,", "use=d,", "use=zz,",
 ];
 
 const NAMES: [&str; 5] = ["a", "b", "c", "d", "zz"];

@@ -7,6 +7,7 @@
 //!   and `\j` one more
 //! - `\` and any other byte that is no letter: this byte
 use std::alloc::{AllocError, AllocFailed, Global};
+use std::mem;
 
 /// Why a line is not a row, or a call is not made.
 #[derive(Clone, Copy, Debug, PartialEq, Eq)]
@@ -34,10 +35,12 @@ const COPIES_MAX: usize = 2_000_000;
 
 const WORD_MAX: usize = 4_000_000;
 
-// Where the reader of a word is.
+// Where the reader of a line is.
 #[derive(Clone, Copy, PartialEq, Eq)]
 enum Mode {
     Plain,
+    // After the quote that ends a word.
+    Closed,
     // After a backslash.
     Escape,
     // In a number of this value and this many digits.
@@ -46,10 +49,15 @@ enum Mode {
     Copies,
 }
 
-// What is read of a word.
+// What is read of a line.
 #[derive(Drop)]
-struct Decoder {
+struct Reader {
+    alloc: Global,
+    words: Vec<Vec<u8>>,
+    // The word that is being read, if one is.
     bytes: Vec<u8>,
+    is_word: bool,
+    is_quoted: bool,
     mode: Mode,
     copies: usize,
     // Where the piece begins that is copied.
@@ -80,10 +88,14 @@ fn octal_digit(byte: u8) -> Option<u32> {
     }
 }
 
-impl Decoder {
-    fn new(alloc: Global) -> Decoder {
-        Decoder {
+impl Reader {
+    fn new(alloc: Global) -> Reader {
+        Reader {
+            alloc,
+            words: Vec::new(alloc),
             bytes: Vec::new(alloc),
+            is_word: false,
+            is_quoted: false,
             mode: Mode::Plain,
             copies: 0,
             piece: None,
@@ -95,7 +107,23 @@ impl Decoder {
         if self.bytes.len() >= WORD_MAX {
             return Err(RowError::Bad("a word is too long"));
         }
+        self.is_word = true;
+        self.mode = Mode::Plain;
         self.bytes.push(byte)?;
+        Ok(())
+    }
+
+    // Ends the word that is being read, if one is.
+    fn end_word(&mut self) -> Result<(), RowError> {
+        if self.piece.is_some() {
+            return Err(RowError::Bad("a word ends in a piece"));
+        }
+        if self.is_word {
+            let word = mem::replace(&mut self.bytes, Vec::new(self.alloc));
+            self.words.push(word)?;
+        }
+        self.is_word = false;
+        self.is_quoted = false;
         Ok(())
     }
 
@@ -104,11 +132,10 @@ impl Decoder {
         let Mode::Octal(value, _) = self.mode else {
             return Ok(());
         };
-        let Ok(byte) = u8::try_from(value) else {
-            return Err(RowError::Bad("an octal number over 377"));
-        };
-        self.mode = Mode::Plain;
-        self.push(byte)
+        match u8::try_from(value) {
+            Ok(byte) => self.push(byte),
+            Err(_) => Err(RowError::Bad("an octal number over 377")),
+        }
     }
 
     // Notes that a number of copies goes here.
@@ -123,11 +150,11 @@ impl Decoder {
     }
 
     // Adds a copy of a piece, with this many copies before it.
-    fn push_copy(&mut self, alloc: Global, piece: &[u8], before: usize) -> Result<(), AllocError> {
+    fn push_copy(&mut self, piece: &[u8], before: usize) -> Result<(), AllocError> {
         let mut from: usize = 0;
         for (place, first) in &self.numbers {
             let number = before.saturating_add(*first);
-            let text = format!(in alloc; "{number}")?;
+            let text = format!(in self.alloc; "{number}")?;
             self.bytes
                 .extend_from_slice(piece.get(from..*place).unwrap_or(&[]))?;
             self.bytes.extend_from_slice(text.as_bytes())?;
@@ -138,17 +165,17 @@ impl Decoder {
     }
 
     // Copies the piece that ends here.
-    fn end_piece(&mut self, alloc: Global) -> Result<(), RowError> {
+    fn end_piece(&mut self) -> Result<(), RowError> {
         let Some(start) = self.piece else {
             return Err(RowError::Bad("`\\)` without `\\(`"));
         };
-        let piece = Vec::from_slice(alloc, self.bytes.get(start..).unwrap_or(&[]))?;
+        let piece = Vec::from_slice(self.alloc, self.bytes.get(start..).unwrap_or(&[]))?;
         if piece.len().saturating_mul(self.copies) > WORD_MAX {
             return Err(RowError::Bad("a word is too long"));
         }
         self.bytes.truncate(start);
         for before in 0..self.copies {
-            self.push_copy(alloc, &piece, before)?;
+            self.push_copy(&piece, before)?;
         }
         self.numbers.clear();
         self.piece = None;
@@ -156,7 +183,7 @@ impl Decoder {
         Ok(())
     }
 
-    fn take_escaped(&mut self, alloc: Global, byte: u8) -> Result<(), RowError> {
+    fn take_escaped(&mut self, byte: u8) -> Result<(), RowError> {
         if let Some(digit) = octal_digit(byte) {
             self.mode = Mode::Octal(digit, 1);
             return Ok(());
@@ -167,14 +194,11 @@ impl Decoder {
                 self.copies = 0;
                 Ok(())
             }
-            b')' => self.end_piece(alloc),
+            b')' => self.end_piece(),
             b'i' => self.take_number(0),
             b'j' => self.take_number(1),
             _ => match escaped(byte) {
-                Some(byte) => {
-                    self.mode = Mode::Plain;
-                    self.push(byte)
-                }
+                Some(byte) => self.push(byte),
                 None => Err(RowError::Bad("an unknown escape")),
             },
         }
@@ -183,12 +207,9 @@ impl Decoder {
     // Takes a byte of a count of copies.
     fn take_count(&mut self, byte: u8) -> Result<(), RowError> {
         match byte {
-            b'0'..=b'9' => {
+            b'0'..=b'9' if self.copies <= COPIES_MAX => {
                 let digit = usize::from(byte - b'0');
                 self.copies = self.copies.saturating_mul(10).saturating_add(digit);
-                if self.copies > COPIES_MAX {
-                    return Err(RowError::Bad("too many copies"));
-                }
                 Ok(())
             }
             b':' => {
@@ -196,100 +217,49 @@ impl Decoder {
                 self.mode = Mode::Plain;
                 Ok(())
             }
-            _ => Err(RowError::Bad("a count of copies ends with `:`")),
+            _ => Err(RowError::Bad("a count of copies is too large, or does not end with `:`")),
         }
     }
 
     // Takes a byte outside of an escape, or ends a number before it.
     fn take_plain(&mut self, byte: u8) -> Result<(), RowError> {
         self.end_number()?;
-        if byte == b'\\' {
-            self.mode = Mode::Escape;
-            return Ok(());
+        match byte {
+            b'\\' => {
+                self.is_word = true;
+                self.mode = Mode::Escape;
+                Ok(())
+            }
+            b'"' if self.is_quoted => {
+                self.mode = Mode::Closed;
+                self.end_word()
+            }
+            b'"' if !self.is_word => {
+                self.is_word = true;
+                self.is_quoted = true;
+                Ok(())
+            }
+            b' ' | b'\t' if !self.is_quoted => self.end_word(),
+            _ => self.push(byte),
         }
-        self.push(byte)
     }
 
-    fn take(&mut self, alloc: Global, byte: u8) -> Result<(), RowError> {
+    fn take(&mut self, byte: u8) -> Result<(), RowError> {
         match self.mode {
-            Mode::Escape => self.take_escaped(alloc, byte),
+            Mode::Escape => self.take_escaped(byte),
             Mode::Copies => self.take_count(byte),
-            Mode::Octal(value, digits) => match octal_digit(byte) {
-                Some(digit) if digits < 3 => {
-                    self.mode = Mode::Octal(value.wrapping_mul(8).wrapping_add(digit), digits + 1);
-                    Ok(())
-                }
-                _ => self.take_plain(byte),
-            },
-            Mode::Plain => self.take_plain(byte),
+            Mode::Octal(value, digits) if digits < 3 && octal_digit(byte).is_some() => {
+                let digit = octal_digit(byte).unwrap_or(0);
+                self.mode = Mode::Octal(value.wrapping_mul(8).wrapping_add(digit), digits + 1);
+                Ok(())
+            }
+            Mode::Closed if byte == b' ' || byte == b'\t' => {
+                self.mode = Mode::Plain;
+                Ok(())
+            }
+            Mode::Closed => Err(RowError::Bad("a blank is after a word in quotes")),
+            _ => self.take_plain(byte),
         }
-    }
-
-    fn end(&mut self) -> Result<(), RowError> {
-        self.end_number()?;
-        if self.mode != Mode::Plain || self.piece.is_some() {
-            return Err(RowError::Bad("a word ends in an escape"));
-        }
-        Ok(())
-    }
-}
-
-// The bytes of a word.
-fn decode(alloc: Global, word: &[u8]) -> Result<Vec<u8>, RowError> {
-    let mut decoder = Decoder::new(alloc);
-    for byte in word {
-        decoder.take(alloc, *byte)?;
-    }
-    decoder.end()?;
-    Ok(decoder.bytes)
-}
-
-// The bytes of a word, which may be in quotes.
-fn decode_word(alloc: Global, word: &[u8]) -> Result<Vec<u8>, RowError> {
-    match word {
-        [b'"', inner @ .., b'"'] => decode(alloc, inner),
-        [b'"', ..] => Err(RowError::Bad("a word in quotes ends with a quote")),
-        _ => decode(alloc, word),
-    }
-}
-
-// Where the words of a line are.
-#[derive(Drop)]
-struct Cutter {
-    places: Vec<(usize, usize)>,
-    // Where the word begins that is being read.
-    start: Option<usize>,
-    is_quoted: bool,
-    is_escaped: bool,
-}
-
-impl Cutter {
-    // Ends the word that is being read.
-    fn end(&mut self, at: usize) -> Result<(), AllocError> {
-        if let Some(start) = self.start {
-            self.places.push((start, at))?;
-        }
-        self.start = None;
-        self.is_quoted = false;
-        Ok(())
-    }
-
-    fn take(&mut self, at: usize, byte: u8) -> Result<(), AllocError> {
-        if self.is_escaped {
-            self.is_escaped = false;
-            return Ok(());
-        }
-        if (byte == b' ' || byte == b'\t') && !self.is_quoted {
-            return self.end(at);
-        }
-        if self.start.is_none() {
-            self.start = Some(at);
-            self.is_quoted = byte == b'"';
-        } else if byte == b'"' && self.is_quoted {
-            self.is_quoted = false;
-        }
-        self.is_escaped = byte == b'\\';
-        Ok(())
     }
 }
 
@@ -298,23 +268,14 @@ impl Cutter {
 /// # Errors
 /// Why a word is none, and out of memory.
 pub fn words_of(alloc: Global, line: &[u8]) -> Result<Vec<Vec<u8>>, RowError> {
-    let mut cutter = Cutter {
-        places: Vec::new(alloc),
-        start: None,
-        is_quoted: false,
-        is_escaped: false,
-    };
-    for (at, byte) in line.iter().enumerate() {
-        cutter.take(at, *byte)?;
+    let mut reader = Reader::new(alloc);
+    for byte in line {
+        reader.take(*byte)?;
     }
-    if cutter.is_quoted {
-        return Err(RowError::Bad("a word in quotes ends with a quote"));
+    reader.end_number()?;
+    if reader.is_quoted || reader.mode == Mode::Escape || reader.mode == Mode::Copies {
+        return Err(RowError::Bad("a word ends in an escape or before its quote"));
     }
-    cutter.end(line.len())?;
-    let mut words = Vec::new(alloc);
-    for (start, end) in &cutter.places {
-        let word = line.get(*start..*end).unwrap_or(&[]);
-        words.push(decode_word(alloc, word)?)?;
-    }
-    Ok(words)
+    reader.end_word()?;
+    Ok(reader.words)
 }
