@@ -7,8 +7,9 @@ use Rattle.ti_layout.specs.View.{Entry, shown_text}
 use Rattle.tools_tput.specs.Entries.{content_named, line_at_rate}
 use Rattle.tools_tput.specs.Results.{Reply}
 use Rattle.user_extension.specs.Reading.{ReadRow}
-use Rattle.everyday_tput.specs.Answers.{Answers, AnswersClear, Command, FullEntry, FullTarget, HasNoText, HasText, defined, is_own_name, name_of, scrollback_text}
-use Rattle.everyday_tput.specs.Answers.{of_clear, of_defined_flag, of_defined_number, of_flag, of_number, of_other, of_size, of_string, of_tables}
+use Rattle.everyday_tput.specs.Answers.{Answers, AnswersClear, AnswersStart, Command, FullEntry, FullTarget, HasNoText, HasText, defined, is_own_name, name_of, scrollback_text}
+use Rattle.everyday_tput.specs.Answers.{of_clear, of_defined_flag, of_defined_number, of_flag, of_number, of_other, of_size, of_start, of_string, of_tables}
+use Rattle.everyday_tput.specs.Answers.{first_refused, last_refused, started, without_file}
 use Rattle.everyday_tput.specs.Commands.{Takes, is_unknown_to_tables, of_no_text, of_stuck, of_text}
 use Rattle.everyday_tput.specs.Laws.{TablesNeedNoExtension, with_full}
 use Rattle.everyday_tput.specs.Running.{OneAfterAnother, Run, Runs, Stop, followed, no_command, nothing, one, stops, then_others}
@@ -90,6 +91,12 @@ module _ (t : FullTarget) (rows : List ReadRow) (statics : List ℤ) (command : 
   same_scrollback : t.keeps_scrollback ≡ true → scrollback_text t ≡ scrollback_text u
   same_scrollback keep = none_kept t keep ∙ sym (none_kept u keep)
 
+  same_start : (is_reset : Bool) (answer : Reply) → AnswersStart t is_reset statics answer → AnswersStart u is_reset statics answer
+  same_start is_reset _ (started before file after) = started before file after
+  same_start is_reset _ (without_file before file) = without_file before file
+  same_start is_reset _ (first_refused is) = first_refused is
+  same_start is_reset _ (last_refused file is) = last_refused file is
+
   same_answer : (answer : Reply) → Answers t statics command answer → Answers u statics command answer
   same_answer _ (of_size named) = of_size named
   same_answer _ (of_clear {answer = answer} clears answers) =
@@ -98,7 +105,8 @@ module _ (t : FullTarget) (rows : List ReadRow) (statics : List ℤ) (command : 
   same_answer _ (of_string {text = text} has answers) = of_string (text_of t.full rows (name_of command) is text has) answers
   same_answer _ (of_defined_flag own) = none_some _ _ (none_defined t.full (name_of command) is) own
   same_answer _ (of_defined_number own) = none_some _ _ (none_defined t.full (name_of command) is) own
-  same_answer _ (of_tables sizes clears none nothing answers) = of_tables sizes clears (none_defined u.full (name_of command) is) nothing answers
+  same_answer _ (of_start starts answers) = of_start starts (same_start _ _ answers)
+  same_answer _ (of_tables sizes clears starts none nothing answers) = of_tables sizes clears starts (none_defined u.full (name_of command) is) nothing answers
 
 pub tables_need_no_extension : TablesNeedNoExtension
 tables_need_no_extension = record {

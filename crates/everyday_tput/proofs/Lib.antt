@@ -10,3 +10,4 @@ pub mod Progress
 pub mod Saturating
 pub mod Sending
 pub mod Steps
+pub mod Writing

@@ -1,5 +1,5 @@
 -- A name with as many of the words after it as it takes.
-use Rattle.std.proofs.Common.{◌≡◌, ℕ, ◌<◌, true, false, List, [], ◌∷◌, length, take, Option, Result, Ok, Err, subst, sym, arith}
+use Rattle.std.proofs.Common.{◌≡◌, ℕ, ◌<◌, Bool, true, false, List, [], ◌∷◌, length, take, Option, Result, Ok, Err, subst, sym, arith}
 use Rattle.std.specs.Prelude.{IfOk, Some, None, ℤ, bytes_eq, codes}
 use Rattle.ti_layout.specs.View.{shown_text}
 use Rattle.ti_printing.specs.declared.padding.Line.{Line}
@@ -7,8 +7,8 @@ use Rattle.tools_tput.specs.Entries.{content_named, line_at_rate}
 use Rattle.tools_tput.specs.Results.{AnswersName, Reply, number_text, reply}
 use Rattle.tools_tput.specs.Replies.{reply_of}
 use Rattle.tools_tput.specs.declared.replies.TputOutcome.{TputOutcome}
-use Rattle.everyday_tput.specs.Answers.{Answers, AnswersClear, Command, FullTarget, HasNoTableText, alone, defined, name_of, of_clear, of_size, of_tables}
-use Rattle.everyday_tput.specs.Answers.{scrollback_text, size_named, with_words}
+use Rattle.everyday_tput.specs.Answers.{Answers, AnswersClear, AnswersStart, Command, FullTarget, HasNoTableText, alone, defined, name_of, of_clear, of_size}
+use Rattle.everyday_tput.specs.Answers.{of_start, of_tables, scrollback_text, size_named, start_named, with_words}
 use Rattle.everyday_tput.specs.Commands.{Takes}
 use Rattle.everyday_tput.specs.inside.Strings.{Steps}
 
@@ -43,7 +43,14 @@ module _ {E : Type 0} (t : FullTarget) (statics : List ℤ) (command : Command) 
 
 -- any other name
 pub tables_answer : (t : FullTarget) (statics : List ℤ) (command : Command) (answer : Reply) (cap : List ℕ) → name_of command ≡ cap
-    → size_named t cap ≡ None → bytes_eq cap (codes "clear") ≡ false → defined t.full cap ≡ None → HasNoTableText t.full cap
+    → size_named t cap ≡ None → bytes_eq cap (codes "clear") ≡ false → start_named cap ≡ None → defined t.full cap ≡ None → HasNoTableText t.full cap
     → AnswersName t.full.entry t.rate cap [] statics answer → Answers t statics command answer
-tables_answer t statics command answer cap named sizes clears none nothing names =
-    of_tables (rw named sizes) (rw named clears) (rw named none) (rw named nothing) (rw named names)
+tables_answer t statics command answer cap named sizes clears starts none nothing names =
+    of_tables (rw named sizes) (rw named clears) (rw named starts) (rw named none) (rw named nothing) (rw named names)
+
+-- `init` and `reset`
+pub started_answer : {E : Type 0} (t : FullTarget) (statics : List ℤ) (command : Command) (r : Result TputOutcome E) (is_reset : Bool) (cap : List ℕ)
+    → name_of command ≡ cap → start_named cap ≡ Some is_reset → IfOk r (λ outcome. AnswersStart t is_reset statics (reply_of outcome statics))
+    → IfOk r (λ outcome. Answers t statics command (reply_of outcome statics))
+started_answer t statics command (Ok outcome) is_reset cap named starts is = of_start (rw named starts) is
+started_answer t statics command (Err e) is_reset cap named starts is = is

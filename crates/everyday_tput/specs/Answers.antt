@@ -1,7 +1,7 @@
 -- The result of a `tput` command for an entry with user-defined capabilities (tput(1),
 -- user_caps(5)).
-use Rattle.std.specs.Prelude.{◌≡◌, ◌⊎◌, ℕ, ◌||◌, Bool, true, false, if◌then◌else◌, Option, Some, None, is_some, ℤ}
-use Rattle.std.specs.Prelude.{List, [], ◌∷◌, codes, bytes_eq}
+use Rattle.std.specs.Prelude.{◌≡◌, ◌⊎◌, ℕ, ◌-◌, ◌||◌, Bool, true, false, if◌then◌else◌, Option, Some, None, is_some, option_and_then, unwrap_or, ℤ}
+use Rattle.std.specs.Prelude.{List, [], ◌∷◌, ◌++◌, codes, bytes_eq}
 use Rattle.ti_caps.specs.Tables.{Capability, capability_named}
 use Rattle.ti_caps.specs.declared.capability.Kind.TheVariants as kinds
 use Rattle.ti_formats.specs.Formats.{IsStuck}
@@ -16,8 +16,12 @@ use Rattle.tools_tput.specs.Results.{AnswersName, AreSent, OneAsksForTooMuch, Re
 use Rattle.user_extension.specs.Reading.{ReadRow, said}
 use Rattle.user_extension.specs.View.{read_rows}
 use Rattle.everyday_tput.specs.Parameters.{arguments}
-use Rattle.everyday_tput.specs.Sizes.{Sources, column_count, line_count, sources_of}
+use Rattle.everyday_tput.specs.Numbers.{size_in}
+use Rattle.everyday_tput.specs.Sizes.{Sources, column_count, line_count, sources_of, window_columns}
+use Rattle.everyday_tput.specs.Starting.{AreWritten, OneIsRefused, first_parts, last_parts}
 use Rattle.everyday_tput.specs.declared.entry.Entry as declared
+use Rattle.everyday_tput.specs.declared.target.StartFile as declared_file_type
+use Rattle.everyday_tput.specs.declared.target.StartFile.TheVariants as declared_file
 use Rattle.everyday_tput.specs.declared.target.Target as declared_target
 
 -- ---- what commands are for
@@ -35,6 +39,17 @@ full_entry e = record { entry = entry_seen e.view; rows = read_rows e.extension 
 abbrev pub without_extension : Entry → FullEntry
 without_extension entry = record { entry = entry; rows = [] }
 
+-- the file that an entry names for its initialization or its reset: what it holds, nothing if the entry
+-- names none; or the status of the process if it cannot be read
+pub data StartFile : Type 0 where
+  holds : List ℕ → StartFile
+  fails : ℕ → StartFile
+
+-- the same, as plain data
+abbrev pub file_of : declared_file_type.StartFile → StartFile
+file_of (declared_file.Bytes bytes) = holds bytes.now
+file_of (declared_file.Failed status) = fails status
+
 -- what commands are for: an entry; whether its terminal is named by `-T`; what is said outside it of
 -- how many columns and lines there are; the rate of the line; whether `clear` keeps what has scrolled
 -- off the screen
@@ -44,6 +59,8 @@ pub record FullTarget : Type 0 where
   pub columns : Sources
   pub lines : Sources
   pub rate : ℕ
+  pub init_file : StartFile
+  pub reset_file : StartFile
   pub keeps_scrollback : Bool
 
 -- the same, as plain data
@@ -54,6 +71,8 @@ target_of t = record {
   columns = sources_of t.columns;
   lines = sources_of t.lines;
   rate = t.rate;
+  init_file = file_of t.init_file;
+  reset_file = file_of t.reset_file;
   keeps_scrollback = t.keeps_scrollback;
 }
 
@@ -131,19 +150,49 @@ pub data AnswersClear (line : Line) (clear scrollback : Option (List ℕ)) (stat
 abbrev pub scrollback_text : FullTarget → Option (List ℕ)
 scrollback_text t = if t.keeps_scrollback then None else text_in (said t.full.rows (codes "E3"))
 
+-- whether a name asks for a reset, or for an initialization, if it asks for one of the two
+abbrev pub start_named : List ℕ → Option Bool
+start_named cap = if bytes_eq cap (codes "init") then Some false else if bytes_eq cap (codes "reset") then Some true else None
+
+-- the last column, counted from 0: that of the window, if it has columns and lines, else by how many
+-- columns there are
+abbrev pub start_last : FullTarget → ℕ
+start_last t =
+    unwrap_or (window_columns (option_and_then size_in t.columns.window) (option_and_then size_in t.lines.window))
+    (column_count t.is_named t.columns t.full.entry) - 1
+
+-- the file of a reset, or of an initialization
+abbrev pub start_file : FullTarget → Bool → StartFile
+start_file t is_reset = if is_reset then t.reset_file else t.init_file
+
+-- The result of `init` and `reset`: the first parts, the file as it is, and the last ones. If the file
+-- cannot be read, a newline ends the first parts. Nothing is written if a part cannot be written.
+pub data AnswersStart (t : FullTarget) (is_reset : Bool) (statics : List ℤ) : Reply → Type 0 where
+  started : {first file last : List ℕ} → AreWritten (line_at_rate t.full.entry t.rate) (first_parts is_reset t.full.entry (start_last t)) first →
+      start_file t is_reset ≡ holds file → AreWritten (line_at_rate t.full.entry t.rate) (last_parts is_reset t.full.entry) last →
+      AnswersStart t is_reset statics (reply (first ++ file ++ last) 0 statics)
+  without_file : {first : List ℕ} {status : ℕ} → AreWritten (line_at_rate t.full.entry t.rate) (first_parts is_reset t.full.entry (start_last t)) first →
+      start_file t is_reset ≡ fails status → AnswersStart t is_reset statics (reply (first ++ codes "\n") status statics)
+  first_refused : OneIsRefused (line_at_rate t.full.entry t.rate) (first_parts is_reset t.full.entry (start_last t)) →
+      AnswersStart t is_reset statics (bad_reply statics)
+  last_refused : {file : List ℕ} → start_file t is_reset ≡ holds file → OneIsRefused (line_at_rate t.full.entry t.rate) (last_parts is_reset t.full.entry) →
+      AnswersStart t is_reset statics (bad_reply statics)
+
 -- how many columns or lines there are, if the name asks for it
 abbrev pub size_named : FullTarget → List ℕ → Option ℕ
 size_named t cap =
     if bytes_eq cap (codes "cols") then Some (column_count t.is_named t.columns t.full.entry)
     else if bytes_eq cap (codes "lines") then Some (line_count t.is_named t.lines t.full.entry) else None
 
--- The result of a command. A name that is neither `clear`, `cols`, `lines`, a string that the entry
--- has, nor user-defined is handled as for an entry without user-defined capabilities. Words do not
+-- The result of a command. A name that is neither `clear`, `init`, `reset`, `cols`, `lines`, a string
+-- that the entry has, nor user-defined is handled as for an entry without user-defined capabilities. Words do not
 -- matter to any but strings.
 pub data Answers (t : FullTarget) (statics : List ℤ) (command : Command) : Reply → Type 0 where
   of_size : {n : ℕ} → size_named t (name_of command) ≡ Some n → Answers t statics command (reply (number_text (Some n)) 0 statics)
   of_clear : {answer : Reply} → bytes_eq (name_of command) (codes "clear") ≡ true →
       AnswersClear (line_at_rate t.full.entry t.rate) (shown_text (content_named t.full.entry (codes "clear"))) (scrollback_text t) statics answer →
+      Answers t statics command answer
+  of_start : {is_reset : Bool} {answer : Reply} → start_named (name_of command) ≡ Some is_reset → AnswersStart t is_reset statics answer →
       Answers t statics command answer
   of_string : {text : List ℕ} {answer : Reply} → HasText t.full (name_of command) text →
       AnswersString (line_at_rate t.full.entry t.rate) statics text command answer → Answers t statics command answer
@@ -151,5 +200,5 @@ pub data Answers (t : FullTarget) (statics : List ℤ) (command : Command) : Rep
   of_defined_number : {n : ℕ} → defined t.full (name_of command) ≡ Some (content_number n) →
       Answers t statics command (reply (number_text (Some n)) 0 statics)
   of_tables : {answer : Reply} → size_named t (name_of command) ≡ None → bytes_eq (name_of command) (codes "clear") ≡ false →
-      defined t.full (name_of command) ≡ None → HasNoTableText t.full (name_of command) →
+      start_named (name_of command) ≡ None → defined t.full (name_of command) ≡ None → HasNoTableText t.full (name_of command) →
       AnswersName t.full.entry t.rate (name_of command) [] statics answer → Answers t statics command answer

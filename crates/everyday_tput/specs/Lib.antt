@@ -3,9 +3,11 @@ pub mod Answers
 pub mod Calls
 pub mod Commands
 pub mod Laws
+pub mod Modes
 pub mod Numbers
 pub mod Parameters
 pub mod Running
 pub mod Runs
 pub mod Sizes
+pub mod Starting
 pub mod inside

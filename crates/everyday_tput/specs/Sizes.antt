@@ -36,3 +36,8 @@ column_count is_named sources entry = size_by is_named sources (shown_number (co
 -- how many lines there are, 24 if nothing says it
 abbrev pub line_count : Bool → Sources → Entry → ℕ
 line_count is_named sources entry = size_by is_named sources (shown_number (content_named entry (codes "lines"))) 24
+
+-- how many columns the window has, if it has lines too
+abbrev pub window_columns : Option ℕ → Option ℕ → Option ℕ
+window_columns columns None = None
+window_columns columns (Some lines) = columns

@@ -4,13 +4,14 @@ ghost use Rattle.ti_layout.specs.View.{entry_seen, shown_text};
 ghost use Rattle.tools_tput.specs.Entries.{content_named, line_at_rate};
 ghost use Rattle.tools_tput.specs.Replies.{reply_of};
 ghost use Rattle.tools_tput.specs.Results.{number_text, reply};
-ghost use Rattle.everyday_tput.specs.Answers.{Answers, Command, HasText, FullTarget, full_entry, name_of, scrollback_text, size_named, target_of};
+ghost use Rattle.everyday_tput.specs.Answers.{Answers, Command, HasText, FullTarget, full_entry, name_of, scrollback_text, size_named, start_named, target_of};
 ghost use Rattle.everyday_tput.specs.inside.Asked.{IsOther};
 ghost use Rattle.everyday_tput.specs.inside.Strings.{IsLineOf, Steps};
 
 use crate::asked::{Asked, what_is_asked};
 use crate::parameters::{least_words, words_by};
 use crate::sizes::{column_count, line_count};
+use crate::starting::started;
 use crate::strings::{BAD_COMMAND, as_it_stands, cleared, expanded, status_alone};
 use crate::target::Target;
 use std::alloc::{AllocError, Global};
@@ -44,9 +45,9 @@ fn size_named(target: &Target<'_>, cap: &[u8]) -> Option<u32>
     None
 }
 
-// The string that an entry has of the capability of a name in the tables.
+/// The string that an entry has of the capability of a name in the tables.
 #[tactic(auto, unfolding(tools_tput::specs::Entries::content_named))]
-fn table_text<'a>(view: &View<'a>, name: &[u8]) -> Option<&'a [u8]>
+pub(crate) fn table_text<'a>(view: &View<'a>, name: &[u8]) -> Option<&'a [u8]>
     ensures { option_map (λ text. text.now) result ≡ shown_text (content_named (entry_seen view.now) name.now) }
 {
     match view.get(find(name)?) {
@@ -68,6 +69,19 @@ fn scrollback_text<'a>(target: &Target<'a>) -> Option<&'a [u8]>
     }
 }
 
+// Whether a name asks for a reset, or for an initialization, if it asks for one of the two.
+fn start_named(cap: &[u8]) -> Option<bool>
+    ensures { result ≡ start_named cap.now }
+{
+    if cap == b"init".as_slice() {
+        return Some(false);
+    }
+    if cap == b"reset".as_slice() {
+        return Some(true);
+    }
+    None
+}
+
 // The answer to a name that is neither a string of the entry nor user-defined, whatever words come
 // after it.
 fn answer_other(
@@ -85,6 +99,9 @@ fn answer_other(
     if cap == b"clear".as_slice() {
         let clear = table_text(&target.entry.view, b"clear");
         return cleared(alloc, clear, scrollback_text(target), line);
+    }
+    if let Some(is_reset) = start_named(cap) {
+        return started(alloc, target, line, is_reset);
     }
     match tools_tput::tput(alloc, &target.entry.view, &[cap], target.rate) {
         Ok(outcome) => Ok(outcome),

@@ -3,9 +3,11 @@ ghost use Rattle.std.specs.Prelude.{◌≡◌, option_and_then, option_map};
 ghost use Rattle.ti_layout.specs.View.{entry_seen, shown_number};
 ghost use Rattle.tools_tput.specs.Entries.{content_named};
 ghost use Rattle.everyday_tput.specs.Numbers.{size_in};
-ghost use Rattle.everyday_tput.specs.Sizes.{column_count, line_count, over_zero, size_by, sources_of};
+ghost use Rattle.everyday_tput.specs.Answers.{start_last, target_of};
+ghost use Rattle.everyday_tput.specs.Sizes.{column_count, line_count, over_zero, size_by, sources_of, window_columns};
 
 use crate::numbers::size_in;
+use crate::target::Target;
 use ti_caps::find;
 use ti_layout::{Content, View};
 
@@ -44,9 +46,9 @@ fn said(value: Option<&[u8]>) -> Option<u32>
     size_in(value?)
 }
 
-// The number that an entry has of the capability of a name.
+/// The number that an entry has of the capability of a name.
 #[tactic(auto, unfolding(tools_tput::specs::Entries::content_named))]
-fn inherent(view: &View<'_>, name: &[u8]) -> Option<u32>
+pub(crate) fn inherent(view: &View<'_>, name: &[u8]) -> Option<u32>
     ensures { result ≡ shown_number (content_named (entry_seen view.now) name.now) }
 {
     match view.get(find(name)?) {
@@ -93,4 +95,24 @@ pub(crate) fn line_count(is_named: bool, sources: &Sources<'_>, view: &View<'_>)
     ensures { result ≡ line_count is_named (sources_of sources.now) (entry_seen view.now) }
 {
     size(is_named, sources, inherent(view, b"lines"), USUAL_LINES)
+}
+
+// How many columns the window has, if it has lines too.
+fn window_columns(columns: Option<u32>, lines: Option<u32>) -> Option<u32>
+    ensures { result ≡ window_columns columns lines }
+{
+    match lines {
+        Some(_) => columns,
+        None => None,
+    }
+}
+
+/// The last column that `init` and `reset` know of, counted from 0: of the window, if it has columns
+/// and lines; else by `column_count`.
+pub(crate) fn start_last(target: &Target<'_>) -> u32
+    ensures { result ≡ start_last (target_of target.now) }
+{
+    let window = window_columns(said(target.columns.window), said(target.lines.window));
+    let usual = column_count(target.is_named, &target.columns, &target.entry.view);
+    window.unwrap_or(usual).saturating_sub(1)
 }

@@ -30,8 +30,12 @@ pub(crate) fn status_alone(alloc: Global, status: u8) -> TputOutcome
     }
 }
 
-// A string padded for one line; `None` if that is too much padding.
-fn pad_once(alloc: Global, text: &[u8], line: &Line) -> Result<Option<Vec<u8>>, AllocError>
+/// A string padded for one line; `None` if that is too much padding.
+pub(crate) fn pad_once(
+    alloc: Global,
+    text: &[u8],
+    line: &Line,
+) -> Result<Option<Vec<u8>>, AllocError>
     ensures { IfOk result (λ found. Pads line.now text.now found) }
 {
     match pad(alloc, text, 1, line) {
@@ -41,8 +45,12 @@ fn pad_once(alloc: Global, text: &[u8], line: &Line) -> Result<Option<Vec<u8>>, 
     }
 }
 
-// A string that an expansion made, padded for one line; `None` if that is too much padding.
-fn pad_output(alloc: Global, output: Vec<u8>, line: &Line) -> Result<Option<Vec<u8>>, AllocError>
+/// A string that an expansion made, padded for one line; `None` if that is too much padding.
+pub(crate) fn pad_output(
+    alloc: Global,
+    output: Vec<u8>,
+    line: &Line,
+) -> Result<Option<Vec<u8>>, AllocError>
     ensures { IfOk result (λ found. Pads line.now output.items found) }
 {
     match pad_owned(alloc, output, 1, line) {

@@ -1,6 +1,6 @@
 -- What the words of a command line ask of a tool: what the matches of clap for the words mean, or
 -- what is wrong with them. (tic(1), infocmp(1), tput(1); the messages are own)
-use Rattle.std.specs.Prelude.{◌≡◌, ◌≢◌, ◌⊎◌, ℕ, ◌++◌, List, [], codes, true, Result, Ok, Err}
+use Rattle.std.specs.Prelude.{◌≡◌, ◌≢◌, ◌⊎◌, ℕ, ◌++◌, List, [], codes, true, Option, Some, None, Result, Ok, Err}
 use Rattle.std.specs.String.{string_bytes}
 use Rattle.clap.specs.Faults.{fault_of}
 use Rattle.clap.specs.Kinds.{IsAmong}
@@ -13,10 +13,11 @@ use Rattle.tools_commands.specs.Mistakes.{mistake_text}
 use Rattle.tools_commands.specs.declared.mistakes.Mistake.{Mistake}
 use Rattle.everyday_words.specs.Commands.{OfTool}
 use Rattle.everyday_words.specs.FmtWords.{fmt_asked}
+use Rattle.everyday_words.specs.Foreign.{refused_option, unsupported_text}
 use Rattle.everyday_words.specs.InfocmpWords.{infocmp_asked}
 use Rattle.everyday_words.specs.LintWords.{lint_asked}
 use Rattle.everyday_words.specs.Names.{shown_name}
-use Rattle.everyday_words.specs.Requests.{Wanted, wanted_of, wants_tic}
+use Rattle.everyday_words.specs.Requests.{Wanted, wanted_of}
 use Rattle.everyday_words.specs.TicWords.{tic_asked}
 use Rattle.everyday_words.specs.TputWords.{tput_asked}
 use Rattle.everyday_words.specs.declared.arguments.Refusal.{Refusal}
@@ -25,17 +26,31 @@ use Rattle.everyday_words.specs.declared.names.Tool.{Tool}
 use Rattle.everyday_words.specs.declared.names.Tool.TheVariants as tool
 use Rattle.everyday_words.specs.declared.requests.Request.{Request}
 
--- what words ask for, or what is wrong with them
+-- what words ask for, or a sentence that says what is wrong with them
 abbrev pub Asked : Type 0
-Asked = Result Wanted Mistake
+Asked = Result Wanted Text
+
+-- what is asked of a tool with these matches, if it supports each option
+abbrev pub supported_asked : Tool → List Row → Result Wanted Mistake
+supported_asked tool.Tic rows = Ok (tic_asked rows)
+supported_asked tool.Infocmp rows = infocmp_asked rows
+supported_asked tool.Tput rows = tput_asked rows
+supported_asked tool.Fmt rows = fmt_asked rows
+supported_asked tool.Lint rows = lint_asked rows
+
+-- a mistake as a sentence
+abbrev pub in_words : Result Wanted Mistake → Asked
+in_words (Ok wanted) = Ok wanted
+in_words (Err wrong) = Err (mistake_text wrong)
+
+-- what is asked for, unless this option is refused
+abbrev pub unless_refused : Option Text → Asked → Asked
+unless_refused None asked = asked
+unless_refused (Some letter) asked = Err (unsupported_text letter)
 
 -- what is asked of a tool with these matches
 abbrev pub asked_by : Tool → List Row → Asked
-asked_by tool.Tic rows = Ok (wants_tic (tic_asked rows))
-asked_by tool.Infocmp rows = infocmp_asked rows
-asked_by tool.Tput rows = tput_asked rows
-asked_by tool.Fmt rows = fmt_asked rows
-asked_by tool.Lint rows = lint_asked rows
+asked_by t rows = unless_refused (refused_option t rows) (in_words (supported_asked t rows))
 
 -- what the words ask of a tool, by its command line
 abbrev pub asked_of : Tool → App → List Text → Asked
@@ -58,9 +73,9 @@ IsSaidOf kind (Usage said) = (kind ≢ DisplayHelp) × (kind ≢ DisplayVersion)
 IsSaidOf kind (Shown text) = (kind ≡ DisplayHelp) ⊎ (kind ≡ DisplayVersion)
 IsSaidOf kind Memory = kind ≡ OutOfMemory
 
--- the line that standard error shows of a mistake
-abbrev pub usage_line : Tool → Mistake → List ℕ
-usage_line t wrong = shown_name t ++ codes ": bad usage: " ++ mistake_text wrong ++ codes "\n"
+-- the line that standard error shows of what is wrong
+abbrev pub usage_line : Tool → Text → List ℕ
+usage_line t wrong = shown_name t ++ codes ": bad usage: " ++ wrong ++ codes "\n"
 
 -- a refusal that says what is wrong
 abbrev pub SaysWrong : Tool → Asked → Refusal → Type 0

@@ -8,6 +8,7 @@ use Rattle.clap.specs.declared.builder.value_parser.ValueParser.TheVariants as p
 use Rattle.tools_commands.specs.Commands.{rate_max}
 use Rattle.tools_commands.specs.InfocmpWords.{IsOrders, first_mode_rules, layout_rules, name_rules, other_mode_rules, width_max, width_min}
 use Rattle.tools_commands.specs.Rules.{Choices, flag_rule, long_number_rule, long_option_rule, number_rule, operand_rule, operands_rule, option_rule}
+use Rattle.everyday_words.specs.Foreign.{with_foreign}
 use Rattle.everyday_words.specs.declared.names.Tool.{Tool}
 use Rattle.everyday_words.specs.declared.names.Tool.TheVariants as tool
 
@@ -30,11 +31,12 @@ tic_flags_app = with_rule (with_rule (with_rule (everyday_app (codes "ti-tic"))
     (flag_rule (codes "summary") (byte_of "s")))
     (flag_rule (codes "user") (byte_of "x"))
 
--- `ti-tic [-c] [-s] [-x] [-e NAMES] [-o DIR] [FILE]`
+-- `ti-tic [-c] [-s] [-x] [-e NAMES] [-o DIR] [-D] [FILE]`
 abbrev pub tic_app : App
-tic_app = with_rule (with_rule (with_rule tic_flags_app
+tic_app = with_rule (with_rule (with_rule (with_rule tic_flags_app
     (option_rule (codes "only") (byte_of "e")))
     (option_rule (codes "dir") (byte_of "o")))
+    (flag_rule (codes "directories") (byte_of "D")))
     (operand_rule (codes "file"))
 
 -- `ti-infocmp [-x] ..`
@@ -104,8 +106,8 @@ pub record AreLists (lists : Lists) : Type 0 where
 
 -- the command line of a tool, given where the names are in memory
 unfoldable pub tool_app : Lists → Tool → App
-tool_app lists tool.Tic = tic_app
-tool_app lists tool.Infocmp = infocmp_app lists.orders
+tool_app lists tool.Tic = with_foreign tool.Tic tic_app
+tool_app lists tool.Infocmp = with_foreign tool.Infocmp (infocmp_app lists.orders)
 tool_app lists tool.Tput = tput_app
 tool_app lists tool.Fmt = fmt_app
 tool_app lists tool.Lint = lint_app lists.forms lists.colors

@@ -1,5 +1,5 @@
 -- What the words after `ti-infocmp` ask for (infocmp(1)).
-use Rattle.std.specs.Prelude.{ℕ, nat_lt, if◌then◌else◌, List, [], ◌∷◌, length, codes, Option, Some, None, Result, Ok, Err}
+use Rattle.std.specs.Prelude.{ℕ, nat_lt, ◌||◌, if◌then◌else◌, List, [], ◌∷◌, length, codes, Option, Some, None, Result, Ok, Err}
 use Rattle.clap.specs.Walk.{Row, Text, first_of}
 use Rattle.ti_list.specs.declared.layout.Order.{Order}
 use Rattle.tools_commands.specs.InfocmpWords.{modes_named, name_words, order_for, width_for}
@@ -23,7 +23,7 @@ listing_at (Err wrong) width by rows names = Err wrong
 listing_at (Ok named) None by rows names = Err mistake.NoCommandLine
 listing_at (Ok named) (Some width) None rows names = Err mistake.NoCommandLine
 listing_at (Ok named) (Some width) (Some by) rows names = Ok (wants_infocmp (record {
-  user_defined = is_on (codes "user") rows;
+  user_defined = is_on (codes "user") rows || is_on (codes "a") rows;
   mode = named;
   names = names;
   layout = record { width = width; one_per_line = is_on (codes "one") rows; order = by };

@@ -2,6 +2,7 @@
 pub mod Arguments
 pub mod Commands
 pub mod FmtWords
+pub mod Foreign
 pub mod InfocmpWords
 pub mod LintWords
 pub mod Names

@@ -62,9 +62,10 @@ pub record LintWanted : Type 0 where
   pub color : LintColor
   pub files : List Text
 
--- what is asked of a tool
+-- what is asked of a tool; `wants_outputs` asks for the directories for entries, given that of `-o`
 pub data Wanted : Type 0 where
   wants_tic : TicWanted → Wanted
+  wants_outputs : Option Text → Wanted
   wants_infocmp : InfocmpWanted → Wanted
   wants_directories : Wanted
   wants_tput : TputWanted → Wanted
@@ -123,6 +124,7 @@ lint_seen r = record {
 -- of any tool
 abbrev pub wanted_of : Request → Wanted
 wanted_of (request.Tic r) = wants_tic (tic_seen r)
+wanted_of (request.Outputs dir) = wants_outputs (option_map string_bytes dir)
 wanted_of (request.Infocmp r) = wants_infocmp (infocmp_seen r)
 wanted_of request.Directories = wants_directories
 wanted_of (request.Tput r) = wants_tput (tput_seen r)

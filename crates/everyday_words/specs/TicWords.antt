@@ -3,16 +3,16 @@ use Rattle.std.specs.Prelude.{Option, Some, None, List, codes, if◌then◌else�
 use Rattle.std.specs.Str.{bytes_eq}
 use Rattle.clap.specs.Walk.{Row, Text, first_of}
 use Rattle.tools_commands.specs.Matches.{is_on}
-use Rattle.everyday_words.specs.Requests.{TicWanted}
+use Rattle.everyday_words.specs.Requests.{TicWanted, Wanted, wants_outputs, wants_tic}
 
 -- the file of a source, none for standard input, for which `-` stands
 abbrev pub source_in : Option Text → Option Text
 source_in None = None
 source_in (Some path) = if bytes_eq path (codes "-") then None else Some path
 
--- what is asked for with these matches
-abbrev pub tic_asked : List Row → TicWanted
-tic_asked rows = record {
+-- the source that is to be compiled with these matches
+abbrev pub source_asked : List Row → TicWanted
+source_asked rows = record {
   check = is_on (codes "check") rows;
   summary = is_on (codes "summary") rows;
   user_defined = is_on (codes "user") rows;
@@ -20,3 +20,7 @@ tic_asked rows = record {
   dir = first_of (codes "dir") rows;
   file = source_in (first_of (codes "file") rows);
 }
+
+-- what is asked for with these matches: with `-D` the directories for entries, whatever else there is
+abbrev pub tic_asked : List Row → Wanted
+tic_asked rows = if is_on (codes "directories") rows then wants_outputs (first_of (codes "dir") rows) else wants_tic (source_asked rows)

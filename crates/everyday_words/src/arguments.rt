@@ -1,15 +1,16 @@
 //! What the words of a command line ask for, or why they ask for nothing.
 ghost use Rattle.std.specs.Prelude.{◌≡◌, IfErr, IfOk};
+ghost use Rattle.std.specs.String.{string_bytes};
 ghost use Rattle.clap.specs.Words.{kind_of};
 ghost use Rattle.tools_commands.specs.Arguments.{word_texts};
 ghost use Rattle.tools_commands.specs.Matches.{matched_rows};
-ghost use Rattle.everyday_words.specs.Arguments.{IsRefusalOf, IsRequestOf, IsSaidOf, TakesAs, asked_by};
+ghost use Rattle.everyday_words.specs.Arguments.{IsRefusalOf, IsRequestOf, IsSaidOf, TakesAs, asked_by, in_words, supported_asked, usage_line};
 ghost use Rattle.everyday_words.specs.Commands.{OfEachTool, OfTool};
 ghost use Rattle.everyday_words.specs.Requests.{Wanted};
 ghost use Rattle.everyday_words.specs.inside.Answers.{Answers, AnswersTaken};
 ghost use Rattle.everyday_words.specs.declared.arguments.Refusal.TheVariants.{Memory};
 
-use crate::commands::command;
+use crate::commands::{command, unsupported_option};
 use crate::fmt_words::fmt_request;
 use crate::infocmp_words::infocmp_request;
 use crate::lint_words::lint_request;
@@ -56,12 +57,12 @@ fn refusal_by(alloc: Global, error: &clap::error::Error) -> Result<Refusal, Allo
     })
 }
 
-// What these matches ask of a tool.
+// What these matches ask of a tool that supports each option.
 fn tool_request(alloc: Global, tool: Tool, matches: &ArgMatches<'_>) -> Result<Request, NoRequest>
-    ensures { Answers (asked_by tool (matched_rows matches.now)) result }
+    ensures { Answers (supported_asked tool (matched_rows matches.now)) result }
 {
     match tool {
-        Tool::Tic => Ok(Request::Tic(tic_request(alloc, matches)?)),
+        Tool::Tic => Ok(tic_request(alloc, matches)?),
         Tool::Infocmp => infocmp_request(alloc, matches),
         Tool::Tput => tput_request(alloc, matches),
         Tool::Fmt => fmt_request(alloc, matches),
@@ -69,19 +70,43 @@ fn tool_request(alloc: Global, tool: Tool, matches: &ArgMatches<'_>) -> Result<R
     }
 }
 
-// What words that clap takes ask of a tool, or the message for them.
-fn taken_request(alloc: Global, tool: Tool, matches: &ArgMatches<'_>) -> Result<Request, Refusal>
-    ensures { AnswersTaken tool (asked_by tool (matched_rows matches.now)) result }
+// The line of bad usage with a sentence that says what is wrong.
+fn usage_line(alloc: Global, tool: Tool, sentence: &str) -> Result<String, AllocError>
+    ensures { IfOk result (λ line. string_bytes line ≡ usage_line tool sentence.now) }
+{
+    let name = tool.name();
+    format!(in alloc; "{name}: bad usage: {sentence}\n")
+}
+
+// What words that clap takes ask of a tool that supports each option, or the message for them.
+fn supported_request(
+    alloc: Global,
+    tool: Tool,
+    matches: &ArgMatches<'_>,
+) -> Result<Request, Refusal>
+    ensures { AnswersTaken tool (in_words (supported_asked tool (matched_rows matches.now))) result }
 {
     match tool_request(alloc, tool, matches) {
         Ok(request) => Ok(request),
         Err(NoRequest::Memory) => Err(Refusal::Memory),
         Err(NoRequest::Wrong(mistake)) => {
-            let name = tool.name();
-            let line = format!(in alloc; "{name}: bad usage: {mistake}\n")?;
+            let sentence = format!(in alloc; "{mistake}")?;
+            let line = usage_line(alloc, tool, sentence.as_str())?;
             Err(Refusal::Usage(line))
         }
     }
+}
+
+// What words that clap takes ask of a tool, or the message for them.
+fn taken_request(alloc: Global, tool: Tool, matches: &ArgMatches<'_>) -> Result<Request, Refusal>
+    ensures { AnswersTaken tool (asked_by tool (matched_rows matches.now)) result }
+{
+    if let Some(letter) = unsupported_option(matches, tool) {
+        let sentence = format!(in alloc; "-{letter} is not supported")?;
+        let line = usage_line(alloc, tool, sentence.as_str())?;
+        return Err(Refusal::Usage(line));
+    }
+    supported_request(alloc, tool, matches)
 }
 
 /// What the words of a command line ask of a tool. The first word is the name by which the program

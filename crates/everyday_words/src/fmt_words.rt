@@ -5,7 +5,7 @@ ghost use Rattle.tools_commands.specs.Matches.{matched_rows};
 ghost use Rattle.everyday_words.specs.FmtWords.{columns_for, fmt_asked, fmt_with, is_dash};
 ghost use Rattle.everyday_words.specs.inside.Answers.{Answers};
 
-use crate::commands::CommandLine;
+use crate::commands::{CommandLine, VERSION};
 use crate::infocmp_words::{WIDTH_MAX, WIDTH_MIN, width_in};
 use crate::matches::{is_on, texts, value, values};
 use crate::mistakes::NoRequest;
@@ -21,6 +21,7 @@ const COLUMNS: usize = 80;
 /// `ti-fmt [--check] [-w N] [FILE..|-]`.
 pub(crate) const FMT: CommandLine<'static> = CommandLine {
     name: "ti-fmt",
+    version: VERSION,
     about: "Give terminfo sources the layout of a listing.",
     arguments: &[
         Argument {

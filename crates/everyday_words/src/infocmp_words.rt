@@ -7,7 +7,8 @@ ghost use Rattle.everyday_words.specs.InfocmpWords.{infocmp_asked, listing_asked
 ghost use Rattle.everyday_words.specs.inside.Choice.{choice_from, choice_with};
 ghost use Rattle.everyday_words.specs.inside.Answers.{Answers};
 
-use crate::commands::CommandLine;
+use crate::commands::{CommandLine, VERSION_IN_PLACE};
+use crate::foreign;
 use crate::matches::{is_on, text, texts, value, values};
 use crate::mistakes::NoRequest;
 use crate::requests::{InfocmpRequest, Request};
@@ -29,6 +30,7 @@ pub(crate) const WIDTH_MAX: usize = 4096;
 /// `ti-infocmp [-x] [-I|-d|-c|-n|-u] [-1] [-w N] [-s d|i] [-D] [-A DIR] [-B DIR] [NAME..]`.
 pub(crate) const INFOCMP: CommandLine<'static> = CommandLine {
     name: "ti-infocmp",
+    version: VERSION_IN_PLACE,
     about: "List and compare entries, as source or side by side.",
     arguments: &[
         Argument {
@@ -96,6 +98,29 @@ pub(crate) const INFOCMP: CommandLine<'static> = CommandLine {
             form: Form::Operands("NAME"),
             help: "The terminals, or paths of compiled files [default: $TERM]",
         },
+        foreign!(Hidden, "a", 'a'),
+        foreign!(Hidden, "l", 'l'),
+        foreign!(Hidden, "T", 'T'),
+        foreign!(Hidden, "t", 't'),
+        foreign!(Hidden, "U", 'U'),
+        foreign!(HiddenValue, "v", 'v'),
+        foreign!(Refused, "0", '0'),
+        foreign!(Refused, "C", 'C'),
+        foreign!(Refused, "E", 'E'),
+        foreign!(Refused, "e", 'e'),
+        foreign!(Refused, "F", 'F'),
+        foreign!(Refused, "f", 'f'),
+        foreign!(Refused, "G", 'G'),
+        foreign!(Refused, "g", 'g'),
+        foreign!(Refused, "i", 'i'),
+        foreign!(Refused, "K", 'K'),
+        foreign!(Refused, "L", 'L'),
+        foreign!(Refused, "p", 'p'),
+        foreign!(Refused, "q", 'q'),
+        foreign!(Refused, "r", 'r'),
+        foreign!(Refused, "W", 'W'),
+        foreign!(RefusedValue, "Q", 'Q'),
+        foreign!(RefusedValue, "R", 'R'),
     ],
     notes: "\
 Without a mode, -d is used if there are two names or more. In a mode that
@@ -217,7 +242,7 @@ fn listing_of(alloc: Global, matches: &ArgMatches<'_>, names: &[&str]) -> Result
         order,
     };
     Ok(Request::Infocmp(InfocmpRequest {
-        user_defined: is_on(matches, "user"),
+        user_defined: is_on(matches, "user") || is_on(matches, "a"),
         mode,
         names,
         layout,

@@ -5,7 +5,7 @@ ghost use Rattle.tools_commands.specs.Matches.{matched_rows};
 ghost use Rattle.everyday_words.specs.LintWords.{color_for, form_for, lint_asked, lint_with};
 ghost use Rattle.everyday_words.specs.inside.Answers.{Answers};
 
-use crate::commands::CommandLine;
+use crate::commands::{CommandLine, VERSION};
 use crate::fmt_words::is_dash;
 use crate::matches::{is_on, texts, value, values};
 use crate::mistakes::NoRequest;
@@ -18,6 +18,7 @@ use tools_commands::Mistake;
 /// `ti-lint [-x] [--strict] [--fix] [--format FORM] [--color WHEN] [FILE..|-]`.
 pub(crate) const LINT: CommandLine<'static> = CommandLine {
     name: "ti-lint",
+    version: VERSION,
     about: "Check terminfo sources, as the language server does.",
     arguments: &[
         Argument {

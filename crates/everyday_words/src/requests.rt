@@ -106,6 +106,8 @@ pub struct LintRequest {
 pub enum Request {
     /// To compile a source.
     Tic(TicRequest),
+    /// To print the directories into which entries may be written, given that of `-o`.
+    Outputs(Option<String>),
     /// To list, compare or relate entries.
     Infocmp(InfocmpRequest),
     /// To print the directories that are searched for entries.

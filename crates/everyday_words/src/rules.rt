@@ -1,13 +1,15 @@
 //! What clap reads of an argument of a tool, with its help.
-ghost use Rattle.std.specs.Prelude.{◌≡◌, false, Some};
+ghost use Rattle.std.specs.Prelude.{◌≡◌, false, option_map, Some};
 ghost use Rattle.clap.specs.declared.builder.texts.Texts.TheVariants.{One};
 ghost use Rattle.clap.specs.Words.{rule_of};
 ghost use Rattle.tools_commands.specs.Rules.{flag_rule, long_option_rule, operand_rule, operands_rule, option_rule};
 ghost use Rattle.everyday_words.specs.Commands.{long_flag_rule};
-ghost use Rattle.everyday_words.specs.inside.Rules.{ShowsValue, rule_for};
+ghost use Rattle.tools_commands.specs.Matches.{matched_rows};
+ghost use Rattle.everyday_words.specs.inside.Rules.{ShowsValue, first_refused, is_refused, rule_for};
 
+use crate::matches::{is_on, value};
 use clap::builder::ValueParser;
-use clap::{Arg, ArgAction};
+use clap::{Arg, ArgAction, ArgMatches};
 use std::alloc::Global;
 
 /// How an argument is given. The string is the name of the value in help.
@@ -31,6 +33,14 @@ pub enum Form<'a> {
     Operand(&'a str),
     /// Any number of operands.
     Operands(&'a str),
+    /// An option that is on or off, by its letter, which help does not show.
+    Hidden(char),
+    /// An option with one value, which help does not show.
+    HiddenValue(char),
+    /// An option of ncurses's that is on or off and not supported, which help does not show.
+    Refused(char),
+    /// An option of ncurses's with one value that is not supported, which help does not show.
+    RefusedValue(char),
 }
 
 /// An argument of a tool: the name that the matches have for it, how it is given, and its help.
@@ -39,6 +49,19 @@ pub struct Argument<'a> {
     pub id: &'a str,
     pub form: Form<'a>,
     pub help: &'a str,
+}
+
+/// An option of ncurses's that help does not show: a form, and the letter as the name that the matches
+/// have for it and as it is given.
+#[macro_export]
+macro_rules! foreign {
+    ($form:ident, $id:literal, $letter:literal) => {
+        Argument {
+            id: $id,
+            form: Form::$form($letter),
+            help: "",
+        }
+    };
 }
 
 impl<'a> Argument<'a> {
@@ -72,8 +95,44 @@ impl<'a> Argument<'a> {
             }
             Form::Operand(value) => operand(alloc, id, value, help),
             Form::Operands(value) => operands(alloc, id, value, help),
+            Form::Hidden(short) => flag(alloc, id, short, help).hide(true),
+            Form::HiddenValue(short) => hidden_option(alloc, id, short, help),
+            Form::Refused(short) => flag(alloc, id, short, help).hide(true),
+            Form::RefusedValue(short) => hidden_option(alloc, id, short, help),
         }
     }
+
+    // Whether the argument is given, and is not supported.
+    fn is_refused(&self, matches: &ArgMatches<'_>) -> bool
+        ensures { result ≡ is_refused self.now (matched_rows matches.now) }
+    {
+        match self.form {
+            Form::Refused(_) => is_on(matches, self.id),
+            Form::RefusedValue(_) => value(matches, self.id).is_some(),
+            _ => false,
+        }
+    }
+}
+
+/// The name of the first of these arguments that is given and not supported, if there is one.
+pub fn refused_option<'a>(matches: &ArgMatches<'_>, arguments: &[Argument<'a>]) -> Option<&'a str>
+    ensures { option_map (λ id. id.now) result ≡ first_refused arguments.now (matched_rows matches.now) }
+{
+    for argument in arguments {
+        if argument.is_refused(matches) {
+            return Some(argument.id);
+        }
+    }
+    None
+}
+
+// An option with one value, which help does not show.
+fn hidden_option<'a>(alloc: Global, id: &'a str, short: char, help: &'a str) -> Arg<'a>
+    ensures rule { rule_of result ≡ option_rule id.entry.now short }
+    ensures local { result.global ≡ false }
+    ensures help { result.help ≡ Some help.entry }
+{
+    option(alloc, id, short, "VALUE", help).hide(true)
 }
 
 // An option that is on or off.

@@ -2,19 +2,21 @@
 ghost use Rattle.std.specs.Prelude.{◌≡◌, IfOk, option_map};
 ghost use Rattle.std.specs.String.{string_bytes};
 ghost use Rattle.tools_commands.specs.Matches.{matched_rows};
-ghost use Rattle.everyday_words.specs.Requests.{tic_seen};
-ghost use Rattle.everyday_words.specs.TicWords.{source_in, tic_asked};
+ghost use Rattle.everyday_words.specs.Requests.{tic_seen, wanted_of};
+ghost use Rattle.everyday_words.specs.TicWords.{source_asked, source_in, tic_asked};
 
-use crate::commands::CommandLine;
+use crate::commands::{CommandLine, VERSION_IN_PLACE};
+use crate::foreign;
 use crate::matches::{is_on, text};
-use crate::requests::TicRequest;
+use crate::requests::{Request, TicRequest};
 use crate::rules::{Argument, Form};
 use clap::ArgMatches;
 use std::alloc::{AllocError, Global};
 
-/// `ti-tic [-c] [-s] [-x] [-e NAMES] [-o DIR] [FILE|-]`.
+/// `ti-tic [-c] [-s] [-x] [-e NAMES] [-o DIR] [-D] [FILE|-]`.
 pub(crate) const TIC: CommandLine<'static> = CommandLine {
     name: "ti-tic",
+    version: VERSION_IN_PLACE,
     about: "Compile terminfo source into entries, one file for each name.",
     arguments: &[
         Argument {
@@ -43,10 +45,44 @@ pub(crate) const TIC: CommandLine<'static> = CommandLine {
             help: "Write below DIR [default: $TERMINFO, else see below]",
         },
         Argument {
+            id: "directories",
+            form: Form::Flag('D'),
+            help: "Print the directories into which entries may be written",
+        },
+        Argument {
             id: "file",
             form: Form::Operand("FILE"),
             help: "The source, or - [default: standard input]",
         },
+        foreign!(Hidden, "0", '0'),
+        foreign!(Hidden, "1", '1'),
+        foreign!(Hidden, "2", '2'),
+        foreign!(Hidden, "3", '3'),
+        foreign!(Hidden, "4", '4'),
+        foreign!(Hidden, "5", '5'),
+        foreign!(Hidden, "6", '6'),
+        foreign!(Hidden, "7", '7'),
+        foreign!(Hidden, "8", '8'),
+        foreign!(Hidden, "9", '9'),
+        foreign!(Hidden, "f", 'f'),
+        foreign!(Hidden, "G", 'G'),
+        foreign!(Hidden, "g", 'g'),
+        foreign!(Hidden, "K", 'K'),
+        foreign!(Hidden, "N", 'N'),
+        foreign!(Hidden, "Q", 'Q'),
+        foreign!(Hidden, "q", 'q'),
+        foreign!(Hidden, "r", 'r'),
+        foreign!(Hidden, "T", 'T'),
+        foreign!(Hidden, "t", 't'),
+        foreign!(Hidden, "U", 'U'),
+        foreign!(Hidden, "v", 'v'),
+        foreign!(Hidden, "W", 'W'),
+        foreign!(Hidden, "w", 'w'),
+        foreign!(HiddenValue, "R", 'R'),
+        foreign!(Refused, "a", 'a'),
+        foreign!(Refused, "C", 'C'),
+        foreign!(Refused, "I", 'I'),
+        foreign!(Refused, "L", 'L'),
     ],
     notes: "\
 Errors and warnings are printed on standard error, one per line:
@@ -77,12 +113,9 @@ fn source_in(file: Option<String>) -> Option<String>
     }
 }
 
-/// What these matches ask of `ti-tic`.
-///
-/// # Errors
-/// `AllocError` if memory ran out.
-pub(crate) fn tic_request(alloc: Global, matches: &ArgMatches<'_>) -> Result<TicRequest, AllocError>
-    ensures { IfOk result (λ request. tic_seen request ≡ tic_asked (matched_rows matches.now)) }
+// The source that these matches ask to compile.
+fn source_request(alloc: Global, matches: &ArgMatches<'_>) -> Result<TicRequest, AllocError>
+    ensures { IfOk result (λ request. tic_seen request ≡ source_asked (matched_rows matches.now)) }
 {
     let only = text(alloc, matches, "only")?;
     let dir = text(alloc, matches, "dir")?;
@@ -95,4 +128,17 @@ pub(crate) fn tic_request(alloc: Global, matches: &ArgMatches<'_>) -> Result<Tic
         dir,
         file,
     })
+}
+
+/// What these matches ask of `ti-tic`.
+///
+/// # Errors
+/// `AllocError` if memory ran out.
+pub(crate) fn tic_request(alloc: Global, matches: &ArgMatches<'_>) -> Result<Request, AllocError>
+    ensures { IfOk result (λ request. wanted_of request ≡ tic_asked (matched_rows matches.now)) }
+{
+    if is_on(matches, "directories") {
+        return Ok(Request::Outputs(text(alloc, matches, "dir")?));
+    }
+    Ok(Request::Tic(source_request(alloc, matches)?))
 }

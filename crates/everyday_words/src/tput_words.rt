@@ -6,7 +6,7 @@ ghost use Rattle.tools_commands.specs.Matches.{matched_rows};
 ghost use Rattle.everyday_words.specs.TputWords.{tput_asked, tput_with, words_mistake};
 ghost use Rattle.everyday_words.specs.inside.Answers.{Answers};
 
-use crate::commands::CommandLine;
+use crate::commands::{CommandLine, VERSION_IN_PLACE};
 use crate::matches::{is_on, text, texts, value, values};
 use crate::mistakes::NoRequest;
 use crate::requests::{Request, TputRequest};
@@ -21,6 +21,7 @@ const RATE_MAX: u64 = u32::MAX as u64;
 /// `ti-tput [-x] [-T TERM] [--rate N] [-S] [WORD..]`.
 pub(crate) const TPUT: CommandLine<'static> = CommandLine {
     name: "ti-tput",
+    version: VERSION_IN_PLACE,
     about: "Print a capability of a terminal, to set it up or to control it.",
     arguments: &[
         Argument {

@@ -14,8 +14,8 @@ use std::str::from_utf8;
 const ROOM: usize = 512;
 
 /// What the variables are set to that say which terminal there is, how large it is, and where entries
-/// are. Those of the window are set by what is linked to the program in C (window/window.c), which
-/// first removes them.
+/// are. Those of the window and of the modes are set by what is linked to the program in C (window/),
+/// which first removes them.
 #[derive(Drop)]
 pub struct Variables {
     term: Option<Vec<u8>>,
@@ -26,6 +26,7 @@ pub struct Variables {
     lines: Option<Vec<u8>>,
     window_columns: Option<Vec<u8>>,
     window_lines: Option<Vec<u8>>,
+    modes: Option<Vec<u8>>,
 }
 
 impl Variables {
@@ -44,6 +45,7 @@ impl Variables {
             lines: None,
             window_columns: None,
             window_lines: None,
+            modes: None,
         };
         let mut buffer = Vec::new(rt.alloc());
         buffer.resize(ROOM, 0)?;
@@ -78,7 +80,8 @@ impl Variables {
             b"TI_WINDOW_COLUMNS=",
             entry,
         )?;
-        keep(alloc, &mut self.window_lines, b"TI_WINDOW_LINES=", entry)
+        keep(alloc, &mut self.window_lines, b"TI_WINDOW_LINES=", entry)?;
+        keep(alloc, &mut self.modes, b"TI_MODES=", entry)
     }
 
     /// What is said of how many columns there are.
@@ -95,6 +98,11 @@ impl Variables {
             variable: self.lines.as_deref(),
             window: self.window_lines.as_deref(),
         }
+    }
+
+    /// The path of the file that says which modes the line is to have, if they can be set.
+    pub fn modes(&self) -> Option<&str> {
+        text("TI_MODES", &self.modes).unwrap_or(None)
     }
 
     /// The name of the terminal that `TERM` names, if it is set and not empty.

@@ -7,6 +7,7 @@ mod fmt_tool;
 mod infocmp_tool;
 mod lint_tool;
 mod output;
+mod start_files;
 mod stopping;
 mod tic_tool;
 mod tput_tool;
@@ -45,6 +46,7 @@ fn run_request<R: Clock + Env + Files + Input + Print + Eprint + AllocGlobal>(
 ) -> u8 {
     let (tool, done) = match request {
         Request::Tic(request) => (Tool::Tic, tic_tool::run(rt, request)),
+        Request::Outputs(given) => (Tool::Tic, tic_tool::print_outputs(rt, given.as_deref())),
         Request::Infocmp(request) => (Tool::Infocmp, infocmp_tool::run(rt, request)),
         Request::Directories => (Tool::Infocmp, infocmp_tool::print_directories(rt)),
         Request::Tput(request) => (Tool::Tput, tput_tool::run(rt, request)),

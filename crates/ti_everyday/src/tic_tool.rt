@@ -1,5 +1,6 @@
 //! `ti-tic`: compiles a source into entries.
 use crate::environment::Variables;
+use crate::output::print_bytes;
 use crate::stopping::Stop;
 use everyday_directories::{
     Environment, SYSTEM_OUTPUT, entry_directories, named_output, unnamed_output,
@@ -8,10 +9,14 @@ use everyday_entries::Failure;
 use everyday_lint::{Capabilities, hint_lines};
 use everyday_tic::{TicOptions, TicStop};
 use everyday_words::TicRequest;
+use std::fs;
 use std::io::{self, Write};
 use std::rt::{Clock, Env, Files};
 use tools_devices::{Counted, ToolError};
 use tools_disk::{DiskTree, ErrorStream, read_whole, reason, takes_files};
+
+// What is said of a directory for entries that takes no files.
+const NO_PERMISSION: &str = "no permission";
 
 // What standard input is called in the report.
 const STANDARD_INPUT: &str = "<stdin>";
@@ -53,6 +58,62 @@ pub fn run<R: Clock + Env + Files + Input + Eprint + AllocGlobal>(
             Ok(status)
         }
         Err(stop) => Err(stop_of(rt, tree.last_error(), stop)?),
+    }
+}
+
+/// Prints the directories into which entries may be written: the one that they go to, and the user's
+/// own, each if files can be put there. Returns the status of the process.
+///
+/// # Errors
+/// Why it stopped; that the first takes no files, after what is printed (tic(1)).
+pub fn print_outputs<R: Clock + Env + Files + Print + AllocGlobal>(
+    rt: &R,
+    given: Option<&str>,
+) -> Result<u8, Stop> {
+    let variables = Variables::read(rt)?;
+    let environment = variables.environment()?;
+    let named = named_output(given, &environment);
+    let own = unnamed_output(rt.alloc(), &environment, false)?;
+    let first = named.unwrap_or(SYSTEM_OUTPUT);
+    let takes_first = print_output(rt, first)?;
+    let takes_own = own.as_str() == SYSTEM_OUTPUT || print_output(rt, own.as_str())?;
+    let refused = if !takes_own && named.is_none() {
+        own.as_str()
+    } else if !takes_first {
+        first
+    } else {
+        return Ok(0);
+    };
+    let path = String::from_str(rt.alloc(), refused)?;
+    let reason = String::from_str(rt.alloc(), NO_PERMISSION)?;
+    Err(Stop::Failed(Failure::Unwritable(path), reason))
+}
+
+// Prints a directory, if entries can be put there: it takes files, or it is missing and the one
+// above it does.
+fn print_output<R: Clock + Files + Print + AllocGlobal>(
+    rt: &R,
+    directory: &str,
+) -> Result<bool, Stop> {
+    let takes = takes_files(rt, directory)
+        || (is_missing(rt, directory) && above_takes(rt, directory));
+    if takes {
+        let line = format!(in rt.alloc(); "{directory}\n")?;
+        print_bytes(rt, line.as_bytes())?;
+    }
+    Ok(takes)
+}
+
+// Whether nothing has that path.
+fn is_missing<R: Files + AllocGlobal>(rt: &R, path: &str) -> bool {
+    fs::metadata(rt, path).is_err()
+}
+
+// Whether the directory above takes files.
+fn above_takes<R: Clock + Files + AllocGlobal>(rt: &R, directory: &str) -> bool {
+    match directory.rsplit_once('/') {
+        Some((above, _)) => takes_files(rt, above),
+        None => false,
     }
 }
 

@@ -2,17 +2,24 @@
 use crate::environment::Variables;
 use crate::infocmp_tool::stop_of;
 use crate::output::print_bytes;
+use crate::start_files::StartContent;
 use crate::stopping::Stop;
 use everyday_directories::read;
 use everyday_entries::{Failure, Found, Tool, capability_line, named_file};
-use everyday_tput::{BAD_COMMAND, Entry, Target, needs_extension, tput, tput_lines};
+use everyday_tput::{BAD_COMMAND, Entry, Target, modes_asked, needs_extension, tput, tput_lines};
 use everyday_words::TputRequest;
+use std::fs;
 use std::io::{self, Write};
 use std::rt::{Clock, Env, Files};
-use ti_caps::find;
+use ti_caps::{Kind, find};
 use tools_devices::{Counted, ToolError};
 use tools_disk::{DiskTree, ErrorStream};
 use user_extension::ExtensionError;
+
+// The names that may ask for a file.
+const INIT: &[u8] = b"init";
+
+const RESET: &[u8] = b"reset";
 
 /// Writes to standard output what the words ask of a terminal, or what each line of standard input
 /// asks. The terminal is that of the request, else that of `TERM`. Returns the status of the
@@ -28,18 +35,89 @@ pub fn run<R: Clock + Env + Files + Input + Print + Eprint + AllocGlobal>(
     let name = terminal_name(&variables, request.term.as_deref())?;
     let file = entry_file(rt, &variables, name)?;
     let words = words(rt, request)?;
+    let entry = entry(rt, &file, request, words.as_slice())?;
+    say_program(rt, &entry, words.as_slice());
+    let init = start_content(rt, request, words.as_slice(), false, &entry)?;
+    let reset = start_content(rt, request, words.as_slice(), true, &entry)?;
     let target = Target {
-        entry: entry(rt, &file, request, words.as_slice())?,
+        entry,
         is_named: request.term.is_some(),
         columns: variables.columns(),
         lines: variables.lines(),
         rate: request.rate,
+        init_file: init.file(),
+        reset_file: reset.file(),
         keeps_scrollback: request.keeps_scrollback,
     };
     if request.lines {
         return write_lines(rt, &target);
     }
-    write_commands(rt, &target, words.as_slice())
+    let status = write_commands(rt, &target, words.as_slice(), &init, &reset)?;
+    if status <= BAD_COMMAND {
+        ask_modes(rt, &variables, &target, words.as_slice());
+    }
+    Ok(status)
+}
+
+// The file that an entry names for its initialization or its reset, which is read only if words may
+// ask for it.
+fn start_content<R: Files + Input + AllocGlobal>(
+    rt: &R,
+    request: &TputRequest,
+    words: &[&[u8]],
+    is_reset: bool,
+    entry: &Entry<'_>,
+) -> Result<StartContent, Stop> {
+    let name: &[u8] = if is_reset { RESET } else { INIT };
+    if request.lines || has_word(words, name) {
+        return StartContent::read(rt, is_reset, entry);
+    }
+    Ok(StartContent::none(rt))
+}
+
+// Says on standard error that the program is not run that an entry names for its initialization.
+fn say_program<R: Eprint + AllocGlobal>(rt: &R, entry: &Entry<'_>, words: &[&[u8]]) {
+    if !has_word(words, INIT) && !has_word(words, RESET) {
+        return;
+    }
+    if names_program(entry) {
+        let name = Tool::Tput.name();
+        let _ = eprintln!(rt; "{name}: the program of iprog is not run");
+    }
+}
+
+// Whether an entry names a program for its initialization.
+fn names_program(entry: &Entry<'_>) -> bool {
+    match find(b"iprog") {
+        Some(program) if program.kind() == Kind::Text => entry.view.text(program).is_some(),
+        _ => false,
+    }
+}
+
+// Whether one of the words is this.
+fn has_word(words: &[&[u8]], name: &[u8]) -> bool {
+    for word in words {
+        if *word == name {
+            return true;
+        }
+    }
+    false
+}
+
+// Says which modes the line is to have where what sets them reads it, if it does. Without it they stay
+// as they are, and so they do if the file of `init` or `reset` cannot be read.
+fn ask_modes<R: Files + AllocGlobal>(
+    rt: &R,
+    variables: &Variables,
+    target: &Target<'_>,
+    words: &[&[u8]],
+) {
+    let Some(asked) = modes_asked(&target.entry.view, words) else {
+        return;
+    };
+    if let Some(path) = variables.modes() {
+        let _ = fs::write(rt, path, asked.as_slice());
+    }
 }
 
 // The words of the command as bytes.
@@ -137,6 +215,8 @@ fn write_commands<R: Print + Eprint + AllocGlobal>(
     rt: &R,
     target: &Target<'_>,
     words: &[&[u8]],
+    init: &StartContent,
+    reset: &StartContent,
 ) -> Result<u8, Stop> {
     let ending = match tput(rt.alloc(), target, words) {
         Ok(ending) => ending,
@@ -148,8 +228,23 @@ fn write_commands<R: Print + Eprint + AllocGlobal>(
     };
     if stop.status == BAD_COMMAND {
         say_capability(rt, &target.entry, stop.name);
+    } else if stop.name == INIT {
+        say_file(rt, init)?;
+    } else if stop.name == RESET {
+        say_file(rt, reset)?;
     }
     Ok(stop.status)
+}
+
+// Says on standard error that a file cannot be read, and why.
+fn say_file<R: Eprint + AllocGlobal>(rt: &R, content: &StartContent) -> Result<(), Stop> {
+    if let Some(line) = content.line(rt)? {
+        let mut error = ErrorStream::new(rt);
+        let _ = error.write_all(Tool::Tput.name().as_bytes());
+        let _ = error.write_all(b": ");
+        let _ = error.write_all(line.as_slice());
+    }
+    Ok(())
 }
 
 // Says on standard error that a capability is unknown, or that its string is bad.
@@ -162,8 +257,5 @@ fn say_capability<R: Eprint + AllocGlobal>(rt: &R, entry: &Entry<'_>, name: &[u8
 
 // Whether `ti-tput` knows a name, so that its string is bad.
 fn is_known(entry: &Entry<'_>, name: &[u8]) -> bool {
-    find(name).is_some()
-        || name == b"init".as_slice()
-        || name == b"reset".as_slice()
-        || entry.extension.get(name).is_some()
+    find(name).is_some() || name == INIT || name == RESET || entry.extension.get(name).is_some()
 }
