@@ -145,23 +145,26 @@ loses_unknown block after ordinal text had changes is = record {
   had = had;
   gone = λ e. code_of_refused is.verdict code.UnknownCapability ((changes.reads is.verdict is.is_read).fault code.UnknownCapability e) is.known (λ same. cc);
   changes = changes;
-  mended = is;
-}
-
-pub loses_kind : (block after : List ℕ) (ordinal : ℕ) (text : List ℕ) → fault_at block ordinal ≡ Some code.WrongKind
-    → OneItemChanges block after ordinal text → IsOfCapability text
-    → LosesFault block after ordinal
-loses_kind block after ordinal text had changes is = record {
-  code = code.WrongKind;
-  text = text;
-  had = had;
-  gone = λ e. code_of_refused is.verdict code.WrongKind ((changes.reads is.verdict is.is_read).fault code.WrongKind e) is.of_kind (λ same. cc);
-  changes = changes;
-  mended = is;
+  fixed = is;
 }
 
 accepted_not : (verdict : Verdict) (said : Said) (c : Code) → said_by verdict ≡ Some said → verdict ≢ refused c
 accepted_not verdict said c accepts e = let no = ap said_by e in cc
+
+pub loses_kind : (block after : List ℕ) (ordinal : ℕ) (text : List ℕ) → fault_at block ordinal ≡ Some code.WrongKind
+    → OneItemChanges block after ordinal text → IsAccepted text
+    → LosesFault block after ordinal
+loses_kind block after ordinal text had changes is =
+    let read = changes.reads is.verdict is.is_read in
+    record {
+      code = code.WrongKind;
+      text = text;
+      had = had;
+      gone = λ e. code_of_refused is.verdict code.WrongKind (read.fault code.WrongKind e) (accepted_not is.verdict is.said code.WrongKind is.accepts)
+          (λ same. cc);
+      changes = changes;
+      fixed = (is.said, read.says ∙ is.accepts);
+    }
 
 pub loses_caret : (block after : List ℕ) (ordinal : ℕ) (text : List ℕ) → fault_at block ordinal ≡ Some code.BadString
     → OneItemChanges block after ordinal text → IsAccepted text
@@ -175,7 +178,7 @@ loses_caret block after ordinal text had changes is =
       gone = λ e. code_of_refused is.verdict code.BadString (read.fault code.BadString e) (accepted_not is.verdict is.said code.BadString is.accepts)
           (λ same. cc);
       changes = changes;
-      mended = (is.said, read.says ∙ is.accepts);
+      fixed = (is.said, read.says ∙ is.accepts);
     }
 
 -- an item that is accepted as it is has no fault
@@ -200,5 +203,5 @@ loses_escape block after ordinal text said had says changes is =
       had = had;
       gone = λ e. let no = sym now.1 ∙ e in cc;
       changes = changes;
-      mended = (now.0 ∙ sym says, now.1);
+      fixed = (now.0 ∙ sym says, now.1);
     }

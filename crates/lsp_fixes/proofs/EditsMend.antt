@@ -147,19 +147,19 @@ by_use well blocks at ordinal item edit (Some name) all single there is has =
       | inl t ↦
           let put = given_at blocks at name edit (rw t at has) in
           let now = uses_mend block ordinal item name edit single there is put.there put.given in
-          let mended = now.0 in (
+          let fixed = now.0 in (
             record {
               name = bytes name;
               other = edit.text;
               place = owned.0;
-              text = mended.text;
-              used = mended.used;
+              text = fixed.text;
+              used = fixed.used;
               missing = none_owns (owner (readings blocks) (bytes name)) t;
-              changes = mended.changes;
-              uses = mended.uses;
-              sound = mended.sound;
+              changes = fixed.changes;
+              uses = fixed.uses;
+              sound = fixed.sound;
               owned = owned.1;
-              leads = owner_kept blocks at (block_after block edit) edit.text mended.changes.head ∙ owned.1;
+              leads = owner_kept blocks at (block_after block edit) edit.text fixed.changes.head ∙ owned.1;
               apart = owned.2;
             },
             now.1,
@@ -183,12 +183,12 @@ edits_fit sound writes well blocks at ordinal item edit all within are there has
     elim (Contains-append_cases (edits_for item (fault_at block ordinal) (value_at ordinal (reading_of_text block).items))
     (used_edits blocks at (used_name item) ++ user_renames item) edit has) [
       | inl first ↦
-          let mended = by_code sound writes block ordinal item edit (fault_at block ordinal) single are there refl first in (inl mended.0, mended.1, mended.2)
+          let fixed = by_code sound writes block ordinal item edit (fault_at block ordinal) single are there refl first in (inl fixed.0, fixed.1, fixed.2)
       | inr second ↦
           elim (Contains-append_cases (used_edits blocks at (used_name item)) (user_renames item) edit second) [
             | inl used ↦
-                let mended = by_use well blocks at ordinal item edit (used_name item) all single there refl used in (inr (inl mended.0), mended.1, mended.2)
-            | inr renamed ↦ let mended = user_names_mend block ordinal item edit single there renamed in (inr (inr mended.0), mended.1, mended.2)
+                let fixed = by_use well blocks at ordinal item edit (used_name item) all single there refl used in (inr (inl fixed.0), fixed.1, fixed.2)
+            | inr renamed ↦ let fixed = user_names_mend block ordinal item edit single there renamed in (inr (inr fixed.0), fixed.1, fixed.2)
           ]
     ]
 

@@ -1,7 +1,6 @@
 -- What each edit that is offered for an item exchanges: one byte of the item, or a part of it for a
 -- text that keeps the item one; and its new text prints.
-use Rattle.std.proofs.Common.{◌≡◌, ◌⊎◌, ℕ, suc, ◌&&◌, Contains, List, [], ◌∷◌, ◌++◌, Option, None, Some, codes, nat_le, not, inl, inr, refl, sym, ap, ap₂, subst, ◌∙◌}
-use Rattle.std.specs.List.{list_all}
+use Rattle.std.proofs.Common.{◌≡◌, ◌⊎◌, ℕ, suc, ◌&&◌, Contains, List, [], ◌∷◌, ◌++◌, Option, None, Some, codes, nat_le, inl, inr, refl, ap₂, subst}
 use Rattle.std.proofs.lemmas.Bool.{cases_Bool}
 use Rattle.ti_caps.specs.declared.capability.Kind.{Kind}
 use Rattle.ti_caps.specs.declared.capability.Kind.TheVariants.{Flag, Number, Text}
@@ -10,7 +9,8 @@ use Rattle.ti_text.specs.Texts.{is_empty}
 use Rattle.ti_source.specs.Folding.{PlacedByte}
 use Rattle.lsp_spans.specs.Replacing.{Replaces}
 use Rattle.lsp_spans.specs.declared.parts.Part.{Part}
-use Rattle.lsp_fixes.specs.Edits.{EditSeen, advises_sign, advises_spelling, is_digit, sign_at, sign_for, spelling_in}
+use Rattle.lsp_fixes.specs.Carets.{can_be_read}
+use Rattle.lsp_fixes.specs.Edits.{EditSeen, advises_sign, advises_spelling, is_number, sign_at, sign_for, spelling_in}
 use Rattle.lsp_fixes.specs.Shown.{shown, shown_byte}
 use Rattle.lsp_fixes.proofs.Exchanging.{no_edit, only_edit}
 
@@ -56,23 +56,27 @@ of_sign kind text name rest item mark edit whole printed same =
     subst (Fits item) same
     (record { printed = printed; how = inl (record { front = name; byte = mark; back = rest; whole = whole; there = refl }) })
 
-pub sign_fits : (kind : Kind) (value : List ℕ) (name rest item : List PlacedByte) (mark : PlacedByte) (edit : EditSeen) → item ≡ name ++ mark ∷ rest
-    → Contains (sign_at kind mark.1 (sign_for kind value)) edit → Fits item edit
-sign_fits Flag value name rest item mark edit whole has =
+pub sign_fits : (kind : Kind) (value raw : List ℕ) (name rest item : List PlacedByte) (mark : PlacedByte) (edit : EditSeen) → item ≡ name ++ mark ∷ rest
+    → Contains (sign_at kind mark.1 (sign_for kind value raw)) edit → Fits item edit
+sign_fits Flag value raw name rest item mark edit whole has =
     let one : EditSeen = record { advice = advises_sign Flag; part = record { start = mark.1; end = suc mark.1 }; text = [] } in
     elim (cases_Bool (is_empty value)) [
       | inr f ↦ absurd (no_edit edit (rw f at has))
       | inl t ↦ of_sign Flag [] name rest item mark edit whole refl (only_edit one edit (rw t at has))
     ]
-sign_fits Number value name rest item mark edit whole has =
+sign_fits Number value raw name rest item mark edit whole has =
     let one : EditSeen = record { advice = advises_sign Number; part = record { start = mark.1; end = suc mark.1 }; text = codes "#" } in
-    elim (cases_Bool (not (is_empty value) && list_all is_digit value)) [
+    elim (cases_Bool (is_number value)) [
       | inr f ↦ absurd (no_edit edit (rw f at has))
       | inl t ↦ of_sign Number (codes "#") name rest item mark edit whole refl (only_edit one edit (rw t at has))
     ]
-sign_fits Text value name rest item mark edit whole has =
+sign_fits Text value raw name rest item mark edit whole has =
     let one : EditSeen = record { advice = advises_sign Text; part = record { start = mark.1; end = suc mark.1 }; text = codes "=" } in
     elim (cases_Bool (is_empty value)) [
       | inl t ↦ absurd (no_edit edit (rw t at has))
-      | inr f ↦ of_sign Text (codes "=") name rest item mark edit whole refl (only_edit one edit (rw f at has))
+      | inr f ↦
+          elim (cases_Bool (can_be_read raw)) [
+            | inr bad ↦ absurd (no_edit edit (rw (f, bad) at has))
+            | inl can ↦ of_sign Text (codes "=") name rest item mark edit whole refl (only_edit one edit (rw (f, can) at has))
+          ]
     ]

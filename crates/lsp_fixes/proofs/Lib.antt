@@ -31,6 +31,7 @@ pub mod SpellingsHeal
 pub mod SpellingsRead
 pub mod Staying
 pub mod TakenOut
+pub mod Together
 pub mod UserNamesMend
 pub mod UsesMend
 pub mod Verdicts

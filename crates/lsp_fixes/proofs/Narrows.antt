@@ -1,20 +1,18 @@
 -- An edit without the bytes that it leaves as they are heals its item as the whole edit does.
-use Rattle.std.proofs.Common.{◌≡◌, ◌≢◌, ◌<◌, ◌≤◌, ℕ, suc, ◌&&◌, All, true, false, List, [], ◌∷◌, ◌++◌, drop, filter, length, nat_le, nat_lt, Option, None, Some, slice_get, slice_set, take}
-use Rattle.std.proofs.Common.{inl, inr, refl, sym, ap, ap₂, subst, ◌∙◌, arith}
+use Rattle.std.proofs.Common.{◌≡◌, ℕ, suc, List, [], ◌∷◌, ◌++◌, drop, Option, None, Some, slice_get, take}
+use Rattle.std.proofs.Common.{inl, inr, refl, sym, ap, ap₂, subst, ◌∙◌}
 use Rattle.std.specs.Option.{option_and_then}
 use Rattle.std.proofs.lemmas.List.{drop-map, take-map}
 use Rattle.std.proofs.lemmas.Option.{slice_get-map}
 use Rattle.ti_source.specs.Cutting.{OneBlock}
 use Rattle.ti_source.specs.Folding.{PlacedByte}
 use Rattle.ti_source.specs.Items.{without_front}
-use Rattle.ti_source.specs.Reading.{Said}
 use Rattle.ti_source.specs.Verdicts.{said_by}
 use Rattle.ti_source.specs.declared.code.Code.{Code}
 use Rattle.ti_source.specs.declared.code.Code.TheVariants as code
-use Rattle.base_meaning.specs.Owner.{owner, readings}
 use Rattle.lsp_spans.specs.Folding.{folded_of}
 use Rattle.lsp_spans.specs.Parts.{end_of, field_of, items_after, rest_of, spanned}
-use Rattle.lsp_spans.specs.Replacing.{Replaces, exchanged, fault_at, item_texts, said_at}
+use Rattle.lsp_spans.specs.Replacing.{Replaces, fault_at, item_texts, said_at}
 use Rattle.lsp_spans.specs.Subjects.{head_text, items_of}
 use Rattle.lsp_spans.specs.declared.parts.Part.{Part}
 use Rattle.lsp_spans.proofs.Exchanging.{found_raw, one_replaced, placed_at, regroup}
@@ -22,7 +20,7 @@ use Rattle.lsp_spans.proofs.Recutting.{front_split}
 use Rattle.lsp_spans.proofs.Rereading.{fault_by, fault_is, said_is, verdict_in}
 use Rattle.lsp_document.specs.Diagnostics.{text_at}
 use Rattle.lsp_fixes.specs.Edits.{EditSeen}
-use Rattle.lsp_fixes.specs.Healing.{GetsKnownName, GetsOwner, Heals, IsMended, LosesFault, OneItemChanges, Stays, block_after}
+use Rattle.lsp_fixes.specs.Healing.{Heals, IsFixed, OneItemChanges, Stays, block_after}
 use Rattle.lsp_fixes.specs.Laws.{IsInOrder}
 use Rattle.lsp_fixes.specs.Narrowing.{bytes_in, edit_at, narrowed, without_same}
 use Rattle.lsp_fixes.specs.Shown.{shown, shown_byte}
@@ -32,7 +30,7 @@ use Rattle.lsp_fixes.proofs.Fitting.{Fits, IsOne}
 use Rattle.lsp_fixes.proofs.InOrder.{folded_in_order}
 use Rattle.lsp_fixes.proofs.ItemParts.{replaced_part}
 use Rattle.lsp_fixes.proofs.NamesKept.{owner_kept}
-use Rattle.lsp_fixes.proofs.Shrinking.{IsNarrowed, narrowed_replaces, one_same}
+use Rattle.lsp_fixes.proofs.Shrinking.{narrowed_replaces, one_same}
 
 -- ---- a part of an item in its block
 
@@ -82,22 +80,22 @@ fault_alike : (one other : List ℕ) (at : ℕ) → item_texts other ≡ item_te
 fault_alike one other at same =
     fault_is other at ∙ ap (λ (l : List (List ℕ)). option_and_then fault_by (option_and_then verdict_in (slice_get l at))) same ∙ sym (fault_is one at)
 
-mended_alike : (c : Code) (block one other : List ℕ) (ordinal : ℕ) (text : List ℕ) → item_texts other ≡ item_texts one
-    → IsMended c block one ordinal text → IsMended c block other ordinal text
-mended_alike code.UnknownCapability block one other ordinal text same is = is
-mended_alike code.WrongKind block one other ordinal text same is = is
-mended_alike code.UnknownEscape block one other ordinal text same is =
+fixed_alike : (c : Code) (block one other : List ℕ) (ordinal : ℕ) (text : List ℕ) → item_texts other ≡ item_texts one
+    → IsFixed c block one ordinal text → IsFixed c block other ordinal text
+fixed_alike code.UnknownCapability block one other ordinal text same is = is
+fixed_alike code.WrongKind block one other ordinal text same is = (is.0, said_alike one other ordinal same ∙ is.1)
+fixed_alike code.UnknownEscape block one other ordinal text same is =
     (said_alike one other ordinal same ∙ is.0, fault_alike one other ordinal same ∙ is.1)
-mended_alike code.BadString block one other ordinal text same is = (is.0, said_alike one other ordinal same ∙ is.1)
-mended_alike code.BadHeader block one other ordinal text same is = absurd is
-mended_alike code.NamesTooLong block one other ordinal text same is = absurd is
-mended_alike code.BadNumber block one other ordinal text same is = absurd is
-mended_alike code.NumberTooLarge block one other ordinal text same is = absurd is
-mended_alike code.MissingUse block one other ordinal text same is = absurd is
-mended_alike code.Circular block one other ordinal text same is = absurd is
-mended_alike code.Unresolved block one other ordinal text same is = absurd is
-mended_alike code.TooLarge block one other ordinal text same is = absurd is
-mended_alike code.DuplicateName block one other ordinal text same is = absurd is
+fixed_alike code.BadString block one other ordinal text same is = (is.0, said_alike one other ordinal same ∙ is.1)
+fixed_alike code.BadHeader block one other ordinal text same is = absurd is
+fixed_alike code.NamesTooLong block one other ordinal text same is = absurd is
+fixed_alike code.BadNumber block one other ordinal text same is = absurd is
+fixed_alike code.NumberTooLarge block one other ordinal text same is = absurd is
+fixed_alike code.MissingUse block one other ordinal text same is = absurd is
+fixed_alike code.Circular block one other ordinal text same is = absurd is
+fixed_alike code.Unresolved block one other ordinal text same is = absurd is
+fixed_alike code.TooLarge block one other ordinal text same is = absurd is
+fixed_alike code.DuplicateName block one other ordinal text same is = absurd is
 
 -- one of them heals an item as the other does
 module _ (blocks : List (List ℕ)) (at ordinal : ℕ) (item : List PlacedByte) (one other : List ℕ)
@@ -115,7 +113,7 @@ module _ (blocks : List (List ℕ)) (at ordinal : ℕ) (item : List PlacedByte) 
           had = loses.had;
           gone = λ e. loses.gone (sym (fault_alike one other ordinal same) ∙ e);
           changes = changes_alike loses.text loses.changes;
-          mended = mended_alike loses.code (text_at blocks at) one other ordinal loses.text same loses.mended;
+          fixed = fixed_alike loses.code (text_at blocks at) one other ordinal loses.text same loses.fixed;
         })
         | inr more ↦
             inr

@@ -1,10 +1,12 @@
 -- An item of the wrong kind, with the sign of the right one.
-use Rattle.std.proofs.Common.{◌≡◌, ◌≢◌, ℕ, append_assoc, suc, ◌==◌, ◌&&◌, not, true, false, Contains, List, [], ◌∷◌, ◌++◌, Option, None, Some, codes, refl}
+use Rattle.std.proofs.Common.{◌≡◌, ◌≢◌, ℕ, append_assoc, is_ok, suc, ◌==◌, true, false, Contains, List, [], ◌∷◌, ◌++◌, Option, None, Some, codes, refl}
 use Rattle.std.proofs.Common.{sym, ap, subst, inl, inr, ◌∙◌}
 use Rattle.std.specs.List.{list_all}
 use Rattle.std.specs.Option.{option_map_or}
-use Rattle.std.proofs.lemmas.Bool.{cases_Bool}
+use Rattle.std.proofs.lemmas.Bool.{and_parts, cases_Bool}
 use Rattle.ti_text.specs.Texts.{is_empty, last_byte}
+use Rattle.ti_text.specs.WhiteSpace.{is_white_space}
+use Rattle.ti_spelling.specs.inside.Numbers.{number_read, value_read, within_limit}
 use Rattle.ti_caps.specs.Tables.{Capability, capability_named}
 use Rattle.ti_caps.specs.declared.capability.Kind.{Kind}
 use Rattle.ti_caps.specs.declared.capability.Kind.TheVariants.{Flag, Number, Text}
@@ -17,13 +19,14 @@ use Rattle.ti_source.specs.inside.Verdicts.{verdict_of}
 use Rattle.ti_spelling.specs.WhiteSpace.{without_trailing_space}
 use Rattle.ti_source.proofs.JudgingLaws.{one_verdict}
 use Rattle.lsp_spans.specs.Subjects.{without_end}
-use Rattle.lsp_fixes.specs.Edits.{EditSeen, advises_sign, is_digit, kind_signs, sign_at, sign_for, signs}
-use Rattle.lsp_fixes.specs.Laws.{IsInOrder, IsOfCapability, IsRead, SignsFitTheKind, edited}
-use Rattle.lsp_fixes.specs.Pieces.{written_name}
+use Rattle.lsp_fixes.specs.Carets.{can_be_read}
+use Rattle.lsp_fixes.specs.Edits.{EditSeen, advises_sign, is_digit, is_number, kind_signs, sign_at, sign_for, signs}
+use Rattle.lsp_fixes.specs.Laws.{IsAccepted, IsInOrder, IsRead, SignsFitTheKind, edited}
+use Rattle.lsp_fixes.specs.Pieces.{value_of, written_name}
 use Rattle.lsp_fixes.proofs.Exchanging.{edited_cut, no_edit, one_byte, only_edit}
-use Rattle.lsp_fixes.proofs.Marks.{MarkSays, bytes_cut, empty_end, end_bytes, has_mark, has_none, mark_enabled, mark_says, name_cut, no_mark_left}
+use Rattle.lsp_fixes.proofs.Marks.{MarkSays, bytes_cut, empty_end, end_bytes, has_mark, has_none, mark_enabled, mark_says, name_cut, no_mark_left, value_cut}
 use Rattle.lsp_fixes.proofs.Marks.{plain_name, rest_cut}
-use Rattle.lsp_fixes.proofs.Readings.{flag_read, number_read, text_read}
+use Rattle.lsp_fixes.proofs.Readings.{flag_accepted, number_accepted, text_accepted}
 use Rattle.lsp_fixes.proofs.Verdicts.{cancel_fits, flag_ends, read_states}
 
 -- ---- an item with a mark
@@ -40,30 +43,66 @@ sign_in kind name value mark text edit order has =
     ap (edited (name ++ mark ∷ value)) (sym (only_edit one edit has)) ∙ edited_cut one name (mark ∷ []) value (one_byte name mark value order)
     ∙ append_assoc (bytes name) text (bytes value)
 
+white_again : (text : List ℕ) → list_all is_white_space (without_trailing_space text) ≡ true → list_all is_white_space text ≡ true
+white_again [] e = refl
+white_again (y ∷ ys) e =
+    elim (cases_Bool (list_all is_white_space (y ∷ ys))) [
+      | inl all ↦ all
+      | inr some ↦ let both = and_parts (is_white_space y) (list_all is_white_space (without_trailing_space ys)) (rw some at e) in rw both.0 (white_again ys both.1)
+    ]
+
+not_white : (x : ℕ) (xs rest : List ℕ) → (list_all is_white_space rest ≡ true → list_all is_white_space xs ≡ true)
+    → list_all is_white_space (x ∷ xs) ≡ false → without_trailing_space rest ≡ rest → without_trailing_space (x ∷ rest) ≡ x ∷ rest
+not_white x xs rest again some same =
+    elim (cases_Bool (list_all is_white_space (x ∷ rest))) [
+      | inl all ↦ let both = and_parts (is_white_space x) (list_all is_white_space rest) all in let white = again both.1 in let no = rw (both.0, white) at some in absurd cc
+      | inr f ↦ rw f (ap (λ (t : List ℕ). x ∷ t) same)
+    ]
+
+-- the white space at its end does not count in a number
+twice : (text : List ℕ) → without_trailing_space (without_trailing_space text) ≡ without_trailing_space text
+twice [] = refl
+twice (x ∷ xs) =
+    elim (cases_Bool (list_all is_white_space (x ∷ xs))) [
+      | inl all ↦ rw all refl
+      | inr some ↦ rw some (not_white x xs (without_trailing_space xs) (white_again xs) some (twice xs))
+    ]
+
+pub number_ends : (value : List PlacedByte) → is_ok (number_read (bytes (without_end value))) ≡ true → is_ok (number_read (bytes value)) ≡ true
+number_ends value ok =
+    ap (λ (t : List ℕ). is_ok (within_limit (value_read t)))
+    (sym (twice (bytes value)) ∙ ap without_trailing_space (sym (end_bytes value))) ∙ ok
+
 -- the sign of each kind
 signed : (kind : Kind) (name value : List PlacedByte) (mark : PlacedByte) (c : Capability) (edit : EditSeen) → HasNoMark (bytes name)
     → IsInOrder (name ++ mark ∷ value)
     → IsEnabled (bytes name ++ mark.0 ∷ bytes value) → capability_named (bytes name) ≡ Some c → c.kind ≡ kind
-    → Contains (sign_at kind mark.1 (sign_for kind (bytes (without_end value)))) edit → IsOfCapability (edited (name ++ mark ∷ value) edit)
+    → Contains (sign_at kind mark.1 (sign_for kind (bytes (without_end value)) (bytes value))) edit → IsAccepted (edited (name ++ mark ∷ value) edit)
 signed Flag name value mark c edit none order on named is has =
     elim (cases_Bool (is_empty (bytes (without_end value)))) [
-      | inl t ↦ subst IsOfCapability (sym (sign_in Flag name value mark [] edit order (rw t at has)))
-          (flag_read (bytes name) (bytes value) c none (empty_end value t)
+      | inl t ↦ subst IsAccepted (sym (sign_in Flag name value mark [] edit order (rw t at has)))
+          (flag_accepted (bytes name) (bytes value) c none (empty_end value t)
           (front_enabled (bytes name) (mark.0 ∷ bytes value) (bytes value) (λ e. (flag_ends (bytes name) c named is).1 (ap (last_byte 64) e)) on) named is)
       | inr f ↦ absurd (no_edit edit (rw f at has))
     ]
 signed Number name value mark c edit none order on named is has =
     let written = bytes (without_end value) in
-    elim (cases_Bool (not (is_empty written) && list_all is_digit written)) [
-      | inl t ↦ subst IsOfCapability (sym (sign_in Number name value mark (codes "#") edit order (rw t at has)))
-          (number_read (bytes name) (bytes value) c none (mark_enabled (bytes name) (mark.0 ∷ bytes value) (bytes value) 35 refl on) named is)
+    elim (cases_Bool (is_number written)) [
+      | inl t ↦ subst IsAccepted (sym (sign_in Number name value mark (codes "#") edit order (rw t at has)))
+          (number_accepted (bytes name) (bytes value) c none (mark_enabled (bytes name) (mark.0 ∷ bytes value) (bytes value) 35 refl on) named is
+          (number_ends value (and_parts (list_all is_digit written) (is_ok (number_read written)) t).1))
       | inr f ↦ absurd (no_edit edit (rw f at has))
     ]
 signed Text name value mark c edit none order on named is has =
     elim (cases_Bool (is_empty (bytes (without_end value)))) [
       | inl t ↦ absurd (no_edit edit (rw t at has))
-      | inr f ↦ subst IsOfCapability (sym (sign_in Text name value mark (codes "=") edit order (rw f at has)))
-          (text_read (bytes name) (bytes value) c none (mark_enabled (bytes name) (mark.0 ∷ bytes value) (bytes value) 61 refl on) named is)
+      | inr f ↦
+          elim (cases_Bool (can_be_read (bytes value))) [
+            | inr bad ↦ absurd (no_edit edit (rw (f, bad) at has))
+            | inl can ↦
+                subst IsAccepted (sym (sign_in Text name value mark (codes "=") edit order (rw (f, can) at has)))
+                (text_accepted (bytes name) (bytes value) c none (mark_enabled (bytes name) (mark.0 ∷ bytes value) (bytes value) 61 refl on) named is can)
+          ]
     ]
 
 -- an item of a capability with a sign that is offered for its own
@@ -77,20 +116,21 @@ pub record IsSigned (item : List PlacedByte) (edit : EditSeen) : Type 0 where
   pub is : is_mark mark.0 ≡ true
   pub on : IsEnabled (bytes name ++ mark.0 ∷ bytes value)
   pub named : capability_named (bytes name) ≡ Some capability
-  pub has : Contains (sign_at capability.kind mark.1 (sign_for capability.kind (bytes (without_end value)))) edit
+  pub has : Contains (sign_at capability.kind mark.1 (sign_for capability.kind (bytes (without_end value)) (bytes value))) edit
 
 by_name : (name value : List PlacedByte) (mark : PlacedByte) (edit : EditSeen) (o : Option Capability) → HasNoMark (bytes name) → is_mark mark.0 ≡ true
     → IsEnabled (bytes name ++ mark.0 ∷ bytes value) → capability_named (bytes name) ≡ o
-    → Contains (option_map_or (λ (c : Capability). signs c.kind (mark ∷ without_end value)) o []) edit → IsSigned (name ++ mark ∷ value) edit
+    → Contains (option_map_or (λ (c : Capability). signs c.kind (mark ∷ without_end value) value) o []) edit → IsSigned (name ++ mark ∷ value) edit
 by_name name value mark edit None none is on named has = absurd (no_edit edit has)
 by_name name value mark edit (Some c) none is on named has =
     record { name = name; value = value; mark = mark; capability = c; whole = refl; none = none; is = is; on = on; named = named; has = has }
 
 -- ---- an item with none
 
-nothing_signed : (edit : EditSeen) (o : Option Capability) → Contains (option_map_or (λ (c : Capability). signs c.kind []) o []) edit → ⊥
-nothing_signed edit None has = no_edit edit has
-nothing_signed edit (Some c) has = no_edit edit has
+nothing_signed : (raw : List PlacedByte) (edit : EditSeen) (o : Option Capability) → Contains (option_map_or (λ (c : Capability). signs c.kind [] raw) o []) edit
+    → ⊥
+nothing_signed raw edit None has = no_edit edit has
+nothing_signed raw edit (Some c) has = no_edit edit has
 
 cancelled : (text : List ℕ) → (last_byte 0 text == 64) ≡ true → verdict_of (plain_statement text).name (plain_statement text).claim ≡ refused code.WrongKind → ⊥
 cancelled text at e = cancel_fits (without_last text) (rw at at e)
@@ -102,12 +142,13 @@ by_marks : (item : List PlacedByte) (edit : EditSeen) → MarkSays item → IsRe
 by_marks _ edit (has_mark name value mark none is) read has =
     let on : IsEnabled (bytes name ++ mark.0 ∷ bytes value) =
     subst IsEnabled (bytes_cut name value mark) (read_states (bytes (name ++ mark ∷ value)) (refused code.WrongKind) read).0 in
-    let Has : (List PlacedByte) → (List PlacedByte) → Type 0 =
-    λ n rest. Contains (option_map_or (λ (c : Capability). signs c.kind rest) (capability_named (bytes n)) []) edit in
+    let Has : (List PlacedByte) → (List PlacedByte) → (List PlacedByte) → Type 0 =
+    λ n rest raw. Contains (option_map_or (λ (c : Capability). signs c.kind rest raw) (capability_named (bytes n)) []) edit in
     let item = name ++ mark ∷ value in
-    let there : Has name (mark ∷ without_end value) =
-    subst (λ n. Has n (mark ∷ without_end value)) (name_cut name value mark none is)
-    (subst (λ rest. Has (written_name item) rest) (rest_cut name value mark none is) has) in
+    let there : Has name (mark ∷ without_end value) value =
+    subst (λ n. Has n (mark ∷ without_end value) value) (name_cut name value mark none is)
+    (subst (λ raw. Has (written_name item) (mark ∷ without_end value) raw) (value_cut name value mark none is)
+    (subst (λ rest. Has (written_name item) rest (value_of item)) (rest_cut name value mark none is) has)) in
     by_name name value mark edit (capability_named (bytes name)) none is on refl there
 by_marks _ edit (has_none item none) read has =
     let core = without_trailing_space (bytes item) in
@@ -120,8 +161,8 @@ by_marks _ edit (has_none item none) read has =
       | inr f ↦
           let plain : (last_byte 0 (bytes (without_end item)) == 64) ≡ false = ap (λ (t : List ℕ). last_byte 0 t == 64) (end_bytes item) ∙ f in
           let Has : (List PlacedByte) → Type 0 =
-          λ rest. Contains (option_map_or (λ (c : Capability). signs c.kind rest) (capability_named (bytes (written_name item))) []) edit in
-          absurd (nothing_signed edit (capability_named (bytes (written_name item))) (subst Has (plain_name item none plain).1 has))
+          λ rest. Contains (option_map_or (λ (c : Capability). signs c.kind rest (value_of item)) (capability_named (bytes (written_name item))) []) edit in
+          absurd (nothing_signed (value_of item) edit (capability_named (bytes (written_name item))) (subst Has (plain_name item none plain).1 has))
     ]
 
 pub signed_item : (item : List PlacedByte) (edit : EditSeen) → IsRead (bytes item) (refused code.WrongKind) → Contains (kind_signs item) edit
@@ -131,5 +172,5 @@ signed_item item edit read has = by_marks item edit (mark_says item) read has
 pub signs_fit : SignsFitTheKind
 signs_fit item edit order read has =
     let s = signed_item item edit read has in
-    subst (λ (i : List PlacedByte). IsOfCapability (edited i edit)) (sym s.whole)
+    subst (λ (i : List PlacedByte). IsAccepted (edited i edit)) (sym s.whole)
     (signed s.capability.kind s.name s.value s.mark s.capability edit s.none (subst IsInOrder s.whole order) s.on s.named refl s.has)

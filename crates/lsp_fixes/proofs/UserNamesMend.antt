@@ -14,11 +14,9 @@ use Rattle.ti_source.specs.Folding.{PlacedByte}
 use Rattle.ti_source.specs.Items.{bytes}
 use Rattle.lsp_descriptions.specs.UserDescriptions.{UserDescribed, described_rows, function_keys, has_name, modified_keys, modifiers, shifted_keys}
 use Rattle.lsp_descriptions.specs.UserDescriptions.{user_described, user_descriptions}
-use Rattle.lsp_descriptions.specs.UserRows.{capital_rows, keys, other_rows}
 use Rattle.lsp_hints.specs.Unknown.{is_unknown_name}
 use Rattle.lsp_spans.specs.Folding.{folded_of}
 use Rattle.lsp_spans.specs.Parts.{end_of}
-use Rattle.lsp_spans.specs.Replacing.{item_texts}
 use Rattle.lsp_spans.specs.Subjects.{items_of}
 use Rattle.lsp_spans.specs.declared.parts.Part.{Part}
 use Rattle.lsp_fixes.specs.Edits.{EditSeen, renames}
@@ -36,7 +34,7 @@ use Rattle.lsp_fixes.proofs.Putting.{IsPut, put_of, renamed_at, well_put}
 -- ---- the names that are known
 
 well_names : list_all well_put user_names ≡ true
-unfolding well_put described_rows capital_rows other_rows modified_keys keys modifiers shifted_keys function_keys digits
+unfolding well_put described_rows modified_keys modifiers shifted_keys function_keys digits
 well_names = refl
 
 user_put : All IsPut user_names

@@ -1,6 +1,6 @@
 -- What is offered against the fault of an item, as edits of its block (own): which names are near,
 -- the sign of another kind, and the spelling that reads back.
-use Rattle.std.specs.Prelude.{ℕ, suc, ◌==◌, ◌&&◌, not, nat_le, nat_lt, Bool, false, true, List, [], ◌∷◌, codes, length, map, Option, None, Some, if◌then◌else◌}
+use Rattle.std.specs.Prelude.{ℕ, suc, ◌==◌, ◌&&◌, is_ok, nat_le, nat_lt, Bool, false, true, List, [], ◌∷◌, codes, length, map, Option, None, Some, if◌then◌else◌}
 use Rattle.std.specs.List.{list_all}
 use Rattle.std.specs.Option.{option_map_or}
 use Rattle.std.specs.String.{string_bytes}
@@ -10,6 +10,7 @@ use Rattle.ti_caps.specs.Tables.{Capability, capability_named}
 use Rattle.ti_caps.specs.declared.capability.Kind.{Kind}
 use Rattle.ti_caps.specs.declared.capability.Kind.TheVariants.{Flag, Number, Text}
 use Rattle.ti_spelling.specs.Spelling.{spelling_of}
+use Rattle.ti_spelling.specs.inside.Numbers.{number_read}
 use Rattle.ti_source.specs.Folding.{PlacedByte}
 use Rattle.ti_source.specs.Items.{bytes}
 use Rattle.ti_source.specs.declared.code.Code.{Code}
@@ -17,7 +18,7 @@ use Rattle.ti_source.specs.declared.code.Code.TheVariants as code
 use Rattle.lsp_spans.specs.Parts.{spanned}
 use Rattle.lsp_spans.specs.declared.parts.Part.{Part}
 use Rattle.lsp_fixes.specs.Candidates.{names_for}
-use Rattle.lsp_fixes.specs.Carets.{healing_caret}
+use Rattle.lsp_fixes.specs.Carets.{can_be_read, healing_caret}
 use Rattle.lsp_fixes.specs.Nearest.{nearest}
 use Rattle.lsp_fixes.specs.Pieces.{after_name, value_of, without_last, written_name}
 use Rattle.lsp_fixes.specs.Shown.{shown}
@@ -84,27 +85,38 @@ known_names item = renames (written_name item) (names_for (after_name item))
 abbrev pub is_digit : ℕ → Bool
 is_digit byte = nat_le ascii.digit_0 byte && nat_le byte ascii.digit_9
 
--- what takes the place of the sign before this value so that a capability of a kind is read:
--- nothing before no value, if it is a boolean; `#` before digits, if it is a number; `=` before a
--- value, if it is a string
-abbrev pub sign_for : Kind → List ℕ → Option (List ℕ)
-sign_for Flag value = if is_empty value then Some [] else None
-sign_for Number value = if not (is_empty value) && list_all is_digit value then Some (codes "#") else None
-sign_for Text value = if is_empty value then None else Some (codes "=")
+-- whether a value is a number in digits
+abbrev pub is_number : List ℕ → Bool
+is_number value = list_all is_digit value && is_ok (number_read value)
+
+-- what takes the place of the sign before a value if that spells a string
+abbrev pub text_sign : List ℕ → Option (List ℕ)
+text_sign raw = if can_be_read raw then Some (codes "=") else None
+
+-- what takes the place of the sign before a value so that a capability of a kind is read with it, by
+-- the value without the white space at its end, and as it is: nothing before no value, if it is a
+-- boolean; `#` before a number in digits, if it is a number; `=` before what spells a string, if it is
+-- a string
+abbrev pub sign_for : Kind → (value raw : List ℕ) → Option (List ℕ)
+sign_for Flag value raw = if is_empty value then Some [] else None
+sign_for Number value raw = if is_number value then Some (codes "#") else None
+sign_for Text value raw = if is_empty value then None else text_sign raw
 
 -- a sign in place of a byte, if there is one
 abbrev pub sign_at : Kind → ℕ → Option (List ℕ) → List EditSeen
 sign_at kind at None = []
 sign_at kind at (Some text) = record { advice = advises_sign kind; part = record { start = at; end = suc at }; text = text } ∷ []
 
--- the sign of a kind in place of the first byte after the name
-abbrev pub signs : Kind → List PlacedByte → List EditSeen
-signs kind [] = []
-signs kind (x ∷ value) = sign_at kind x.1 (sign_for kind (bytes value))
+-- the sign of a kind in place of the first byte after the name, by what is after the name and by the
+-- value as it is
+abbrev pub signs : Kind → (rest raw : List PlacedByte) → List EditSeen
+signs kind [] raw = []
+signs kind (x ∷ value) raw = sign_at kind x.1 (sign_for kind (bytes value) (bytes raw))
 
 -- the sign of the kind of an item's capability in place of its own
 abbrev pub kind_signs : List PlacedByte → List EditSeen
-kind_signs item = option_map_or (λ (c : Capability). signs c.kind (after_name item)) (capability_named (bytes (written_name item))) []
+kind_signs item =
+    option_map_or (λ (c : Capability). signs c.kind (after_name item) (value_of item)) (capability_named (bytes (written_name item))) []
 
 -- ---- the spelling that reads back
 

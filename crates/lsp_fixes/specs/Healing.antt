@@ -52,14 +52,14 @@ pub record OneItemChanges (block after : List ℕ) (ordinal : ℕ) (text : List 
   pub reads : (verdict : Verdict) → IsRead text verdict → IsReadBy after ordinal verdict
   pub others : (at : ℕ) → at ≢ ordinal → (said_at after at ≡ said_at block at) × (fault_at after at ≡ fault_at block at)
 
--- what becomes of an item with a fault of that code: it is of a capability of its kind (W1, W2), it
--- says what it said and has no fault (W3), or it is accepted (E5)
-abbrev pub IsMended : Code → (block after : List ℕ) (ordinal : ℕ) (text : List ℕ) → Type 0
-IsMended code.UnknownCapability block after ordinal text = IsOfCapability text
-IsMended code.WrongKind block after ordinal text = IsOfCapability text
-IsMended code.UnknownEscape block after ordinal text = (said_at after ordinal ≡ said_at block ordinal) × (fault_at after ordinal ≡ None)
-IsMended code.BadString block after ordinal text = (said : Said) × (said_at after ordinal ≡ Some said)
-IsMended _ block after ordinal text = ⊥
+-- what becomes of an item with a fault of that code: it is of a capability of its kind (W1), it says
+-- what it said and has no fault (W3), or it is accepted (W2, E5)
+abbrev pub IsFixed : Code → (block after : List ℕ) (ordinal : ℕ) (text : List ℕ) → Type 0
+IsFixed code.UnknownCapability block after ordinal text = IsOfCapability text
+IsFixed code.WrongKind block after ordinal text = (said : Said) × (said_at after ordinal ≡ Some said)
+IsFixed code.UnknownEscape block after ordinal text = (said_at after ordinal ≡ said_at block ordinal) × (fault_at after ordinal ≡ None)
+IsFixed code.BadString block after ordinal text = (said : Said) × (said_at after ordinal ≡ Some said)
+IsFixed _ block after ordinal text = ⊥
 
 -- the fault of an item is gone, and no other item has changed
 pub record LosesFault (block after : List ℕ) (ordinal : ℕ) : Type 0 where
@@ -68,7 +68,7 @@ pub record LosesFault (block after : List ℕ) (ordinal : ℕ) : Type 0 where
   pub had : fault_at block ordinal ≡ Some code
   pub gone : fault_at after ordinal ≢ Some code
   pub changes : OneItemChanges block after ordinal text
-  pub mended : IsMended code block after ordinal text
+  pub fixed : IsFixed code block after ordinal text
 
 -- an item that used a name which no block has uses one of another block (E6), also once the block
 -- is in its place, and no other item has changed

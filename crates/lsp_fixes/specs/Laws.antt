@@ -56,11 +56,18 @@ NamesAreOfOtherBlocks =
     (blocks : List (List ℕ)) (own : ℕ) (name : List PlacedByte) (edit : EditSeen) → All OneBlock blocks → Contains (used_edits blocks own (Some name)) edit
     → (at : ℕ) × (owner (readings blocks) edit.text ≡ Some at) × (at ≢ own)
 
--- an item of the wrong kind is of the right one with the sign that is offered for it
+-- an item of this text is read and accepted, and says something
+pub record IsAccepted (text : List ℕ) : Type 0 where
+  pub said : Said
+  pub verdict : Verdict
+  pub is_read : IsRead text verdict
+  pub accepts : said_by verdict ≡ Some said
+
+-- an item of the wrong kind is accepted with the sign that is offered for it
 abbrev pub SignsFitTheKind : Type 0
 SignsFitTheKind =
     (item : List PlacedByte) (edit : EditSeen) → IsInOrder item → IsRead (bytes item) (refused code.WrongKind) → Contains (kind_signs item) edit
-    → IsOfCapability (edited item edit)
+    → IsAccepted (edited item edit)
 
 -- a string with an odd escape says the same with the spelling that is offered for it, and no escape
 -- is odd
@@ -69,13 +76,6 @@ SpellingsReadBack =
     (item : List PlacedByte) (c : Capability) (value : List ℕ) (edit : EditSeen) → IsInOrder item → AreBytes (bytes item)
     → IsRead (bytes item) (accepted_odd (said_text c value)) → Contains (spellings item value) edit
     → IsRead (edited item edit) (accepted (said_text c value))
-
--- an item of this text is read and accepted, and says something
-pub record IsAccepted (text : List ℕ) : Type 0 where
-  pub said : Said
-  pub verdict : Verdict
-  pub is_read : IsRead text verdict
-  pub accepts : said_by verdict ≡ Some said
 
 -- a string that cannot be read is read with a backslash before the `^` at its end, if that is
 -- offered

@@ -11,4 +11,5 @@ pub mod Nearest
 pub mod Pieces
 pub mod Resolving
 pub mod Shown
+pub mod Together
 pub mod UserNames

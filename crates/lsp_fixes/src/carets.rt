@@ -34,8 +34,11 @@ fn caret_at_end(value: &[(u8, usize)]) -> Option<Part>
     }
 }
 
-// Whether a text spells a string.
-fn can_be_read(alloc: Global, text: &[u8]) -> Result<bool, AllocError>
+/// Whether a text spells a string.
+///
+/// # Errors
+/// Out of memory.
+pub(crate) fn can_be_read(alloc: Global, text: &[u8]) -> Result<bool, AllocError>
     ensures { IfOk result (λ can. can ≡ spec.can_be_read text.now) }
 {
     match unescape(alloc, text) {

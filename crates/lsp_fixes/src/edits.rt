@@ -1,21 +1,22 @@
 //! What is offered against the fault of an item, as edits of its block.
-ghost use Rattle.std.specs.Prelude.{◌≡◌, ◌<◌, ◌++◌, ◌^◌, All, IfOk, OnOk, map, option_map};
+ghost use Rattle.std.specs.Prelude.{◌≡◌, ◌<◌, ◌++◌, ◌^◌, All, IfOk, OnOk, is_ok, map, option_map};
 ghost use Rattle.std.specs.List.{list_all};
 ghost use Rattle.ti_source.specs.Items.{bytes};
+ghost use Rattle.ti_spelling.specs.inside.Numbers.{number_read};
 ghost use Rattle.lsp_spans.specs.Parts.{spanned};
 ghost use Rattle.lsp_fixes.specs.Edits as spec;
-ghost use Rattle.lsp_fixes.specs.Edits.{advice_seen, carets, edit_seen, edits_for, is_certain, is_digit, keeps_return, kind_signs, known_names, rename, renames, sign_for, signs};
+ghost use Rattle.lsp_fixes.specs.Edits.{advice_seen, carets, edit_seen, edits_for, is_certain, is_digit, is_number, keeps_return, kind_signs, known_names, rename, renames, sign_for, signs};
 ghost use Rattle.lsp_fixes.specs.Edits.{spelling_in, spellings};
 
 use crate::candidates::names_for;
-use crate::carets::healing_caret;
+use crate::carets::{can_be_read, healing_caret};
 use crate::distances::nearest;
 use crate::pieces::{after_name, bytes_of, last_of, span, value_of, without_last, written_name};
 use crate::texts::{last_byte, shown};
 use lsp_spans::Part;
 use std::alloc::{AllocError, Global};
 use ti_caps::{Kind, find};
-use ti_source::{Code, escape};
+use ti_source::{Code, escape, read_number};
 
 /// What is advised.
 #[derive(Debug, Drop)]
@@ -131,15 +132,48 @@ fn are_digits(value: &[u8]) -> bool
     value.iter().all(|byte| is_digit(*byte))
 }
 
-// What takes the place of the sign before a value so that a capability of a kind is read.
-fn sign_for(kind: Kind, value: &[u8]) -> Option<&'static str>
-    ensures { option_map (λ sign. sign.now) result ≡ sign_for kind value.now }
+// Whether a value reads as a number.
+fn reads_as_number(value: &[u8]) -> bool
+    ensures { result ≡ is_ok (number_read value.now) }
+{
+    match read_number(value) {
+        Ok(_) => true,
+        Err(_) => false,
+    }
+}
+
+// Whether a value is a number in digits.
+fn is_number(value: &[u8]) -> bool
+    ensures { result ≡ is_number value.now }
+{
+    are_digits(value) && reads_as_number(value)
+}
+
+// What takes the place of the sign before a value, if that spells a string.
+fn text_sign(alloc: Global, raw: &[u8]) -> Result<Option<&'static str>, AllocError>
+    ensures { IfOk result (λ sign. option_map (λ sign. sign.now) sign ≡ spec.text_sign raw.now) }
+{
+    if can_be_read(alloc, raw)? {
+        return Ok(Some("="));
+    }
+    Ok(None)
+}
+
+// What takes the place of the sign before a value so that a capability of a kind is read with it. The
+// value comes without the white space at its end, and as it is.
+fn sign_for(
+    alloc: Global,
+    kind: Kind,
+    value: &[u8],
+    raw: &[u8],
+) -> Result<Option<&'static str>, AllocError>
+    ensures { IfOk result (λ sign. option_map (λ sign. sign.now) sign ≡ sign_for kind value.now raw.now) }
 {
     match kind {
-        Kind::Flag if value.is_empty() => Some(""),
-        Kind::Number if !value.is_empty() && are_digits(value) => Some("#"),
-        Kind::Text if !value.is_empty() => Some("="),
-        _ => None,
+        Kind::Flag if value.is_empty() => Ok(Some("")),
+        Kind::Number if is_number(value) => Ok(Some("#")),
+        Kind::Text if !value.is_empty() => text_sign(alloc, raw),
+        _ => Ok(None),
     }
 }
 
@@ -167,21 +201,24 @@ fn push_sign(
     Ok(())
 }
 
-// Adds the sign of a kind in place of the first byte after the name.
+// Adds the sign of a kind in place of the first byte after the name, by what is after the name and by
+// the value as it is.
 fn push_signs(
     alloc: Global,
     edits: &mut Vec<Edit>,
     kind: Kind,
     rest: &[(u8, usize)],
+    raw: &[(u8, usize)],
 ) -> Result<(), AllocError>
     requires { All (λ x. x.1 < 2 ^ 63) rest.now }
-    ensures { OnOk result (map edit_seen edits.new.items ≡ map edit_seen edits.old.items ++ signs kind rest.now) }
+    ensures { OnOk result (map edit_seen edits.new.items ≡ map edit_seen edits.old.items ++ signs kind rest.now raw.now) }
 {
     let Some((first, value)) = rest.split_first() else {
         return Ok(());
     };
     let value = bytes_of(alloc, value)?;
-    match sign_for(kind, &value) {
+    let raw = bytes_of(alloc, raw)?;
+    match sign_for(alloc, kind, &value, &raw)? {
         Some(sign) => push_sign(alloc, edits, kind, first.1, sign),
         None => Ok(()),
     }
@@ -194,7 +231,13 @@ fn push_kind(alloc: Global, edits: &mut Vec<Edit>, item: &[(u8, usize)]) -> Resu
 {
     let name = bytes_of(alloc, written_name(item))?;
     match find(&name) {
-        Some(capability) => push_signs(alloc, edits, capability.kind(), after_name(item)),
+        Some(capability) => push_signs(
+            alloc,
+            edits,
+            capability.kind(),
+            after_name(item),
+            value_of(item),
+        ),
         None => Ok(()),
     }
 }

@@ -1,6 +1,7 @@
 //! Laws of the definitions on which the contracts of this crate depend. They compute nothing.
 ghost use Rattle.lsp_fixes.specs.Applied.{AsciiPlacesAreStarts, FixesHeal};
 ghost use Rattle.lsp_fixes.specs.Healing.{EditsHeal};
+ghost use Rattle.lsp_fixes.specs.Together.{CertainEditsAreMade, TheseAreCertain};
 ghost use Rattle.lsp_fixes.specs.Laws.{CaretsHeal, ItemsAreInOrder, ItemsHaveOneVerdict, NamesAreOfCapabilities, NamesAreOfOtherBlocks, SignsFitTheKind, SpellingsReadBack};
 
 /// An item is of a capability of its kind with a name that is offered for its own.
@@ -15,7 +16,7 @@ pub fn names_are_of_other_blocks()
     ti_source::laws::each_is_well_read();
 }
 
-/// An item of the wrong kind is of the right one with the sign that is offered for it.
+/// An item of the wrong kind is accepted with the sign that is offered for it.
 pub fn signs_fit_the_kind()
     ensures { SignsFitTheKind }
 {}
@@ -54,6 +55,14 @@ pub fn edits_heal()
     ti_source::laws::written_spells();
     ti_source::laws::each_is_well_read();
 }
+
+/// The certain edits of a block that pass any test, once they are made at once, have taken the faults
+/// of their items away, and have changed no other item. So an item that has a certain edit then is one
+/// of which none was made. Those edits are what is offered and certain.
+pub fn certain_edits_are_made()
+    ensures certain { TheseAreCertain }
+    ensures made { CertainEditsAreMade }
+{}
 
 /// A fix of a text, once the client has made the edit at the range of the fix, has taken the fault
 /// or the unknown name of its item away, and has changed no other item, whether a newline ends the

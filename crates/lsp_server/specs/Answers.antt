@@ -9,7 +9,7 @@ use Rattle.lsp_server.specs.Steps.{Answer, Open, ready, done, refused, answered,
 
 -- the version of the server
 abbrev pub server_version : List ℕ
-server_version = codes "1.0.0"
+server_version = codes "1.1.0"
 
 -- the symbols of a document whose names hold a text; none if it is out of date
 abbrev pub found_in : Sayings → List ℕ → Open → List Data

@@ -18,7 +18,7 @@ use serde_json::Value;
 use std::alloc::{AllocError, Global};
 
 /// The version of the server.
-pub const VERSION: &str = "1.0.0";
+pub const VERSION: &str = "1.1.0";
 
 // That the server is ready, to a client.
 fn ready_value(alloc: Global, id: &Value, client: Client) -> Result<Value, AllocError>

@@ -12,12 +12,13 @@ use lsp_server::VERSION;
 use std::alloc::{AllocError, Global};
 
 // What the program is, in its help.
-const ABOUT: &str = "ti-lsp 1.0.0: a language server for terminfo source.";
+const ABOUT: &str = "ti-lsp 1.1.0: a language server for terminfo source.";
 
 // What follows the options in the help.
 const NOTES: &str = "\
 An editor starts it, and speaks the Language Server Protocol 3.17 with it over
-standard input and output. It shows the faults that 'ti tic -c' reports.
+standard input and output. It shows the errors, warnings and hints that
+'ti-tic -x -c' reports.
 
 Exit status:
   0  it was told to shut down, and then to exit

@@ -1,4 +1,4 @@
-use Rattle.std.proofs.Common.{◌<◌, ◌&&◌, ℕ, List, nat_le, nat_lt, subst, sym, take}
+use Rattle.std.proofs.Common.{◌<◌, ◌&&◌, List, nat_le, nat_lt, subst, sym, take}
 use Rattle.std.specs.Prelude.{All}
 use Rattle.std.proofs.lemmas.List.Elements.{All-filter, All-take}
 use Rattle.ti_source.specs.Folding.{PlacedByte}
