@@ -397,7 +397,7 @@ const char *ti_strerror(enum ti_status status) {
         "The string pushes more than 20 values",
         "The bytes are more than the room for them",
         "The string asks for more than 65,536 pad bytes",
-        "The name of the terminal has a byte that no name has",
+        "No terminal can have the name",
         "The terminal does not have the string",
         "Not all bytes were written",
         "A parameter is a number where the string takes a string, or the other way round",

@@ -689,7 +689,7 @@ struct ti_parameter ti_string_given(const char *text);
 /*
  * ti_put(terminal, TI_SETAF, 2) and ti_put_named(terminal, "Smulx", 3) are ti_put_numbers and
  * ti_put_named_numbers with the numbers that come after the string, which are evaluated once.
- * Compilers reject anything but numbers. C++98 does not have them.
+ * Compilers reject anything but numbers, or warn of it. C++98 does not have them.
  */
 #ifndef __cplusplus
 #define ti_put(terminal, ...) \

@@ -6,7 +6,8 @@
 
 #include <stdlib.h>
 
-/* The windows of a screen, and its line-drawing characters: newterm would set them. */
+/* The screen, its windows and its line-drawing characters: newterm would set them. */
+EXPORTED SCREEN *SP;
 EXPORTED WINDOW *stdscr, *curscr, *newscr;
 EXPORTED chtype acs_map[128];
 

@@ -1,7 +1,7 @@
 /*
- * What ncurses's other libraries call of its libtinfo and no page describes, as far as it takes
- * only texts, numbers, memory and structs that are the same since ncurses 6.0. What else they call
- * takes structs that differ between versions and builds: docs/TINFO.md.
+ * What libncursesw.so.6 calls of ncurses's libtinfo and no page describes, as far as it takes only
+ * texts, numbers, memory and structs that are the same since ncurses 6.0. What else it calls takes
+ * structs that differ between versions and builds: docs/TINFO.md.
  */
 #include "tinfo.h"
 
@@ -9,7 +9,6 @@
 #include <langinfo.h>
 #include <limits.h>
 #include <locale.h>
-#include <stdarg.h>
 #include <stdio.h>
 #include <stdlib.h>
 #include <unistd.h>
@@ -151,21 +150,9 @@ EXPORTED int _nc_add_to_try(struct tries **tree, const char *text, unsigned code
     return OK;
 }
 
-/* ---- writing, and messages */
+/* ---- writing */
 
 EXPORTED int _nc_putchar_sp(SCREEN *screen, int byte) {
     (void)screen;
     return putchar(byte);
-}
-
-/* A message of a source that is read, and the end of the program. Here no source is. */
-EXPORTED __attribute__((format(printf, 1, 2), noreturn)) void _nc_err_abort(const char *format,
-                                                                           ...) {
-    va_list given;
-    fprintf(stderr, "\"?\", line 0, col 0: ");
-    va_start(given, format);
-    vfprintf(stderr, format, given);
-    va_end(given);
-    fprintf(stderr, "\n");
-    exit(EXIT_FAILURE);
 }

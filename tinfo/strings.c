@@ -133,9 +133,9 @@ static char *expand(struct format *format, const struct ti_parameter *params) {
     }
 }
 
-/* Expands a format for the arguments of a call, of which the numbers are long or int. */
-static char *expand_for(struct format *format, bool is_long, va_list *given) {
-    struct ti_parameter params[PARAMETERS];
+/* Takes the parameters of a format from those of a call, of which the numbers are long or int. */
+static void take_parameters(struct ti_parameter *params, const struct format *format, bool is_long,
+                            va_list *given) {
     for (size_t i = 0; i < format->count; i++) {
         if (format->taken.strings[i]) {
             const char *text = va_arg(*given, const char *);
@@ -146,6 +146,12 @@ static char *expand_for(struct format *format, bool is_long, va_list *given) {
             params[i] = ti_number_given((int32_t)number);
         }
     }
+}
+
+/* Expands a format for the arguments of a call. */
+static char *expand_for(struct format *format, bool is_long, va_list *given) {
+    struct ti_parameter params[PARAMETERS];
+    take_parameters(params, format, is_long, given);
     return expand(format, params);
 }
 
@@ -171,9 +177,33 @@ EXPORTED char *tiparm(const char *text, ...) {
 
 /* ---- what the tools of ncurses call, which no page describes */
 
+/* How many formats did not leave the stack empty, or took a value from it when it was. */
+EXPORTED int _nc_tparm_err;
+
+/*
+ * Whether a format takes as many values from the stack as it puts there: two that are put there
+ * before it are there after it.
+ */
+static bool is_balanced(const struct format *format, const struct ti_parameter *params) {
+    static const char before[] = "%{31337}%{4711}", after[] = "%d,%d", values[] = "4711,31337";
+    enum { BEFORE = sizeof before - 1, AFTER = sizeof after - 1, SIZE = sizeof values - 1 };
+    char text[1024], out[1024];
+    struct ti_text given = format->text;
+    struct ti_variables variables = cur_term ? cur_term->variables : without_terminal;
+    if (BEFORE + given.size + AFTER > sizeof text) return true;
+    memcpy(text, before, BEFORE);
+    memcpy(text + BEFORE, given.bytes, given.size);
+    memcpy(text + BEFORE + given.size, after, AFTER);
+    struct ti_outcome outcome =
+        ti_expand((const uint8_t *)text, BEFORE + given.size + AFTER, params, format->count,
+                  &variables, (uint8_t *)out, sizeof out);
+    if (outcome.status != TI_OK) return outcome.status == TI_NO_ROOM;
+    return outcome.size >= SIZE && memcmp(out + outcome.size - SIZE, values, SIZE) == 0;
+}
+
 /*
  * tiparm with so many numbers; NULL for a format that takes more, or a string. What is malformed in
- * the format is left out.
+ * the format is left out. With nine numbers, as sgr has, tic asks whether the format is balanced.
  */
 EXPORTED char *_nc_tiparm(int expected, const char *text, ...) {
     if (!is_string(text)) return NULL;
@@ -181,11 +211,13 @@ EXPORTED char *_nc_tiparm(int expected, const char *text, ...) {
     for (size_t i = 0; i < PARAMETERS; i++)
         if (format.taken.strings[i]) return NULL;
     if (format.is_malformed || (int)format.count > expected) return NULL;
+    struct ti_parameter params[PARAMETERS];
     va_list given;
     va_start(given, text);
-    char *expanded = expand_for(&format, false, &given);
+    take_parameters(params, &format, false, &given);
     va_end(given);
-    return expanded;
+    if (expected == PARAMETERS && !is_balanced(&format, params)) _nc_tparm_err++;
+    return expand(&format, params);
 }
 
 /*

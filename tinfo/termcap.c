@@ -4,6 +4,7 @@
  */
 #include "tinfo.h"
 
+#include <ctype.h>
 #include <stdlib.h>
 #include <unistd.h>
 
@@ -36,72 +37,130 @@ static int code_index(const char *asked, uint32_t kind) {
     return ti_capability_by_code(kind, (const uint8_t *)asked, 2, &place) ? (int)place.index : -1;
 }
 
-/* The text after a delay `$<..>` and after what means 0 in a control sequence, if they are here. */
-static const char *after_delay(const char *at) {
-    const char *end = strncmp(at, "$<", 2) == 0 ? strchr(at, '>') : NULL;
-    return end ? end + 1 : at;
-}
+/* Whether a text begins with a control sequence. As in ncurses its one byte 0233 does not count. */
+static bool is_sequence(const char *text) { return strncmp(text, "\033[", 2) == 0; }
+
+/* The text after a parameter 0 of a control sequence, if that is here. */
 static const char *after_zero(const char *at) {
-    if (at[0] != '0' || (at[1] != ';' && at[1] != 'm')) return at;
-    return at + (at[1] == ';' ? 2 : 1);
+    if (at[0] != '0') return at;
+    if (at[1] == ';') return at + 2;
+    return isalpha((unsigned char)at[1]) ? at + 1 : at;
 }
 
-/* Whether two texts do the same, though their delays and their zeros differ. */
-static bool do_same(const char *one, const char *other) {
-    char before = '\0';
-    for (;;) {
-        one = after_delay(one);
-        other = after_delay(other);
-        if (*one != *other) return false;
-        if (!*one) return true;
-        bool is_introducer = *one == '\233' || (before == '\033' && *one == '[');
-        before = *one++;
-        other++;
-        if (is_introducer) one = after_zero(one), other = after_zero(other);
+/* Whether one of two texts is the front of the other, with or without a 0 that is first in it. */
+static bool begin_alike(const char *one, const char *other) {
+    if (is_sequence(one) && is_sequence(other)) {
+        one += 2;
+        other += 2;
+        if (*one != *other) one = after_zero(one), other = after_zero(other);
     }
+    size_t first = strlen(one), second = strlen(other);
+    size_t shared = first < second ? first : second;
+    return shared && memcmp(one, other, shared) == 0;
 }
 
 static void drop(char *at, size_t count) { memmove(at, at + count, strlen(at + count) + 1); }
 
+/* The text after a delay `$<..>`, if that is here. */
+static const char *after_delay(const char *at) {
+    const char *end = strncmp(at, "$<", 2) == 0 ? strchr(at, '>') : NULL;
+    return end ? end + 1 : at;
+}
+
 /*
- * Takes out of a text what turns the alternate character set off: rmacs without its delay, or a
- * last parameter 10 that chooses the first font. False if neither is there, or nothing else.
+ * How many bytes at the front of a text are another one, whose delays may differ; the last delay is
+ * not counted. 0 if it does not begin so.
  */
-static bool drop_rmacs(char *text, const char *rmacs) {
-    static const char font[] = ";10m";
-    enum { FONT_SIZE = sizeof font - 1 };
-    const char *delay = strstr(rmacs, "$<");
-    size_t size = strlen(text), bare = delay ? (size_t)(delay - rmacs) : strlen(rmacs);
-    char *found = (char *)memmem(text, size, rmacs, bare);
-    if (bare && found && bare < size) {
-        drop(found, bare);
-        return true;
+static size_t front_size(const char *text, const char *front) {
+    size_t size = 0;
+    for (const char *at = text; *front;) {
+        const char *after = after_delay(at), *next = after_delay(front);
+        if (*at != *front) return 0;
+        bool are_delays = after != at && next != front;
+        at = are_delays ? after : at + 1;
+        front = are_delays ? next : front + 1;
+        if (!are_delays) size = (size_t)(at - text);
     }
-    bool is_sequence = *text == '\233' || strncmp(text, "\033[", 2) == 0;
-    if (!is_sequence || size <= FONT_SIZE) return false;
-    char *last = text + size - FONT_SIZE;
-    if (strcmp(last, font) != 0) return false;
-    drop(last, FONT_SIZE - 1);
+    return size;
+}
+
+/* Takes rmacs out of a longer text. False if it is not there. */
+static bool drop_rmacs(char *text, const char *rmacs) {
+    size_t size = strlen(text), least = strlen(rmacs);
+    for (size_t at = 0; size > least && at + least <= size; at++) {
+        size_t found = front_size(text + at, rmacs);
+        if (found) drop(text + at, found);
+        if (found) return true;
+    }
+    return false;
+}
+
+/*
+ * Takes the first parameter of a control sequence out, or the one after a 0, if it is 10, which
+ * chooses the first font. False if it is not there.
+ */
+static bool drop_font(char *text) {
+    if (!is_sequence(text) || text[strlen(text) - 1] != 'm') return false;
+    size_t from = (size_t)(after_zero(text + 2) - text);
+    const char *after = after_zero(text + from + 1);
+    if (text[from] != '1' || after == text + from + 1) return false;
+    size_t to = (size_t)(after - text);
+    if (text[from - 1] == ';') from--;
+    drop(text + from, to - from);
     return true;
+}
+
+/* A copy of a text, in which another one that it begins with is at its end; NULL of NULL. */
+static char *copy_with_end(const char *text, const char *front) {
+    size_t size = is_string(front) ? strlen(front) : 0, whole = text ? strlen(text) : 0;
+    char *copy = text ? strdup(text) : NULL;
+    if (!copy || !size || whole <= size || strncmp(text, front, size) != 0) return copy;
+    strcpy(stpcpy(copy, text + size), front);
+    return copy;
+}
+
+/* What sgr sends with the alternate character set on or off and no other attribute, likewise. */
+static char *attributes_off(const char *sgr, bool is_alternate, const char *front) {
+    return copy_with_end(_nc_tiparm(9, sgr, 0, 0, 0, 0, 0, 0, 0, 0, (int)is_alternate), front);
+}
+
+/*
+ * Takes out of what sgr sends what turns the alternate character set off: rmacs, or the first font.
+ * If neither is there, and sgr0 has more than that, what is left is what it has more.
+ */
+static void trim(char **off, char **sgr0, const char *rmacs) {
+    bool is_found = (is_string(rmacs) && drop_rmacs(*off, rmacs)) || drop_font(*off);
+    char *at = is_found || strcmp(*sgr0, *off) == 0 ? NULL : strstr(*sgr0, *off);
+    if (!at) return;
+    drop(at, strlen(*off));
+    at = *off;
+    *off = *sgr0;
+    *sgr0 = at;
 }
 
 /*
  * "me" of termcap leaves the character set as it is, and sgr0 does not: it is what sgr sends for no
- * attribute, without rmacs, if sgr0 does the same. NULL if sgr0 itself is to be taken.
+ * attribute, without what turns that set off, if sgr0 begins alike. NULL if sgr0 itself is to be
+ * taken. What comes first and turns the set on or off is compared as if it came last.
  */
-static char *sgr0_without_acs(void) {
-    char *sgr0 = string_at(STR_sgr0), *sgr = string_at(STR_sgr), *rmacs = string_at(STR_rmacs);
-    if (!sgr0 || !sgr || !rmacs || !string_at(STR_smacs)) return NULL;
-    char *off = _nc_tiparm(9, sgr, 0, 0, 0, 0, 0, 0, 0, 0, 0);
-    char *made = off ? strdup(off) : NULL, *end = strdup(sgr0);
-    bool is_found = made && end && drop_rmacs(made, rmacs);
-    if (is_found) drop_rmacs(end, rmacs);
-    if (!is_found || !do_same(made, end)) {
-        free(made);
-        made = NULL;
-    }
+static char *sgr0_without_acs(char *const *strings) {
+    const char *sgr0 = strings[STR_sgr0], *sgr = strings[STR_sgr], *rmacs = strings[STR_rmacs];
+    if (!is_string(sgr0) || !is_string(sgr)) return NULL;
+    char *on = attributes_off(sgr, true, strings[STR_smacs]);
+    char *off = attributes_off(sgr, false, rmacs), *end = copy_with_end(sgr0, rmacs);
+    bool is_meant = on && off && end && begin_alike(off, end) && !begin_alike(off, on);
+    if (is_meant) trim(&off, &end, rmacs);
+    free(on);
     free(end);
-    return made;
+    if (is_meant && strcmp(off, sgr0) != 0) return off;
+    free(off);
+    return NULL;
+}
+
+/* sgr0 of an entry as termcap has it: that itself, or another text for free to be given. */
+EXPORTED char *_nc_trim_sgr0(TERMTYPE2 *entry) {
+    char *made = sgr0_without_acs(entry->Strings);
+    return made ? made : entry->Strings[STR_sgr0];
 }
 
 /* Moves a string to the obsolete capability that termcap has for it, unless that is there. */
@@ -131,7 +190,7 @@ static void set_termcap(void) {
     set_obsolete();
     UP = string_at(STR_cuu1);
     BC = string_at(STR_OTbc);
-    cur_term->without_acs = sgr0_without_acs();
+    cur_term->without_acs = sgr0_without_acs(cur_term->type.Strings);
 }
 
 /*

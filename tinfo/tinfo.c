@@ -29,21 +29,30 @@ EXPORTED char ttytype[TTYTYPE_SIZE];
 /* The size of the screen of the last terminal that was set up. */
 EXPORTED int LINES, COLS, TABSIZE = 8;
 
+/* Whether the value at an index of a section says that a capability is cancelled: it is -2. */
+bool is_cancelled(struct ti_text section, size_t index, size_t width) {
+    const uint8_t *value = section.bytes + index * width;
+    if ((index + 1) * width > section.size || value[0] != 0xFE) return false;
+    for (size_t i = 1; i < width; i++)
+        if (value[i] != 0xFF) return false;
+    return true;
+}
+
 /* ---- User-defined capabilities: user_caps(5) */
 
-static bool has_extended_names = true;
+EXPORTED bool _nc_user_definable = true;
 
 /* Whether setupterm reads user-defined capabilities from now on; gives whether it did. */
 EXPORTED int use_extended_names(bool uses) {
-    bool before = has_extended_names;
-    has_extended_names = uses;
+    bool before = _nc_user_definable;
+    _nc_user_definable = uses;
     return before;
 }
 
 /* The extension of an entry; one that has nothing if there is none, or no sound one. */
 static struct ti_extension extension_of(const struct ti_entry *entry) {
     struct ti_extension found = TI_EXTENSION_EMPTY;
-    if (has_extended_names) ti_extension_read(entry, &found);
+    if (_nc_user_definable) ti_extension_read(entry, &found);
     return found;
 }
 
@@ -215,6 +224,19 @@ static void fill_tables(TERMINAL *terminal) {
     type->str_table = (char *)entry->strings.bytes;
 }
 
+/* Fills in the numbers as they are short, where a cancelled one is -2. */
+static void fill_numbers(TERMINAL *terminal, const struct ti_extension *extension) {
+    const struct ti_text sections[] = { terminal->entry->numbers, extension->numbers };
+    size_t width = terminal->entry->wide ? 4 : 2;
+    for (int i = 0; i < terminal->type.num_Numbers; i++) {
+        bool is_user_defined = i >= TI_NUMBERS;
+        size_t at = (size_t)(is_user_defined ? i - TI_NUMBERS : i);
+        int number = terminal->numbers[i] > SHRT_MAX ? SHRT_MAX : terminal->numbers[i];
+        bool is_cancel = number < 0 && is_cancelled(sections[is_user_defined], at, width);
+        terminal->type.Numbers[i] = (short)(is_cancel ? -2 : number);
+    }
+}
+
 /* The terminal of an entry, to which it then belongs; NULL if memory is refused. */
 static TERMINAL *terminal_of(struct ti_entry *entry, const char *name, int fd) {
     struct ti_extension extension = extension_of(entry);
@@ -234,15 +256,15 @@ static TERMINAL *terminal_of(struct ti_entry *entry, const char *name, int fd) {
     type->num_Numbers = (unsigned short)(TI_NUMBERS + type->ext_Numbers);
     type->num_Strings = (unsigned short)(TI_STRINGS + type->ext_Strings);
     fill_size(made);
-    for (int i = 0; i < type->num_Numbers; i++)
-        type->Numbers[i] = (short)(made->numbers[i] > SHRT_MAX ? SHRT_MAX : made->numbers[i]);
+    fill_numbers(made, &extension);
     return made;
 }
 
 EXPORTED TERMINAL *set_curterm(TERMINAL *terminal) {
     TERMINAL *old = cur_term;
     cur_term = terminal;
-    if (terminal) {
+    /* one that libtic makes for itself has nothing yet */
+    if (terminal && terminal->type.Strings) {
         ospeed = terminal->speed;
         PC = string_at(STR_pad) ? string_at(STR_pad)[0] : '\0';
         snprintf(ttytype, sizeof ttytype, "%s", terminal->type.term_names);
@@ -341,8 +363,27 @@ static int table_index(const char *name, uint32_t kind) {
     return is_known ? (int)place.index : -1;
 }
 
+/*
+ * A user-defined capability of an entry that libtic checks, of a kind, as its index among all of
+ * that; or one of the tables; else -1.
+ */
+static int checked_index(const TERMTYPE2 *entry, const char *name, uint32_t kind) {
+    const int counts[] = { entry->ext_Booleans, entry->ext_Numbers, entry->ext_Strings };
+    static const int bases[] = { TI_FLAGS, TI_NUMBERS, TI_STRINGS };
+    int index = table_index(name, kind), from = 0;
+    for (uint32_t i = 0; i < kind; i++) from += counts[i];
+    for (int i = 0; index < 0 && i < counts[kind]; i++)
+        if (is_same(name, entry->ext_Names[from + i])) index = bases[kind] + i;
+    return index;
+}
+
 EXPORTED int tigetflag(const char *name) {
     if (!cur_term) return -1;
+    const TERMTYPE2 *checked = checked_entry();
+    if (checked) {
+        int at = checked_index(checked, name, TI_FLAG);
+        return at < 0 ? -1 : checked->Booleans[at];
+    }
     int index = table_index(name, TI_FLAG);
     if (index < 0) index = user_flag(name, is_same);
     return index < 0 ? -1 : cur_term->type.Booleans[index];
@@ -356,6 +397,11 @@ EXPORTED int tigetflag_sp(SCREEN *screen, const char *name) {
 
 EXPORTED int tigetnum(const char *name) {
     if (!cur_term) return -2;
+    const TERMTYPE2 *checked = checked_entry();
+    if (checked) {
+        int at = checked_index(checked, name, TI_NUMBER);
+        return at < 0 ? -2 : checked->Numbers[at];
+    }
     int index = table_index(name, TI_NUMBER);
     if (index < 0) index = user_number(name, is_same);
     return index < 0 ? -2 : cur_term->numbers[index];
@@ -369,6 +415,11 @@ EXPORTED int tigetnum_sp(SCREEN *screen, const char *name) {
 
 EXPORTED char *tigetstr(const char *name) {
     if (!cur_term) return CANCELLED;
+    const TERMTYPE2 *checked = checked_entry();
+    if (checked) {
+        int at = checked_index(checked, name, TI_STRING);
+        return at < 0 ? CANCELLED : checked->Strings[at];
+    }
     int index = table_index(name, TI_STRING);
     if (index < 0) index = user_string(name, is_same);
     return index < 0 ? CANCELLED : string_at(index);

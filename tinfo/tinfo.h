@@ -47,10 +47,42 @@ typedef struct term {
     short speed; /* the rate as ospeed has it */
 } TERMINAL;
 
+/* ---- term.h and term_entry.h, for the tools of ncurses */
+
+/* An entry of its own: as TERMTYPE, with numbers of 32 bits. */
+typedef struct termtype2 {
+    char *term_names, *str_table;
+    signed char *Booleans; /* 1, 0, or -2 if the capability is cancelled */
+    int *Numbers;          /* -1 if it is absent, -2 if it is cancelled */
+    char **Strings;        /* NULL, or CANCELLED */
+    char *ext_str_table;
+    char **ext_Names;
+    unsigned short num_Booleans, num_Numbers, num_Strings;
+    unsigned short ext_Booleans, ext_Numbers, ext_Strings;
+} TERMTYPE2;
+
+/* An entry of a source, which libtic makes. */
+typedef struct entry ENTRY;
+struct entry {
+    TERMTYPE2 tterm;
+    unsigned nuses;
+    struct {
+        char *name;
+        ENTRY *link;
+        long line;
+    } uses[32];
+    int ncrosslinks;
+    ENTRY *crosslinks[16];
+    long cstart, cend, startline;
+    ENTRY *next, *last;
+};
+
 extern TERMINAL *cur_term;
 extern char PC, *UP, *BC;
 extern short ospeed;
 extern int TABSIZE;
+/* Whether user-defined capabilities are read: use_extended_names. */
+extern bool _nc_user_definable;
 
 /* ---- curses.h */
 
@@ -108,8 +140,14 @@ int user_flag(const char *asked, same_name *same);
 int user_number(const char *asked, same_name *same);
 int user_string(const char *asked, same_name *same);
 
+/* The entry that libtic checks, if it has made the current terminal for that; else NULL. */
+const TERMTYPE2 *checked_entry(void);
+
 /* A terminal is no longer that of termcap, since it is freed. */
 void forget_termcap(const TERMINAL *terminal);
+
+/* Whether a section of an entry has -2 at an index, as it has for a cancelled capability. */
+bool is_cancelled(struct ti_text section, size_t index, size_t width);
 
 /* A buffer that is used again by the next call, and how much it has room for. */
 struct buffer {
@@ -132,6 +170,12 @@ char *tiparm(const char *format, ...);
 char *_nc_tiparm(int expected, const char *format, ...);
 unsigned _nc_pathlast(const char *path);
 int _nc_getenv_num(const char *name);
+bool _nc_is_file_path(const char *path);
+void _nc_first_db(int *at, int *offset);
+const char *_nc_next_db(int *at, int *offset);
+void _nc_last_db(void);
+void _nc_get_type(char *name);
+__attribute__((format(printf, 1, 2), noreturn)) void _nc_err_abort(const char *format, ...);
 int tputs(const char *text, int lines, int (*put)(int));
 int putp(const char *text);
 int napms(int milliseconds);

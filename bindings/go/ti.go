@@ -25,6 +25,7 @@ import (
 	"fmt"
 	"math"
 	"os"
+	"strconv"
 	"strings"
 	"unsafe"
 )
@@ -337,12 +338,12 @@ func Open(name string, file *os.File) (*Terminal, error) {
 	return &Terminal{&terminalHandle{terminal, file}}, nil
 }
 
-// parameter makes a parameter for C. An int has to be one of 32 bits.
+// parameter makes a parameter for C. An int has to be one of 32 bits; another is strconv.ErrRange.
 func (t *texts) parameter(param any) (made C.struct_ti_parameter, err error) {
 	switch value := param.(type) {
 	case int:
 		if value < math.MinInt32 || value > math.MaxInt32 {
-			return made, BadParameter
+			return made, fmt.Errorf("a parameter is %d: %w", value, strconv.ErrRange)
 		}
 		made.number = C.int32_t(value)
 	case string:
@@ -370,8 +371,8 @@ func (t *texts) parameters(params []any) (*C.struct_ti_parameter, error) {
 	return at, nil
 }
 
-// Put sends a string by its name, with parameters that are ints, strings or bytes. It is false if
-// the terminal does not have the string.
+// Put sends a string by its name, with parameters that are ints of 32 bits, strings or bytes. It is
+// false if the terminal does not have the string.
 func (t *Terminal) Put(name string, params ...any) (bool, error) {
 	var held texts
 	defer held.free()

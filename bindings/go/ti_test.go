@@ -2,8 +2,10 @@ package ti
 
 import (
 	"bytes"
+	"errors"
 	"os"
 	"path/filepath"
+	"strconv"
 	"testing"
 )
 
@@ -64,7 +66,7 @@ func TestStringsAreSent(t *testing.T) {
 		}
 	}
 	for _, params := range [][]any{{1 << 31, 0}, {-1<<31 - 1, 0}} {
-		if sent, err := terminal.Put("cup", params...); sent || err != BadParameter {
+		if sent, err := terminal.Put("cup", params...); sent || !errors.Is(err, strconv.ErrRange) {
 			t.Error(params, sent, err)
 		}
 	}

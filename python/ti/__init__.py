@@ -86,6 +86,7 @@ class _Entry(ctypes.Structure):
     """An entry of the library: the last section is all of its bytes."""
 
     _fields_ = [("wide", ctypes.c_bool), ("sections", _Text * 6)]
+    kept: bytes
 
 
 class _Extension(ctypes.Structure):
@@ -220,11 +221,16 @@ def _unsigned(value: int, what: str) -> int:
     return _number(value, 0, 2**32 - 1, what)
 
 
+def _exact(value: bytes) -> bytes:
+    """The same bytes, of no subclass: one may give another length than it has."""
+    return b"".join((value,))
+
+
 def _bytes_of_name(name: str, what: str) -> bytes:
     """The bytes of a name. A text that is not valid has bytes that no name has."""
     if not isinstance(name, str):
         raise TypeError(f"{what} is a str, not {type(name).__name__}")
-    return name.encode(errors="surrogatepass")
+    return str.encode(name, errors="surrogatepass")
 
 
 def _names_of(kind: int) -> list[str]:
@@ -307,7 +313,7 @@ class String(bytes):
         return self.expanded(*parameters).padded(lines, rate)
 
     def _taken(self) -> _Parameters:
-        taken, data = _Parameters(), bytes(self)
+        taken, data = _Parameters(), _exact(self)
         _ti.ti_parameters_of(data, len(data), ctypes.byref(taken))
         return taken
 
@@ -321,7 +327,7 @@ class String(bytes):
 
     def _format(self) -> bytes:
         """The format that takes each parameter by its number."""
-        data = bytes(self)
+        data = _exact(self)
         return _written(data, lambda out, room: _ti.ti_named_format(data, len(data), out, room))
 
     def _check(self, parameters: tuple[Given, ...]) -> None:
@@ -331,7 +337,7 @@ class String(bytes):
             is_text = at < len(parameters) and not isinstance(parameters[at], int)
             if is_text != taken.strings[at]:
                 wanted = "a string" if taken.strings[at] else "a number"
-                raise TypeError(f"{bytes(self)!r}: parameter {at + 1} has to be {wanted}")
+                raise TypeError(f"{_exact(self)!r}: parameter {at + 1} has to be {wanted}")
 
     def expanded(self, *parameters: Given) -> String:
         """The bytes that drive the terminal for these parameters, with their delays as they are. A
@@ -342,7 +348,7 @@ class String(bytes):
         entry, data = self._entry, self._format()
         variables = entry._expansion_variables()
         expanded = _written(
-            bytes(self),
+            _exact(self),
             lambda out, room: _ti.ti_expand(
                 data, len(data), given, len(parameters), ctypes.byref(variables), out, room
             ),
@@ -354,19 +360,20 @@ class String(bytes):
     def padded(self, lines: int = 1, rate: int = 0) -> bytes:
         """The bytes with each padding as pad bytes, if it takes effect on `lines` lines and the
         line to the terminal has `rate` bits per second."""
-        line, data, affected = self._entry._line(rate), bytes(self), _unsigned(lines, "lines")
+        line, data, affected = self._entry._line(rate), _exact(self), _unsigned(lines, "lines")
         return _written(data, lambda out, room: _ti.ti_pad(data, len(data), affected, ctypes.byref(line), out, room))
 
     def timed(self, lines: int = 1, rate: int = 0) -> Iterator[tuple[bytes, float]]:
         """The bytes up to each delay, with its seconds, and the last bytes with 0.0: for programs
         that sleep where the terminal has no pad byte."""
         line, delay, affected = self._entry._line(rate), _Delay(), _unsigned(lines, "lines")
-        kept = ctypes.create_string_buffer(bytes(self), max(len(self), 1))
-        rest = _Text(ctypes.addressof(kept), len(self))
+        rest = _Text()
+        kept = _point(rest, _exact(self))
         while _ti.ti_first_delay(rest.bytes, rest.size, affected, ctypes.byref(line), ctypes.byref(delay)):
             yield delay.before.value(), delay.tenths / 10000
             rest = _Text(delay.after.bytes, delay.after.size)
         yield rest.value(), 0.0
+        del kept
 
 
 def _point(text: _Text, value: bytes) -> Any:
@@ -380,7 +387,7 @@ def _bytes_of(value: Union[str, bytes], what: str) -> bytes:
     """The bytes of a string that is given."""
     if not isinstance(value, (str, bytes)):
         raise TypeError(f"{what} is an int, bytes or a str, not {type(value).__name__}")
-    return value.encode(errors="surrogateescape") if isinstance(value, str) else bytes(value)
+    return str.encode(value, errors="surrogateescape") if isinstance(value, str) else _exact(value)
 
 
 def _fill(given: Any, value: Given) -> Any:
@@ -417,11 +424,12 @@ _Held = Union[bool, int, bytes]
 
 
 def _read(data: bytes) -> _Entry:
-    """The entry that bytes are, which points into them: they have to be kept as long."""
+    """The entry that bytes are, which points into them and keeps them."""
     if not isinstance(data, bytes):
         raise TypeError(f"an entry is read from bytes, not from {type(data).__name__}")
     entry = _Entry()
-    refusal = _ti.ti_entry_read(data, len(data), ctypes.byref(entry))
+    entry.kept = kept = _exact(data)
+    refusal = _ti.ti_entry_read(kept, len(kept), ctypes.byref(entry))
     if refusal:
         raise BadEntry(_sentence(refusal))
     return entry
@@ -476,7 +484,7 @@ class Entry(Mapping[str, Value]):
         _ti.ti_names(ctypes.byref(entry), ctypes.byref(text))
         self._names = text.value()
         self._values = {**dict(_table_values(entry)), **dict(_user_values(entry))}
-        self._data, self._variables, self._path = bytes(data), (0,) * _VARIABLES, None
+        self._data, self._variables, self._path = entry.kept, (0,) * _VARIABLES, None
 
     @classmethod
     def find(cls, name: Optional[str] = None) -> Entry:
@@ -508,8 +516,8 @@ class Entry(Mapping[str, Value]):
         items = list(dict(changes).items())
         given = (_Change * max(len(items), 1))()
         kept = [_fill_change(given[at], name, value) for at, (name, value) in enumerate(items)]
-        data, names = self._data, self._names
-        entry, extension, room = _read(data), _Extension(), ctypes.create_string_buffer(_ENTRY_MAX)
+        names = _exact(self._names)
+        entry, extension, room = _read(self._data), _Extension(), ctypes.create_string_buffer(_ENTRY_MAX)
         refusal = _ti.ti_extension_read(ctypes.byref(entry), ctypes.byref(extension))
         if refusal:
             raise BadEntry(_sentence(refusal))
@@ -533,8 +541,7 @@ class Entry(Mapping[str, Value]):
 
     def _line(self, rate: int) -> _Line:
         """The line to the terminal of the entry."""
-        line, data = _Line(), self._data
-        entry = _read(data)
+        line, entry = _Line(), _read(self._data)
         _ti.ti_line_of(ctypes.byref(entry), _unsigned(rate, "a rate"), ctypes.byref(line))
         return line
 

@@ -15,8 +15,28 @@ import threading
 
 import ti
 
+class LongBytes(bytes):
+    """Bytes that claim to be 16 megabytes."""
+
+    def __len__(self):
+        return 2**24
+
+    def __bytes__(self):
+        return self
+
+
+class LongText(str):
+    """A text that claims to be 16 megabytes."""
+
+    def encode(self, *_, **__):
+        return LongBytes(b"x")
+
+
 # an object of each type that an argument or an attribute is not to be
-GARBAGE = (None, -1, 2**80, 1.5, "x", b"x", b"\x1a\x01", [], {}, object(), ti.Entry, lambda: None)
+GARBAGE = (
+    None, -1, 2**80, 1.5, "x", b"x", b"\x1a\x01", [], {}, object(), ti.Entry, lambda: None, LongBytes(b"x"), LongText("x"),
+    LongBytes(ti.Entry.find("dumb").data),
+)
 
 
 def entry():
@@ -134,6 +154,32 @@ def changed_to_a_float():
 @refused(OverflowError)
 def changed_to_a_number_over_31_bits():
     entry().changed({"cols": 2**31})
+
+
+def bytes_with_another_length():
+    """A subclass is taken for the bytes that it has."""
+    data = entry().data
+    wanted = used(ti.Entry(data))
+    made = ti.Entry(LongBytes(data))
+    text = ti.String(LongBytes(b"%p1%d;%p2%s"), made)
+    changed = made.changed({LongText("XX"): LongBytes(b"y"), "YY": LongText("z")})
+    values = [text(1, LongBytes(b"a")), text(1, LongText("b")), changed["XX"], changed["YY"], made.flag(LongText("am"))]
+    return used(made) == wanted and type(made.data) is bytes and values == [b"1;a", b"1;b", b"y", b"z", True]
+
+
+class LongString(ti.String):
+    """A string that claims to be 16 megabytes."""
+
+    def __len__(self):
+        return 2**24
+
+    def __bytes__(self):
+        return LongBytes(b"x")
+
+
+def string_with_another_length():
+    text = LongString(b"%p1%d$<5>", entry())
+    return text.parameters == (int,) and text(7) == b"7" and list(text.expanded(7).timed()) == [(b"7", 0.005), (b"", 0.0)]
 
 
 @refused(TypeError)
@@ -351,7 +397,7 @@ ATTEMPTS = [
     string_of_an_entry_never_made, string_of_no_entry, string_never_made, deleted_twice, each_attribute_set,
     each_attribute_deleted, each_argument_garbage, subclasses, pickle_of_other_arguments, number_over_32_bits,
     number_below_32_bits, lines_below_0, rate_over_32_bits, kind_below_0, number_for_a_string, string_not_given,
-    string_for_a_number, name_with_a_nul, name_that_is_no_text, refused_names_say_why,
+    string_for_a_number, bytes_with_another_length, string_with_another_length, name_with_a_nul, name_that_is_no_text, refused_names_say_why,
     entry_freed_while_its_delays_are_read, threads, values_by_kind, number_asked_as_a_boolean, library_of_another_version,
 ]
 

@@ -32,7 +32,7 @@ tputs         its padding, compared with tputs (against_tputs.c)
 unibilium     these entries, compared with unibilium (against_unibilium.c)
 page          the example of ti(3) is compiled, and writes what the page says
 commands      the commands of docs/LIBRARY.md work on the installed library
-examples      the programs of README and docs/LIBRARY.md, and those of examples/, in C and Python
+examples      the programs of README, docs/LIBRARY.md and docs/TUTORIAL.md, and those of examples/, in C and Python
 python        the module of python/ti, compared with `curses` on every entry of the system
 garbage       no call of the module touches freed memory, whatever it is given (python_garbage.py)
 wheel         `pip install` of the wheel in a new virtual environment gives a module that runs
@@ -853,25 +853,31 @@ def check_examples(room):
     if (status, said) != (0, "256 colors\n"):
         faults.append(f"README's program: {status}, {said!r}")
     faults += library_page_faults(room, environment)
-    program = room.compile(os.path.join(TOP, "examples", "colours.c"))
+    ((text, name),) = programs_of("docs/TUTORIAL.md")
+    with open(room.path(name), "w", encoding="utf-8") as file:
+        file.write(text)
+    status, said = run([room.compile(room.path(name), *SANITIZE)], env=environment)
+    if status or not re.fullmatch(r"\033\[33m\033\[4(:3)?mhello\033\(B\033\[m", said):
+        faults.append(f"TUTORIAL.md: {status}, {said!r}")
+    program = room.compile(os.path.join(TOP, "examples", "palette.c"))
     status, said = run([program], env=environment)
     if status or "\033[38;5;200m" not in said or "\033[2;3H" not in said:
-        faults.append(f"colours.c: {status}, {said!r}")
+        faults.append(f"palette.c: {status}, {said!r}")
     styles = room.compile(os.path.join(TOP, "examples", "styles.c"), *SANITIZE)
     status, said = run([styles], env=environment, input=b"\033OAx\033[1;5Aq")
     if status or not said.startswith("\033[33morange\r\n\033(B\033[m") or "kcuu1\r\nkUP5\r\n" not in said:
         faults.append(f"styles.c: {status}, {said!r}")
-    script = [sys.executable, os.path.join(TOP, "examples", "colours.py")]
+    script = [sys.executable, os.path.join(TOP, "examples", "palette.py")]
     status, said = run(script, env=environment)
-    if status or said != "\033[38;5;200mcolour 200\n":
-        faults.append(f"colours.py: {status}, {said!r}")
+    if status or said != "\033[38;5;200mcolor 200\n":
+        faults.append(f"palette.py: {status}, {said!r}")
     directory, _ = dumb_entry(room)
     for terminal, wanted in (("no-such", "No terminal has the name"), ("dumb", "the terminal ")):
         given = {**environment, "TERMINFO": directory, "TERM": terminal}
         for words in ([program], script):
             status, said = run(words, env=given)
             name = os.path.basename(words[-1]).partition("-")[0]
-            if status != 1 or not said.startswith(f"colours{'.py' if words is script else ''}: {wanted}"):
+            if status != 1 or not said.startswith(f"palette{'.py' if words is script else ''}: {wanted}"):
                 faults.append(f"{name} on {terminal}: {status}, {said!r}")
     return faults
 

@@ -1,6 +1,6 @@
 /*
- * Prints what the functions of libtinfo answer that only ncurses's other libraries call, as far as
- * the library over libti has them. It is run with each of the two libraries.
+ * Prints what the functions of libtinfo answer that libncursesw.so.6 calls, as far as the library
+ * over libti has them. It is run with each of the two libraries.
  *
  *     internals NAME DIRECTORY        asks all of them of the terminal NAME; DIRECTORY is empty
  *     internals -abort                only _nc_err_abort

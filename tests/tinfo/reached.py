@@ -1,6 +1,5 @@
-"""Programs of curses, and ncurses's tools for entries: which internal symbols of ncurses's libtinfo
-they take, which of these functions they reach, and at which one they would end on the library over
-libti, as docs/TINFO.md lists them."""
+"""Programs of curses: which internal symbols of ncurses's libtinfo they take, which of these functions
+they reach, and at which one they would end on the library over libti, as docs/TINFO.md lists them."""
 
 import os
 import re
@@ -20,8 +19,8 @@ HEAD = (
 )
 CURSES = "import curses; window = curses.initscr(); window.addstr('text'); window.refresh(); window.getch(); curses.endwin()"
 TERMINFO = "import curses; curses.setupterm(); print(curses.tigetnum('cols'), curses.tigetstr('cup'))"
-# how the page names what is run; its words, in a directory with an empty file `empty` and the
-# source of an entry; and the keys that end it
+# how the page names what is run; its words, in a directory with an empty file `empty`; and the keys
+# that end it
 PROGRAMS = (
     ("nano", ("nano", "-I", "empty"), "\x18"),
     ("htop", ("htop",), "q"),
@@ -29,11 +28,7 @@ PROGRAMS = (
     ("mutt", ("mutt", "-n", "-F", "/dev/null", "-f", "empty"), "q"),
     ("`curses` of Python, a window", ("/usr/bin/python3", "-c", CURSES), "q"),
     ("`curses` of Python, `setupterm`", ("/usr/bin/python3", "-c", TERMINFO), ""),
-    ("infocmp", ("infocmp", "-1", "xterm"), ""),
-    ("tic", ("tic", "-c", "entry.ti"), ""),
-    ("toe", ("toe", "/lib/terminfo"), ""),
 )
-SOURCE = "entry|a terminal,\n\tam, cols#80, cr=\\r, bel=^G,\n"
 SECONDS = 120
 # the status of a program that is ended, and what it says then
 STOPPED = 99
@@ -143,9 +138,8 @@ def run(words, keys, more):
     with tempfile.TemporaryDirectory(prefix="ti-tinfo-") as directory:
         # mutt would ask for it
         os.mkdir(os.path.join(directory, "Mail"))
-        for name, text in (("empty", ""), ("entry.ti", SOURCE)):
-            with open(os.path.join(directory, name), "w", encoding="utf-8") as file:
-                file.write(text)
+        with open(os.path.join(directory, "empty"), "w", encoding="utf-8"):
+            pass
         status, _, said = on_terminal(words, {**environment(directory), **more}, SECONDS, keys=keys, directory=directory)
     return status, said
 

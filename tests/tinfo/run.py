@@ -14,16 +14,19 @@ errors       what setupterm and tgetent say of a terminal that they do not take 
 directories  which of several entries of a name is taken
 modes        the line to the terminal, keys and screens (modes.c), on a terminal of its own
 formats      strings that tgoto expands as termcap has them (formats.c)
-internals    what only ncurses's other libraries call (internals.c)
+internals    what libncursesw.so.6 calls (internals.c)
+searches     what only tic, infocmp and toe call: names, directories, messages (searches.c)
 damaged      damaged entries (damaged.c), under sanitizers
 memory       each allocation refused in turn (memory.c)
 bash, less, vim, tmux, zsh, fish, more, emacs, minicom, w3m, mg, tcsh, joe
              the program in a terminal, with each of the two libraries (screens.py)
-curses       a program of curses itself, or of libtic, does not begin
+curses       a program of curses itself does not begin
 reached      which internal functions of ncurses such programs reach, and which one would end each,
              as docs/TINFO.md says (reached.py)
 objects      which objects of Debian start, as docs/TINFO.md says (objects.py)
 tools        clear, tput, tset, reset and tabs on a terminal, with each of the two libraries (tools.py)
+entries      tic, infocmp and toe on every entry of the system, and on sources, with each of the two
+             libraries (entries.py)
 install      `make install-tinfo` puts everything into its place, and ti-run runs programs and leaves
              those that they start alone
 
@@ -46,6 +49,7 @@ HERE = os.path.dirname(os.path.abspath(__file__))
 sys.path.insert(0, os.path.dirname(HERE))
 from common import ENTRY_DIRECTORIES, TOP, Skipped, Tally, entry_file, files_below, need, text_of  # noqa: E402
 from terminals import on_terminal  # noqa: E402
+import entries  # noqa: E402
 import library  # noqa: E402
 import objects  # noqa: E402
 import reached  # noqa: E402
@@ -274,10 +278,6 @@ def expansion_class(ours, theirs, entry):
 def class_of(ours, theirs, entry):
     """The class of a difference, or None."""
     call = ours.partition(" ")[0]
-    if ours.startswith("tgetstr me "):
-        return "me of entries in which sgr and sgr0 differ" if {"sgr", "sgr0"} <= set(entry.strings) else None
-    if ours.startswith("type Numbers"):
-        return "cancelled numbers" if theirs.replace(" -2", " -1") == ours else None
     if call == "tputs":
         return padding_class(ours, theirs, entry)
     return expansion_class(ours, theirs, entry) if call in ("tparm", "tiparm", "tgoto") else None
@@ -566,6 +566,36 @@ def check_internals(room):
     return faults
 
 
+def need_compared_version():
+    """Skips a case about what only ncurses's libtic calls, which is not the same in each version."""
+    if not is_compared_version():
+        raise Skipped("ncurses is not of the version that the pages compare with")
+
+
+def check_entries(room):
+    need_compared_version()
+    return entries.faults(room, entries_of_system())
+
+
+def check_searches(room):
+    """The same is also asked of the library under sanitizers."""
+    need_compared_version()
+    program, sanitized = room.compile("searches"), room.compile("searches", *SANITIZE)
+    told = []
+    for tried, where in ((program, None), (program, room.libraries), (sanitized, room.sanitized_library())):
+        with tempfile.TemporaryDirectory(prefix="ti-tinfo-") as directory:
+            words = [tried, directory, "Tc", "AX", "RGB", "kDC3", "xm", "no-such", "lines", "li", "co", "x", ""]
+            status, said = run(words, env=environment(where, HOME="/home/none"))
+        told.append([f"status {status}", *said.split("\n")])
+    theirs, *others = told
+    faults = [] if theirs[0] == "status 1" else [f"with ncurses's: {theirs[-20:]}"]
+    for ours in others:
+        pairs = itertools.zip_longest(ours, theirs)
+        faults += [f"{one}, and ncurses's {other}" for one, other in pairs if one != other][:20]
+    print(f"    {len(theirs):,} lines")
+    return faults
+
+
 # Programs
 
 
@@ -581,13 +611,13 @@ def check_reached(room):
 
 def check_curses(room):
     """Programs that need more than the library has: the loader says so, and nothing is run."""
-    programs = [name for name in ("nano", "dialog", "htop", "mutt", "infocmp", "tic", "toe") if shutil.which(name)]
+    programs = [name for name in ("nano", "dialog", "htop", "mutt") if shutil.which(name)]
     if not programs:
         raise Skipped("no program of curses is installed")
     faults = []
     for name in programs:
         status, said = run([room.ti_run, name, "-v"], env=environment())
-        if status != 1 and status != 127 or "libtinfo.so.6" not in said or "ersion" not in said.split("libtinfo", 1)[1]:
+        if status != 127 or not re.search(r"undefined symbol: \w+, version NCURSES6_TINFO", said):
             faults.append(f"{name} -v: status {status}, {said!r}")
     return faults
 
@@ -680,8 +710,9 @@ def script_faults(installed, ti_run):
 CASES = {
     "symbols": check_symbols, "answers": check_answers, "sanitizers": check_sanitizers, "errors": check_errors,
     "directories": check_directories, "modes": check_modes, "formats": check_formats, "damaged": check_damaged,
-    "memory": check_memory, "internals": check_internals, "curses": check_curses, "reached": check_reached,
+    "memory": check_memory, "internals": check_internals, "searches": check_searches, "curses": check_curses, "reached": check_reached,
     "objects": check_objects, "tools": lambda room: tools.faults(room), "install": check_install,
+    "entries": check_entries,
 }
 
 

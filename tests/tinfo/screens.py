@@ -123,7 +123,7 @@ class Screen:
         return subprocess.run([*self.tmux, *words], stdout=subprocess.PIPE, stderr=subprocess.DEVNULL, check=True).stdout
 
     def capture(self):
-        """What is on the screen, with colours and attributes, and where the cursor is."""
+        """What is on the screen, with colors and attributes, and where the cursor is."""
         return self.run("capture-pane", "-p", "-e", ";", "display-message", "-p", "#{cursor_x},#{cursor_y}")
 
     def waits(self):

@@ -33,7 +33,7 @@ pub struct Error {
 impl Error {
     /// No directory has an entry of the name.
     pub const NO_TERMINAL: Error = Error { status: 10 };
-    /// The name has a byte that no name has.
+    /// No terminal, or no capability, can have the name.
     pub const BAD_NAME: Error = Error { status: sys::BAD_NAME };
     /// A parameter is a number where the string takes a string, or the other way round.
     pub const BAD_PARAMETER: Error = Error { status: 20 };
