@@ -1,7 +1,8 @@
 # ti, the terminfo toolkit. `make help` prints the targets: the lines of this head that begin with
 # two signs.
 #
-##   make            builds the program (proving every crate that it depends on)
+##   make            builds the programs ti, ti-everyday (ti-tic, ti-infocmp, ti-tput, ti-fmt and
+##                   ti-lint) and ti-lsp, proving every crate that they depend on
 ##   make help       prints this list
 ##   make check      checks a change without proofs
 ##   make test       runs every proof and test, as CI does
@@ -17,15 +18,12 @@
 ##   make library    builds the C library: libti.a, libti.so.2 and ti.pc
 ##   make tinfo      builds the C library and libtinfo.so.6 over it, for programs that
 ##                   are built for ncurses's
-##   make lsp        builds the language server, ti-lsp
-##   make everyday   builds ti-everyday, the program of ti-tic, ti-infocmp, ti-tput,
-##                   ti-fmt and ti-lint
+##   make program, make everyday, make lsp   build one of the programs: ti, ti-everyday, ti-lsp
 ##   make bench      measures the tools and ncurses's on the same work, and edits of lists
-##   make install    installs the program, its manual pages, README and docs, completions and
-##                   examples, and the highlighting for Vim, Neovim and Emacs, below DESTDIR
-##                   and PREFIX (which is /usr/local); with TOOLS=1 also ti-everyday, with its
-##                   links ti-tic, ti-infocmp, ti-tput, ti-fmt and ti-lint; the C library,
-##                   libtinfo.so.6 and the language server too, if they are built
+##   make install    installs what is built, and its pages, below DESTDIR and PREFIX (which is
+##                   /usr/local): ti, ti-everyday with its links, ti-lsp with the files for
+##                   editors, the C library and libtinfo.so.6; with completions, README, docs and
+##                   examples. Nothing is built, unless no program is
 ##   make install-library   installs only the C library, with its headers and page, into
 ##                   LIBDIR and INCLUDEDIR
 ##   make install-python    installs the module for Python, into PYTHONDIR
@@ -49,6 +47,7 @@ EXAMPLESDIR = $(DOCDIR)/examples
 VIMDIR ?= $(PREFIX)/share/vim/vimfiles
 NVIMDIR ?= $(PREFIX)/share/nvim/site
 EMACSDIR ?= $(PREFIX)/share/emacs/site-lisp
+LSPDIR ?= $(PREFIX)/share/ti-lsp
 LIBDIR ?= $(PREFIX)/lib
 INCLUDEDIR ?= $(PREFIX)/include
 PYTHONDIR ?= $(PREFIX)/lib/python3/dist-packages
@@ -62,16 +61,23 @@ EXAMPLES = $(wildcard examples/*)
 # lead to the examples, and those to what is not below DOCDIR become their words
 DOCS = README.md SECURITY.md $(wildcard docs/*.md docs/*.svg)
 LINKS = -e 's!\]\((\.\./)?editors/!](\1examples/editors/!g' \
-	-e 's!\[([^]]*)\]\((\.\./)?(man|include|bindings|CHANGELOG|CONTRIBUTING|LICENSE)[^)]*\)!\1!g'
+	-e 's!\[([^]]*)\]\((\.\./)?(man|include|bindings|CHANGELOG|CONTRIBUTING|LICENSE)[^)]*\)!\1!g' \
+	-e 's!/usr/share/doc/ti\>!$(DOCDIR)!g' -e 's!/usr/share/ti-lsp\>!$(LSPDIR)!g'
+# what README says to those who have the sources is not installed
+OF_SOURCES = -e '/^<!-- sources -->$$/,/^<!-- installed -->$$/d'
 # what is for one editor and runs as it is, and what a user copies
 VIM_FILES = $(patsubst editors/vim/%,%,$(wildcard editors/vim/*/terminfo.vim))
 EDITORS = $(wildcard $(addprefix editors/,*.el *.json *.lua *.toml *.vim *.xml textmate/* vim/*/* vscode/*))
 EDITOR_DIRS = vscode textmate vim/syntax vim/ftplugin vim/ftdetect vim
-PAGES = man/ti.1 man/ti-profile-tic.1 man/ti-profile-infocmp.1 man/ti-profile-tput.1 \
-	man/ti-session.1 man/ti-everyday.1 man/ti-tic.1 man/ti-infocmp.1 man/ti-tput.1 \
-	man/ti-fmt.1 man/ti-lint.1 man/ti-report.7 man/ti-hints.7
 # the links to ti-everyday
 TOOL_NAMES = ti-tic ti-infocmp ti-tput ti-fmt ti-lint
+# the pages of each program, and those of all
+PAGES_OF_PROGRAM = man/ti.1 man/ti-profile-tic.1 man/ti-profile-infocmp.1 man/ti-profile-tput.1 man/ti-session.1
+PAGES_OF_EVERYDAY = man/ti-everyday.1 $(TOOL_NAMES:%=man/%.1)
+PAGES_OF_ALL = man/ti-report.7 man/ti-hints.7
+PAGES = $(PAGES_OF_PROGRAM) $(PAGES_OF_EVERYDAY) $(PAGES_OF_ALL) man/ti-lsp.1
+PAGES_THERE = $(PAGES_OF_ALL) $(if $(wildcard $(PROGRAM)),$(PAGES_OF_PROGRAM)) \
+	$(if $(wildcard $(EVERYDAY)),$(PAGES_OF_EVERYDAY)) $(if $(wildcard $(LSP)),man/ti-lsp.1)
 LIBRARY = crates/ti_c/out/lib
 HEADERS = ti.h ti.hpp ti_names.h
 # what ti.h declares: each name leads to the page
@@ -86,12 +92,15 @@ TINFO_FILES = $(TINFODIR)/libtinfo.so.6 $(TINFODIR)/ti-run.so $(BINDIR)/ti-run $
 PC_VALUES = -e 's|@PREFIX@|$(PREFIX)|' -e 's|@LIBDIR@|$(LIBDIR)|' -e 's|@INCLUDEDIR@|$(INCLUDEDIR)|'
 
 .PHONY: all help check test cli editor integration package hostile audit library tinfo lsp
-.PHONY: everyday bench newcomers
-.PHONY: install install-library install-python install-tinfo
+.PHONY: program everyday bench newcomers
+.PHONY: install install-built install-program install-everyday install-lsp install-editors install-docs
+.PHONY: install-library install-python install-tinfo
 .PHONY: uninstall uninstall-library uninstall-python uninstall-tinfo
 .PHONY: dist deb wheel release reproduce
 
-all:
+all: program everyday lsp
+
+program:
 	./ti --help >/dev/null
 
 help:
@@ -103,22 +112,22 @@ check:
 test:
 	tests/run
 
-cli: all everyday
+cli: program everyday
 	python3 tests/cli/run.py
 
 editor: lsp everyday
 	python3 tests/editor/run.py
 
-integration: all lsp everyday
+integration: all
 	python3 tests/integration/run.py
 
-package: all everyday
+package: program everyday
 	python3 tests/package/run.py
 
-newcomers: all lsp tinfo everyday
+newcomers: all tinfo
 	python3 tests/newcomers/run.py
 
-hostile: all lsp
+hostile: program lsp
 	python3 build/build.py dev_probe
 	python3 tests/hostile/run.py --all
 
@@ -142,24 +151,39 @@ bench: all
 	python3 build/build.py dev_bench
 	python3 bench/run.py
 
-# A program that is built is installed as it is, so that root needs no toolchain.
+# What is built is installed as it is, so that root needs no toolchain.
 install:
-	test -x $(PROGRAM) || ./ti --help >/dev/null
-	install -d "$(DESTDIR)$(BINDIR)" "$(DESTDIR)$(MANDIR)/man1" "$(DESTDIR)$(MANDIR)/man7"
-	install -d "$(DESTDIR)$(BASHDIR)" "$(DESTDIR)$(ZSHDIR)" "$(DESTDIR)$(FISHDIR)" "$(DESTDIR)$(EXAMPLESDIR)"
-	install -m 755 $(PROGRAM) "$(DESTDIR)$(BINDIR)/ti"
-	for page in $(PAGES); do \
-		install -m 644 "$$page" "$(DESTDIR)$(MANDIR)/man$${page##*.}/$${page##*/}" || exit 1; \
+	test -x $(PROGRAM) || test -x $(EVERYDAY) || test -x $(LSP) || $(MAKE) all
+	$(MAKE) -s install-built
+
+install-built: $(if $(wildcard $(PROGRAM)),install-program) $(if $(wildcard $(EVERYDAY)),install-everyday)
+install-built: $(if $(wildcard $(LSP)),install-lsp) $(if $(wildcard $(LIBRARY)/libti.a),install-library)
+install-built: $(if $(wildcard $(TINFO)),install-tinfo) install-editors install-docs
+
+install-program:
+	install -D -m 755 $(PROGRAM) "$(DESTDIR)$(BINDIR)/ti"
+	install -D -m 644 completions/ti.bash "$(DESTDIR)$(BASHDIR)/ti"
+	install -D -m 644 completions/_ti "$(DESTDIR)$(ZSHDIR)/_ti"
+	install -D -m 644 completions/ti.fish "$(DESTDIR)$(FISHDIR)/ti.fish"
+
+install-everyday:
+	install -D -m 755 $(EVERYDAY) "$(DESTDIR)$(BINDIR)/ti-everyday"
+	install -D -m 644 completions/ti.bash "$(DESTDIR)$(BASHDIR)/ti"
+	install -D -m 644 completions/_ti "$(DESTDIR)$(ZSHDIR)/_ti"
+	install -D -m 644 completions/ti.fish "$(DESTDIR)$(FISHDIR)/ti.fish"
+	for tool in $(TOOL_NAMES); do \
+		ln -sf ti-everyday "$(DESTDIR)$(BINDIR)/$$tool"; \
+		ln -sf ti "$(DESTDIR)$(BASHDIR)/$$tool"; \
+		ln -sf ti.fish "$(DESTDIR)$(FISHDIR)/$$tool.fish"; \
 	done
-	install -m 644 completions/ti.bash "$(DESTDIR)$(BASHDIR)/ti"
-	install -m 644 completions/_ti "$(DESTDIR)$(ZSHDIR)/_ti"
-	install -m 644 completions/ti.fish "$(DESTDIR)$(FISHDIR)/ti.fish"
-	install -m 644 $(EXAMPLES) "$(DESTDIR)$(EXAMPLESDIR)"
-	install -d "$(DESTDIR)$(DOCDIR)/docs"
-	for file in $(DOCS) examples/README.md; do \
-		sed -E $(LINKS) "$$file" >"$(DESTDIR)$(DOCDIR)/$$file" && \
-		chmod 644 "$(DESTDIR)$(DOCDIR)/$$file" || exit 1; \
-	done
+
+# the extension of Visual Studio Code takes the server on the PATH
+install-lsp:
+	install -D -m 755 $(LSP) "$(DESTDIR)$(BINDIR)/ti-lsp"
+	install -d "$(DESTDIR)$(LSPDIR)"
+	python3 -B build/extension.py "$(DESTDIR)$(LSPDIR)/ti-lsp.vsix"
+
+install-editors:
 	for file in $(EDITORS); do \
 		install -D -m 644 "$$file" "$(DESTDIR)$(EXAMPLESDIR)/$$file" || exit 1; \
 	done
@@ -168,21 +192,17 @@ install:
 		install -D -m 644 "editors/vim/$$file" "$(DESTDIR)$(NVIMDIR)/$$file" || exit 1; \
 	done
 	install -D -m 644 editors/terminfo-mode.el "$(DESTDIR)$(EMACSDIR)/terminfo-mode.el"
-ifeq ($(TOOLS),1)
-	test -x $(EVERYDAY) || $(MAKE) everyday
-	install -m 755 $(EVERYDAY) "$(DESTDIR)$(BINDIR)/ti-everyday"
-	for tool in $(TOOL_NAMES); do \
-		ln -sf ti-everyday "$(DESTDIR)$(BINDIR)/$$tool"; \
-		ln -sf ti "$(DESTDIR)$(BASHDIR)/$$tool"; \
-		ln -sf ti.fish "$(DESTDIR)$(FISHDIR)/$$tool.fish"; \
+
+install-docs:
+	for page in $(PAGES_THERE); do \
+		install -D -m 644 "$$page" "$(DESTDIR)$(MANDIR)/man$${page##*.}/$${page##*/}" || exit 1; \
 	done
-endif
-	if test -f $(LIBRARY)/libti.a; then $(MAKE) -s install-library; fi
-	if test -f $(TINFO); then $(MAKE) -s install-tinfo; fi
-	if test -x $(LSP); then \
-		install -m 755 $(LSP) "$(DESTDIR)$(BINDIR)/ti-lsp" && \
-		install -m 644 man/ti-lsp.1 "$(DESTDIR)$(MANDIR)/man1/ti-lsp.1" || exit 1; \
-	fi
+	install -d "$(DESTDIR)$(EXAMPLESDIR)" "$(DESTDIR)$(DOCDIR)/docs"
+	install -m 644 $(EXAMPLES) "$(DESTDIR)$(EXAMPLESDIR)"
+	for file in $(DOCS) examples/README.md; do \
+		sed -E $(OF_SOURCES) $(LINKS) "$$file" >"$(DESTDIR)$(DOCDIR)/$$file" && \
+		chmod 644 "$(DESTDIR)$(DOCDIR)/$$file" || exit 1; \
+	done
 
 install-library:
 	test -f $(LIBRARY)/libti.a || $(MAKE) library
@@ -214,7 +234,8 @@ install-tinfo:
 	install -m 644 man/ti-run.1 "$(DESTDIR)$(MANDIR)/man1/ti-run.1"
 
 uninstall: uninstall-library uninstall-python uninstall-tinfo
-	rm -f "$(DESTDIR)$(BINDIR)/ti" "$(DESTDIR)$(BINDIR)/ti-lsp" "$(DESTDIR)$(MANDIR)/man1/ti-lsp.1"
+	rm -f "$(DESTDIR)$(BINDIR)/ti" "$(DESTDIR)$(BINDIR)/ti-lsp" "$(DESTDIR)$(LSPDIR)/ti-lsp.vsix"
+	rmdir "$(DESTDIR)$(LSPDIR)" 2>/dev/null || true
 	for page in $(PAGES); do \
 		rm -f "$(DESTDIR)$(MANDIR)/man$${page##*.}/$${page##*/}"; \
 	done
@@ -250,13 +271,13 @@ dist:
 	git archive --format=tar.gz --prefix=ti-$(VERSION)/ -o ti-$(VERSION).tar.gz HEAD
 	@echo ti-$(VERSION).tar.gz
 
-deb: all lsp library tinfo everyday
+deb: all library tinfo
 	python3 build/packages.py deb
 
 wheel: library
 	python3 build/wheel.py
 
-release: all lsp library tinfo everyday
+release: all library tinfo
 	python3 build/packages.py release
 
 reproduce:

@@ -22,12 +22,14 @@ OUT = "{out}"
 
 
 class Work(NamedTuple):
-    """Some work: its name, the commands of `ti` and of ncurses, and the file for their input."""
+    """Some work: its name, the commands of ours and of ncurses, the file for their input, and whether
+    both have to end well and write something."""
 
     name: str
     ours: list
     theirs: list
     given: str = os.devnull
+    is_compared: bool = True
 
     def writes_files(self):
         return OUT in self.ours

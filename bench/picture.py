@@ -15,10 +15,10 @@ from repository import TOP, text_of  # noqa: E402
 PICTURE = os.path.join(TOP, "docs", "speed.svg")
 HEAD = """| Work | `ti`, ms | ncurses, ms | Ratio | Ratio of instructions |
 |---|---:|---:|---:|---:|"""
-RATIOS = ("Ratio", "Ratio of instructions")
-BARS = (("#73d216", "wall-clock time of ti (shorter is better)"), ("#3465a4", "instructions of ti"))
-# in pixels: where bars begin, how long one is that means as much as ncurses, and how high a bar is
-LEFT, FULL, HIGH = 300, 400, 16
+TIMES = ("`ti`, ms", "ncurses, ms")
+BARS = (("#73d216", "ti"), ("#babdb6", "ncurses"))
+# in pixels: where bars begin, how long that of ncurses is, and how high a bar is
+LEFT, FULL, HIGH = 340, 400, 16
 
 
 def cells(line):
@@ -27,16 +27,16 @@ def cells(line):
 
 
 def rows_at_a_glance():
-    """The rows of the table: the name of the work, and both ratios."""
+    """The rows of the table: the name of the work, and the milliseconds of both."""
     section = text_of("docs", "PERFORMANCE.md").split("\n## At a glance\n")[1].split("\n## ")[0]
     head, _, *rows = [cells(line) for line in section.split("\n") if line.startswith("|")]
-    at = [head.index(name) for name in RATIOS]
+    at = [head.index(name) for name in TIMES]
     return [(row[0], *(float(row[column]) for column in at)) for row in rows]
 
 
 def row(measure):
     """A row of the table."""
-    took, their_time = (f"{1000 * seconds:.{1 if seconds >= 0.01 else 2}f}" for seconds in measure.seconds)
+    took, their_time = (shown(1000 * seconds) for seconds in measure.seconds)
     ratios = (measure.ratio(measure.seconds), measure.ratio(measure.instructions))
     return f"| {measure.name} | {took} | {their_time} | " + " | ".join(f"{ratio:.2f}" for ratio in ratios) + " |"
 
@@ -45,26 +45,31 @@ def text(x, y, says, anchor="start"):
     return f'<text x="{x:.0f}" y="{y}" text-anchor="{anchor}">{escape(says)}</text>'
 
 
-def bar(y, ratio, colour):
-    """A bar, and its number after it."""
-    size = f'width="{FULL * ratio:.0f}" height="{HIGH - 2}"'
-    yield f'<rect x="{LEFT}" y="{y}" {size} fill="{colour}"/>'
-    yield text(LEFT + FULL * ratio + 6, y + HIGH - 4, f"{ratio:.2f}")
+def shown(milliseconds):
+    """Milliseconds as the table has them."""
+    return f"{milliseconds:.{1 if milliseconds >= 10 else 2}f}"
+
+
+def bar(y, part, milliseconds, color):
+    """A bar, and its time after it."""
+    size = f'width="{FULL * part:.0f}" height="{HIGH - 2}"'
+    yield f'<rect x="{LEFT}" y="{y}" {size} fill="{color}"/>'
+    yield text(LEFT + FULL * part + 6, y + HIGH - 4, f"{shown(milliseconds)} ms")
 
 
 def drawn(rows):
-    """The picture: for each work a bar of time and one of instructions."""
-    y, lines = 40, [text(LEFT, 20, "0"), text(LEFT + FULL, 20, "as much as ncurses", "middle")]
-    for work, *ratios in rows:
+    """The picture: for each work a bar of our time and one of ncurses's, which is of the same length for
+    all."""
+    y, lines = 16, []
+    for work, *times in rows:
         lines.append(text(LEFT - 10, y + HIGH - 4, work.replace("`", ""), "end"))
-        for ratio, (colour, _) in zip(ratios, BARS):
-            lines += bar(y, ratio, colour)
+        for taken, (color, _) in zip(times, BARS):
+            lines += bar(y, taken / times[1], taken, color)
             y += HIGH
         y += 10
-    lines.append(f'<line x1="{LEFT + FULL}" y1="26" x2="{LEFT + FULL}" y2="{y}" stroke="#888" stroke-dasharray="4"/>')
-    for at, (colour, says) in enumerate(BARS):
-        lines.append(f'<rect x="{LEFT + 260 * at}" y="{y + 8}" width="12" height="12" fill="{colour}"/>')
-        lines.append(text(LEFT + 260 * at + 18, y + 19, says))
+    for at, (color, says) in enumerate(BARS):
+        lines.append(f'<rect x="{LEFT + 120 * at}" y="{y + 8}" width="12" height="12" fill="{color}"/>')
+        lines.append(text(LEFT + 120 * at + 18, y + 19, says))
     width, height = LEFT + FULL + 80, y + 32
     size = f'width="{width}" height="{height}" viewBox="0 0 {width} {height}"'
     head = f'<svg xmlns="http://www.w3.org/2000/svg" {size} font-family="sans-serif" font-size="12">'

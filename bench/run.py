@@ -4,6 +4,7 @@
     bench/run.py [PART..]      the parts named, or all but `glance`
 
 glance    the rows of the first table of docs/PERFORMANCE.md alone, some three minutes
+daily     the tools for daily use: `ti-tic`, `ti-lint`, `ti-infocmp` and `ti-tput`
 entries   sources of many entries, compiled into files: 1,800 of 1.1 KB each with the same items;
           1,800 of which no two have a string in common; 1,800 of which 1,500 have a use; 2,000
           small ones; and 1,000 of which all but the first use one before them
@@ -23,7 +24,7 @@ If each row of that table was measured, it is printed and docs/speed.svg is draw
 ncurses's own source is misc/terminfo.src of ncurses; the variable MASTER names the file, and
 without it what is about that source is left out.
 
-The first four print rows of one table: the median wall-clock time of ten runs (of a hundred if no
+The first five print rows of one table: the median wall-clock time of ten runs (of a hundred if no
 files are written), by hyperfine if it is installed, and instructions by valgrind's callgrind, if
 that is installed. Each run writes into a directory of its own, in memory if there is /dev/shm. Both
 tools must have written the same files, but for those of names that are too long for `ti`; of tput
@@ -48,7 +49,7 @@ from measuring import OUT, Room, Work, clock, files_written, measure, run  # noq
 
 from repository import entry_file, program_of  # noqa: E402
 
-PROGRAM = program_of("ti")
+PROGRAM, EVERYDAY = program_of("ti"), program_of("ti_everyday")
 MACHINE = program_of("dev_bench")
 MASTER = os.environ.get("MASTER")
 TERMINAL = "xterm-256color"
@@ -116,6 +117,28 @@ def tools(room):
         yield name, lambda name=name, given=given: Work(name, [PROGRAM, *words], words, given)
 
 
+def daily(room):
+    if not os.access(EVERYDAY, os.X_OK):
+        NOTES.append("the tools for daily use: left out, since ti-everyday is not built: make everyday")
+        return
+    ours = lambda tool, *words: [EVERYDAY, f"ti-{tool}", *words]
+    if MASTER:
+        name = "`ti-tic -x -o`, ncurses's own source"
+        yield name, lambda name=name: Work(name, ours("tic", "-x", "-o", OUT, MASTER), ["tic", "-x", "-o", OUT, MASTER])
+        # they find other mistakes
+        name = "`ti-lint -x`, ncurses's own source, and `tic -c -x`"
+        yield name, lambda name=name: Work(name, ours("lint", "-x", MASTER), ["tic", "-c", "-x", MASTER], is_compared=False)
+    else:
+        NOTES.append("ncurses's own source: left out, since MASTER does not name it")
+    name = f"`ti-infocmp -x {TERMINAL}`"
+    yield name, lambda name=name: Work(name, ours("infocmp", "-x", TERMINAL), ["infocmp", "-x", TERMINAL])
+    words = ["-T", TERMINAL]
+    name = "`ti-tput setaf 200`"
+    yield name, lambda name=name: Work(name, ours("tput", *words, "setaf", "200"), ["tput", *words, "setaf", "200"])
+    given, name = room.write("lines", b"cup 4 9\n" * 10_000), "`ti-tput -S`, 10,000 lines `cup 4 9`"
+    yield name, lambda name=name: Work(name, ours("tput", *words, "-S"), ["tput", *words, "-S"], given)
+
+
 def long_names(source):
     """The files of the entries whose names field is too long for `ti`, which reports them."""
     found = set()
@@ -136,6 +159,8 @@ def check(room, work):
         if ours - theirs or theirs - ours - left_out or not ours:
             few = sorted((ours ^ theirs) - left_out)[:5]
             FAULTS.append(f"{work.name}: one tool alone writes {', '.join(few)} ..")
+        return True
+    if not work.is_compared:
         return True
     ours, theirs = (run(words, work.given) for words in (work.ours, work.theirs))
     # listings differ in layout and in what ncurses says of its file
@@ -171,7 +196,7 @@ def compare_all(works, room):
 
 def glance(room):
     """Compares the rows of the first table of docs/PERFORMANCE.md."""
-    makers = dict((*entries(room), *system(room), *tools(room)))
+    makers = dict((*daily(room), *entries(room), *system(room), *tools(room)))
     for name, *_ in picture.rows_at_a_glance():
         if name in makers:
             compare(room, makers[name]())
@@ -184,7 +209,7 @@ def show_glance():
         return
     print(f"\nThe first table of docs/PERFORMANCE.md, drawn into docs/speed.svg:\n\n{picture.HEAD}")
     print("\n".join(picture.row(one) for one in taken))
-    picture.draw([(one.name, one.ratio(one.seconds), one.ratio(one.instructions)) for one in taken])
+    picture.draw([(one.name, *(1000 * seconds for seconds in one.seconds)) for one in taken])
 
 
 def machine(_room):
@@ -251,12 +276,13 @@ def rates(room):
 
 
 PARTS = {
+    "daily": lambda room: compare_all(daily, room),
     "entries": lambda room: compare_all(entries, room), "system": lambda room: compare_all(system, room),
     "tools": lambda room: compare_all(tools, room), "edits": edits, "editor": editor, "rates": rates,
     "machine": machine, "glance": glance,
 }
 HEADS = {
-    "glance": TOOLS_HEAD, "entries": TOOLS_HEAD, "system": TOOLS_HEAD, "tools": TOOLS_HEAD,
+    "glance": TOOLS_HEAD, "daily": TOOLS_HEAD, "entries": TOOLS_HEAD, "system": TOOLS_HEAD, "tools": TOOLS_HEAD,
     "edits": EDITS_HEAD, "editor": EDITOR_HEAD,
 }
 

@@ -6,7 +6,7 @@ import subprocess
 from repository import TOP
 
 # what of a program is in C, by the name of its crate
-FILES = {"ti_everyday": f"{TOP}/window/window.c"}
+FILES = {"ti_everyday": [f"{TOP}/window/window.c", f"{TOP}/window/modes.c"]}
 FLAGS = [
     "-std=gnu99", "-O2", "-fPIC", "-fvisibility=hidden", "-Wall", "-Wextra", "-Wpedantic", "-Wshadow",
     "-Wformat=2", "-Werror=format-security", "-fstack-protector-strong", "-fstack-clash-protection",
@@ -21,7 +21,7 @@ def compiler():
 
 def files_in_c(name):
     """What of a program is in C."""
-    return [FILES[name]] if name in FILES else []
+    return FILES.get(name, [])
 
 
 def compile_objects(name, directory):

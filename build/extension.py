@@ -1,12 +1,16 @@
 """The extension of Visual Studio Code as a package that an editor installs: a `.vsix`, which is a zip
 archive of a manifest, the types of the files, and the files below `extension/`.
 
-It holds the client and the grammar of editors/, and the built server, so it is of one platform.
+    build/extension.py FILE    writes one without a server, which takes the server on the PATH
+
+It holds the client and the grammar of editors/. That of a release has the built server too, and so
+is of one platform.
 """
 
 import io
 import json
 import os
+import sys
 import time
 import zipfile
 from xml.sax.saxutils import escape, quoteattr
@@ -22,6 +26,8 @@ TYPES = {
 }
 SERVER = "extension/bin/ti-lsp"
 SCHEMA = "http://schemas.microsoft.com/developer/vsx-schema/2011"
+# the time of all files, if none is given: the earliest that a zip archive has
+EPOCH = 315532800
 OF_CODE = "Microsoft.VisualStudio.Code"
 OF_SERVICES = "Microsoft.VisualStudio.Services"
 
@@ -31,7 +37,7 @@ def platform():
     return PLATFORMS.get(machine, f"linux-{machine}")
 
 
-def manifest(about):
+def manifest(about, has_server):
     """What an editor reads first of the package."""
     properties = {
         f"{OF_CODE}.Engine": about["engines"]["vscode"],
@@ -46,8 +52,9 @@ def manifest(about):
     }
     identity = {
         "Language": "en-US", "Id": about["name"], "Version": about["version"], "Publisher": about["publisher"],
-        "TargetPlatform": platform(),
     }
+    if has_server:
+        identity["TargetPlatform"] = platform()
     words = " ".join(f"{name}={quoteattr(value)}" for name, value in identity.items())
     return "\n".join([
         '<?xml version="1.0" encoding="utf-8"?>',
@@ -74,13 +81,13 @@ def manifest(about):
     ])
 
 
-def content_types():
+def content_types(has_server):
     """The type of each file, by the ending of its name."""
     return "\n".join([
         '<?xml version="1.0" encoding="utf-8"?>',
         '<Types xmlns="http://schemas.openxmlformats.org/package/2006/content-types">',
         *(f'<Default Extension=".{ending}" ContentType="{kind}"/>' for ending, kind in TYPES.items()),
-        f'<Override PartName="/{SERVER}" ContentType="application/octet-stream"/>',
+        *([f'<Override PartName="/{SERVER}" ContentType="application/octet-stream"/>'] if has_server else []),
         "</Types>",
         "",
     ])
@@ -91,15 +98,16 @@ def bytes_of(*parts):
         return file.read()
 
 
-def extension(when):
-    """The package's bytes, for a built server; `when` is the time of all its files."""
+def extension(when, has_server=True):
+    """The package's bytes, with the built server or without; `when` is the time of all its files."""
     about = json.loads(bytes_of(SOURCES, "package.json"))
     files = {
-        "[Content_Types].xml": content_types().encode(),
-        "extension.vsixmanifest": manifest(about).encode(),
+        "[Content_Types].xml": content_types(has_server).encode(),
+        "extension.vsixmanifest": manifest(about, has_server).encode(),
         "extension/LICENSE.txt": bytes_of(TOP, "LICENSE-MIT") + b"\n" + bytes_of(TOP, "LICENSE-APACHE"),
-        SERVER: bytes_of(program_of("ti_lsp")),
     }
+    if has_server:
+        files[SERVER] = bytes_of(program_of("ti_lsp"))
     shipped = [name for name in os.listdir(SOURCES) if name.endswith((".js", ".json", ".md"))]
     files.update({f"extension/{name}": bytes_of(SOURCES, name) for name in shipped})
     for grammar in about["contributes"]["grammars"]:
@@ -113,3 +121,16 @@ def extension(when):
             member.external_attr = (0o100755 if name == SERVER else 0o100644) << 16
             packed.writestr(member, files[name])
     return made.getvalue()
+
+
+def main():
+    if len(sys.argv) != 2:
+        print(__doc__, file=sys.stderr)
+        return 2
+    with open(sys.argv[1], "wb") as file:
+        file.write(extension(int(os.environ.get("SOURCE_DATE_EPOCH", EPOCH)), has_server=False))
+    return 0
+
+
+if __name__ == "__main__":
+    sys.exit(main())

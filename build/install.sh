@@ -20,6 +20,10 @@ install)
         mkdir -p "$target/$(dirname "$link")"
         ln -sf "$(readlink "$link")" "$target/$link"
     done
+    # the pages name the directories of examples
+    find share/doc -name '*.md' 2>/dev/null | while read -r page; do
+        sed "s|/usr/share/|${PREFIX:-/usr/local}/share/|g" "$page" >"$target/$page"
+    done
     # pkg-config has to find the library in its new place
     if [ -f lib/pkgconfig/ti.pc ]; then
         sed "s|=/usr|=${PREFIX:-/usr/local}|" lib/pkgconfig/ti.pc >"$target/lib/pkgconfig/ti.pc"
@@ -34,7 +38,7 @@ uninstall)
     find bin include lib share -type f -o -type l 2>/dev/null | while read -r file; do
         rm -f "$target/$file"
     done
-    find "$target/share/doc/ti" -depth -type d -exec rmdir {} + 2>/dev/null || true
+    find "$target/share/doc/ti" "$target/share/ti-lsp" -depth -type d -exec rmdir {} + 2>/dev/null || true
     ;;
 *)
     echo "usage: [DESTDIR=DIR] [PREFIX=DIR] ./install.sh [uninstall]" >&2

@@ -1,8 +1,8 @@
 #!/usr/bin/env python3
 """Makes what a release consists of, from the built program, into a directory, or packages/.
 
-    build/packages.py deb [DIRECTORY]        the packages of debian/control, by debhelper: ti,
-                                             libti2, libti-dev, libti-tinfo and python3-ti
+    build/packages.py deb [DIRECTORY]        the packages of debian/control, by debhelper: ti, ti-lsp,
+                                             ti-doc, libti2, libti-dev, libti-tinfo and python3-ti
     build/packages.py release [DIRECTORY]    ti-VERSION-ARCH-linux.tar.gz with install.sh and
                                              README, the source as ti-VERSION.tar.gz, the module for
                                              Python as ti_terminfo-VERSION-py3-none-PLATFORM.whl if
@@ -135,9 +135,17 @@ def make_deb(made):
 # The archives of a release
 
 
+# what README of the archive says before all that an installed one says
+BEFORE = """
+`./install.sh` installs below `/usr/local`, and `PREFIX=DIR ./install.sh` below another directory.
+`./install.sh uninstall` removes all.
+"""
+
+
 def readme_at_top(text):
-    """README as it is installed, with links that lead from the top of the archive."""
-    return re.sub(r"\]\((?!\w+:)", "](share/doc/ti/", text)
+    """README as it is installed, with links that lead from the top of the archive, and how to install it."""
+    head, rest = re.sub(r"\]\((?!\w+:|#)", "](share/doc/ti/", text).split("\n", 1)
+    return f"{head}\n{BEFORE}{rest}"
 
 
 def make_release(made):
@@ -147,7 +155,7 @@ def make_release(made):
     machine = f"{name}-{os.uname().machine}-linux"
     with tempfile.TemporaryDirectory(prefix="ti-release-") as room:
         tree = os.path.join(room, machine)
-        install(os.path.join(room, "stage"), "PREFIX=/usr", "TOOLS=1")
+        install(os.path.join(room, "stage"), "PREFIX=/usr")
         shutil.move(os.path.join(room, "stage", "usr"), tree)
         readme = text_of(tree, "share", "doc", "ti", "README.md")
         write(os.path.join(tree, "README.md"), readme_at_top(readme).encode())

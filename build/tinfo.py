@@ -6,8 +6,9 @@
                                        has libti.so.2, from `make library`
     build/tinfo.py --names DIRECTORY   writes only the tables of names, names.h and names.c
 
-The names of capabilities are those of crates/ti_caps, and their variables and codes of termcap
-those of crates/ti_names. It uses the C compiler that CC names, or cc.
+The names of capabilities are those of crates/ti_caps, their variables and codes of termcap those
+of crates/ti_names, and the codes of keys those that tinfo/keys.c names. It uses the C compiler
+that CC names, or cc.
 """
 
 import glob
@@ -66,7 +67,30 @@ def table(name, words):
     return f"EXPORTED const char *const {name}[] = {{\n" + "\n".join([*lines, line]) + "\n};\n"
 
 
+def codes_of_keys():
+    """The code of each key, by its name, such as KEY_UP."""
+    text, codes = text_of("tinfo", "keys.c"), {}
+    for table_name, first in ("first", "BREAK"), ("later", "DL"):
+        start = int(re.search(rf"KEY_{first} = (0\d+)", text)[1], 8)
+        rows = re.search(rf"\b{table_name}\[\] = {{(.*?)}};", text, re.S)[1]
+        codes |= {name: start + at for at, name in enumerate(re.findall(r'"(KEY_\w+)"', rows))}
+    start = int(re.search(r"KEY_F0 = (0\d+)", text)[1], 8)
+    return codes | {f"KEY_F{at}": start + at for at in range(64)}
+
+
+def keys_table():
+    """The text of a table of the strings that are keys, by their variables, with the codes of the keys."""
+    codes = codes_of_keys()
+    strings = sorted((word, at) for at, word in enumerate(variables_of("str")) if word.startswith("key_"))
+    rows = "".join(f"    {{ {at}, {codes[word.upper()]:#o} }},\n".replace("0o", "0") for word, at in strings)
+    return f"{KEYS}{rows}    {{ 0, 0 }},\n}};\n"
+
+
 WRITTEN = "/* Written by build/tinfo.py. */\n"
+KEYS = """EXPORTED const struct tinfo_fkeys {
+    unsigned index, code;
+} _nc_tinfo_fkeys[] = {
+"""
 HEAD = WRITTEN + """#ifndef NAMES_H
 #define NAMES_H
 #define EXPORTED __attribute__((visibility("default")))
@@ -86,6 +110,7 @@ def names_header():
 def names_tables():
     """The text of names.c."""
     parts = [WRITTEN + '#include <stddef.h>\n\n#include "names.h"\n']
+    parts.append(keys_table())
     for kind in KINDS:
         names = names_of(kind)
         for suffix, words in ("names", names), ("codes", codes_of(kind)), ("fnames", variables_of(kind)):

@@ -98,7 +98,7 @@ _ti_tic() {
     elif [[ $current != -* ]]; then
         _ti_files -f
     elif [[ -n $everyday ]]; then
-        _ti_options -c -s -x -e -o
+        _ti_options -c -s -x -e -o -D
     else
         _ti_options -c -o
     fi

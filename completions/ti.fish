@@ -189,6 +189,7 @@ complete -c ti-tic -s s -d 'Print how many entries were written, and where'
 complete -c ti-tic -s x -d 'Compile user-defined capabilities'
 complete -c ti-tic -s e -x -d 'Write only blocks with one of these comma-separated names'
 complete -c ti-tic -s o -x -a '(__fish_complete_directories)' -d 'Write below this directory'
+complete -c ti-tic -s D -d 'Print the directories into which entries may be written'
 
 complete -c ti-infocmp -f -a '(__ti_infocmp_names)'
 complete -c ti-infocmp -n __ti_types_path -F

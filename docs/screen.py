@@ -4,7 +4,7 @@
     docs/screen.py
 
 It runs Neovim in tmux, with the files of editors/ as they are and the built `ti-lsp`, takes the pane
-with its colours, and has the library `rich` (Debian's python3-rich) draw it. Nothing of the picture
+with its colors, and has the library `rich` (Debian's python3-rich) draw it. Nothing of the picture
 is written by hand.
 """
 
@@ -25,20 +25,22 @@ SERVER = program_of("ti_lsp")
 EDITORS = os.path.join(TOP, "editors")
 PICTURE = os.path.join(TOP, "docs", "editor.svg")
 TITLE = "Neovim with a terminfo source: its errors and warnings, what a capability is, and the fixes that ti-lsp offers"
-COLUMNS, LINES = 100, 32
-SECONDS = 20
+COLUMNS, LINES = 100, 34
+SECONDS = 60
 SOURCE = r"""# a terminal with some mistakes in it
 base|what mine begins with,
 	cr=\r, kf1=\q,
 mine|my terminal,
-	am, cols#8o, lines=24,
-	bel=^G, clear=\E[H\E[2J, colo-r#8,
-	use=base, use=vt0,
+	am, cols#8o, bel=^G, kf2=\400,
+	clear=\E[H\E[2J, colo-r#8,
+	use=base,
+	lines=24,
 """
 # how many errors and warnings it has
 FAULTS = 5
 # The errors and warnings are listed below the source, each with its whole message. The cursor goes
-# to such an item: its hover information is shown, and last the fixes that are offered.
+# to the last of them, so that its hover information covers none: it is shown, and then the fixes
+# that are offered.
 SETTINGS = """
 vim.o.background, vim.o.ruler, vim.o.showcmd, vim.o.showmode, vim.o.laststatus = 'light', false, false, false, 0
 vim.o.fillchars, vim.o.number, vim.o.cmdheight = 'eob: ', true, 4
@@ -46,26 +48,26 @@ vim.cmd('highlight NormalFloat ctermbg=255 | highlight FloatBorder ctermfg=8 cte
 vim.cmd('highlight SignColumn ctermbg=none | highlight VertSplit cterm=none | highlight QuickFixLine ctermbg=none')
 vim.cmd('highlight StatusLineNC cterm=underline | highlight StatusLine cterm=underline')
 vim.diagnostic.config({ virtual_text = false, severity_sort = false })
-vim.wait(20000, function() return #vim.diagnostic.get(0) >= COUNT end, 20)
+vim.wait(60000, function() return #vim.diagnostic.get(0) >= COUNT end, 20)
 local source = vim.api.nvim_get_current_win()
 vim.diagnostic.setloclist({ open = true })
 vim.wo.wrap, vim.wo.linebreak, vim.wo.number = true, true, false
 vim.api.nvim_set_current_win(source)
-vim.api.nvim_win_set_height(source, 13)
-vim.api.nvim_win_set_cursor(source, { 5, 15 })
+vim.api.nvim_win_set_height(source, 15)
+vim.api.nvim_win_set_cursor(source, { 8, 3 })
 vim.lsp.handlers['textDocument/hover'] = vim.lsp.with(vim.lsp.handlers.hover, { border = 'single' })
 vim.lsp.buf.hover()
-vim.wait(20000, function() return #vim.api.nvim_list_wins() == 3 end, 20)
+vim.wait(60000, function() return #vim.api.nvim_list_wins() == 3 end, 20)
 vim.cmd('redraw')
 vim.lsp.buf.code_action()
 """.replace("COUNT", str(FAULTS))
 SHOWN_LAST = "Type number and"
-# the colours of the terminal: paper, ink, eight colours, and their bright ones
+# the colors of the terminal: paper, ink, eight colors, and their bright ones
 PAPER, INK = (255, 255, 255), (36, 41, 47)
-COLOURS = [
+COLORS = [
     (36, 41, 47), (194, 24, 43), (26, 127, 55), (154, 103, 0), (5, 80, 174), (130, 80, 223), (27, 124, 131), (208, 215, 222),
 ]
-BRIGHT = [(87, 96, 106), *COLOURS[1:7], (243, 245, 247)]
+BRIGHT = [(87, 96, 106), *COLORS[1:7], (243, 245, 247)]
 # rich's own form of a picture, without its frame and without fonts of the network
 FORM = """<svg xmlns="http://www.w3.org/2000/svg" viewBox="0 0 {width} {height}">
 <title>TITLE</title>
@@ -98,18 +100,18 @@ def drawn(lines):
 
     while lines and not lines[-1].strip():
         lines.pop()
-    # rich does not know the colour of the line below letters
+    # rich does not know the color of the line below letters
     lines = [re.sub(r"\x1b\[58[;:][0-9;:]*m", "", line) for line in lines]
     with open(os.devnull, "w", encoding="utf-8") as nowhere:
         console = Console(record=True, width=COLUMNS, file=nowhere, color_system="truecolor", force_terminal=True)
         console.print(Text.from_ansi("\n".join(lines)), no_wrap=True, crop=True, highlight=False)
-    theme = TerminalTheme(PAPER, INK, COLOURS, BRIGHT)
+    theme = TerminalTheme(PAPER, INK, COLORS, BRIGHT)
     picture = console.export_svg(theme=theme, code_format=FORM, unique_id="screen")
     return "\n".join(line.rstrip() for line in picture.split("\n"))
 
 
 def captured(room):
-    """The lines of the pane, with their colours, once all is shown."""
+    """The lines of the pane, with their colors, once all is shown."""
     for name, text in (("mine.ti", SOURCE), ("settings.lua", SETTINGS)):
         with open(os.path.join(room, name), "w", encoding="utf-8") as file:
             file.write(text)

@@ -1,6 +1,6 @@
 ;;; terminfo-mode.el --- Major mode for terminfo source  -*- lexical-binding: t -*-
 
-;; Version: 1.0.0
+;; Version: 1.1.0
 ;; Package-Requires: ((emacs "27.1"))
 ;; SPDX-License-Identifier: MIT OR Apache-2.0
 

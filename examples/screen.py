@@ -1,4 +1,4 @@
-"""Clears the screen and writes a word in colour, by the module of python/ti: python3 screen.py"""
+"""Clears the screen and writes a word in color, by the module of python/ti: python3 screen.py"""
 
 import sys
 

@@ -47,6 +47,7 @@ ROWS = {
         ["ti infocmp no-such", "ti tput -T no-such cols"], {},
         "[ ! -e /lib/terminfo/x/xterm ] || ti infocmp xterm",
     ),
+    "error: unexpected argument '-x' found": (["ti tic -x dumb.ti", "ti infocmp -x dumb"], {"FILE": "dumb.ti", "TERM": "dumb"}, ""),
     "no terminal named": (["ti tput cols", "ti infocmp"], {}, "ti tput cols"),
     "write fault of ti tic FILE": (["ti tic dumb.ti"], {"FILE": "dumb.ti"}, "ti infocmp dumb"),
     "write fault of other commands": ([f"{ENTRIES} ti infocmp dumb >/dev/full"], {}, ""),

@@ -1,5 +1,6 @@
 """Calls of tput, which are in the file `calls` and say where their streams lead: each is run by two
-programs on a terminal whose window has another size than the entry's."""
+programs on a terminal whose window has another size than the entry's, and the modes of its line are
+compared too."""
 
 import fcntl
 import os
@@ -22,6 +23,15 @@ KNOWN = {
     "usage": "the text about bad usage is another, the status is the same",
     "words": "words next to -S are refused, and ignored by ncurses",
 }
+# modes of the line before a call, by the value of MODES: what becomes of the flags of input, output
+# and the line, and of the control characters
+MODES = {
+    "none": (lambda flags: 0, lambda character: character),
+    "all": (lambda flags: 0o77777 & ~termios.TOSTOP, lambda character: character),
+    "unset": (lambda flags: flags, lambda character: b"\0"),
+}
+# these are numbers where a line is not read in lines
+NUMBERS = (termios.VMIN, termios.VTIME)
 ESCAPES = {"\\n": "\n", "\\r": "\r", "\\t": "\t", "\\v": "\v"}
 ENDS = 20
 
@@ -36,17 +46,19 @@ class Call:
         words = shlex.split(command)
         at = words.index("tput")
         self.variables = dict(word.split("=", 1) for word in words[:at])
+        self.modes = self.variables.pop("MODES", None)
         self.words = words[at:]
         self.input = re.sub(r"\\[nrtv]", lambda found: ESCAPES[found[0]], typed or "").encode()
 
     def run(self, program):
-        """What a program writes to output and error, and its status."""
+        """What a program writes to output, error and the terminal, its status, and the modes of the line
+        after it."""
         master, slave = pty.openpty()
         try:
-            fcntl.ioctl(slave, termios.TIOCSWINSZ, struct.pack("HHHH", *WINDOW, 0, 0))
+            set_window(slave)
             modes = termios.tcgetattr(slave)
             modes[1] &= ~termios.OPOST
-            termios.tcsetattr(slave, termios.TCSANOW, modes)
+            termios.tcsetattr(slave, termios.TCSANOW, changed(modes, *MODES[self.modes]) if self.modes else modes)
             kinds = {"t": slave, "p": subprocess.PIPE, "n": subprocess.DEVNULL}
             done = subprocess.Popen(
                 self.words, executable=program, start_new_session=True,
@@ -55,10 +67,23 @@ class Call:
             )
             typed = self.input if self.streams[0] == "p" else None
             output, error = done.communicate(typed, timeout=ENDS)
-            return output, error, shown(master), done.returncode
+            return output, error, shown(master), done.returncode, termios.tcgetattr(slave)
         finally:
             os.close(master)
             os.close(slave)
+
+
+def set_window(terminal):
+    """Gives a terminal the size of the window."""
+    fcntl.ioctl(terminal, termios.TIOCSWINSZ, struct.pack("HHHH", *WINDOW, 0, 0))
+
+
+def changed(modes, flags, character):
+    """The modes of a line with other flags and control characters."""
+    for at in (0, 1, 3):
+        modes[at] = flags(modes[at])
+    modes[6] = [old if at in NUMBERS else character(old) for at, old in enumerate(modes[6])]
+    return modes
 
 
 def shown(master):
@@ -78,8 +103,8 @@ def calls():
 
 def named_alike(result):
     """A result with the name that messages begin with replaced by that of ncurses's."""
-    output, error, written, status = result
-    return output, error and re.sub(rb"^ti-tput: ", b"tput: ", error), written, status
+    output, error, *others = result
+    return output, error and re.sub(rb"^ti-tput: ", b"tput: ", error), *others
 
 
 def compare(ours, theirs):

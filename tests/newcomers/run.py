@@ -8,10 +8,11 @@ debootstrap, with Debian's packages that the pages ask for. The cases:
 
 packager     the ways of README to install and to remove ti; all packages, with their own tests
              (debian/tests) and the alternatives of docs/COMPARED.md; nothing is left over
-author       who writes the entry of a terminal: the commands of README, examples/README.md,
-             docs/TROUBLESHOOTING.md and the manual pages, as the package has them and as a user who
-             is not root; Neovim shows the errors and warnings of a source, set up by docs/EDITORS.md
-             and by ti-lsp(1)
+author       who writes the entry of a terminal: with README alone ti-tic, ti-lint and Neovim work
+             within MINUTES from the package; then the commands of docs/TUTORIAL.md,
+             examples/README.md, docs/TROUBLESHOOTING.md and the manual pages, as the package has
+             them and as a user who is not root; Neovim shows the errors and warnings of a source,
+             set up by README, docs/EDITORS.md and ti-lsp(1)
 programmer   the programs of README, docs/LIBRARY.md, ti(3) and examples/, in C, C++ and Python,
              built and run as the pages say; the wheel in an environment of its own, once the
              packages are removed
@@ -29,6 +30,7 @@ import shutil
 import subprocess
 import sys
 import tempfile
+import time
 from concurrent.futures import ThreadPoolExecutor
 
 from debian import ENTER, Room, System  # puts the directories of the following modules on the path
@@ -39,10 +41,9 @@ from common import TOP, Skipped, Tally, commands_of, need, programs_of, text_of
 from shared import INSTALLED_PAGES, install_command
 
 DOC = "usr/share/doc/ti"
-# what is tried after an installation from source, which does not have the tools for daily use
-SCRIPT = "ti tic -o out dumb.ti && TERMINFO=out ti infocmp dumb | head -n 1 && TERMINFO=out ti tput -T dumb cols"
-PRINTED = "dumb|80-column dumb tty,\n80\n"
 TERM = "xterm-256color"
+# how long the first tasks may take with README alone
+MINUTES = 5
 
 
 def inline(page, beginning):
@@ -65,7 +66,7 @@ def tree_of_repository(directory):
 def try_alternatives(room):
     """Puts ti-tput in the place of tput by the commands of docs/COMPARED.md, and tput back."""
     (command,) = commands_of("docs/COMPARED.md", "## In place of ncurses's tools")
-    version = f"ti-tput {packages.version()}\n"
+    version = f"ti-tput {packages.version()} (in the place of ncurses 6.4)\n"
     room.root_does(command)
     room.wants(command, room.root_does("/usr/local/bin/tput --version"), version)
     command = inline("docs/COMPARED.md", "update-alternatives --remove")
@@ -76,16 +77,15 @@ def try_alternatives(room):
 def try_ways(room):
     """Installs in each way of README, runs the tools, and removes them as README says."""
     tree_of_repository(room.path("source"))
-    of_packages = (packages.SCRIPT, packages.PRINTED)
     ways = (
-        ("", install_command("dpkg -i"), "dpkg -r", *of_packages),
-        ("", install_command("install.sh"), f"ti-{packages.version()}-x86_64-linux/install.sh", *of_packages),
-        ("cd source && ", install_command("make install"), "make uninstall", SCRIPT, PRINTED),
+        ("", install_command("dpkg -i"), "dpkg -r"),
+        ("", install_command("install.sh"), f"ti-{packages.version()}-x86_64-linux/install.sh"),
+        ("cd source && ", install_command("make install"), "make uninstall"),
     )
-    for at, (place, install, removal, script, printed) in enumerate(ways):
+    for at, (place, install, removal) in enumerate(ways):
         room.root_does(place + install)
         room.root_does(f"mkdir way{at} && cp source/examples/dumb.ti way{at}")
-        room.wants(f"the tools after {install}", room.root_does(f"cd way{at} && {script}"), printed)
+        room.wants(f"the tools after {install}", room.root_does(f"cd way{at} && {packages.SCRIPT}"), packages.PRINTED)
         if removal == "dpkg -r":
             try_alternatives(room)
         room.root_does(place + inline("README.md", removal))
@@ -123,18 +123,18 @@ vim.cmd('qa!')
 
 def try_transcripts(room):
     """Runs the commands of pages as they are installed, and compares what they print."""
-    shutil.copy(transcript.__file__, room.path("transcript.py"))
     room.user_does("mkdir pages")
     for page in INSTALLED_PAGES:
         packed = os.path.join(room.system.root, "usr/share/man", f"man{page[-1]}", f"{page}.gz")
         with gzip.open(packed, "rt", encoding="utf-8") as file:
             room.write(f"pages/{page}", file.read())
-    room.wants("README", room.user_does(f"python3 transcript.py /{DOC}/README.md"), "")
+    work = "mkdir walk && cd walk && python3 ../transcript.py"
+    room.wants("docs/TUTORIAL.md", room.user_does(f"{work} /{DOC}/docs/TUTORIAL.md && rm -r ../walk"), "")
     room.wants("examples/README.md", room.user_does("cd examples && python3 ../transcript.py README.md"), "")
     for page in INSTALLED_PAGES:
         command = f"mkdir walk && cp /{DOC}/examples/*.ti walk && cd walk && python3 ../transcript.py ../pages/{page}"
         room.wants(page, room.user_does(f"{command} && rm -r ../walk"), "")
-    print(f"    the commands of README, examples/README.md and {len(INSTALLED_PAGES)} manual pages")
+    print(f"    the commands of docs/TUTORIAL.md, examples/README.md and {len(INSTALLED_PAGES)} manual pages")
 
 
 def try_base(room):
@@ -152,35 +152,58 @@ def neovim_files(room):
     link, place = re.search(r"^\| Neovim[^|]*\| \[[^]]*\]\(([^)]*)\) \| `~/([^`]*)`", text_of(docs, "EDITORS.md"), re.M).groups()
     yield "docs/EDITORS.md", place, text_of(docs, link)
     page = room.path("pages", "ti-lsp.1")
-    settings = next(lines for lines in transcript.blocks(page) if lines[0].startswith("vim.api"))
+    settings = next(lines for lines in transcript.blocks(page) if lines[0].startswith("dofile"))
     yield "ti-lsp(1)", ".config/nvim/init.lua", "\n".join(settings) + "\n"
 
 
-def try_neovim(room):
-    """
-    Opens README's first source in Neovim, which has to show the errors and warnings that README shows, but for a
-    user-defined name, which is not unknown to the server (W1): it shows a hint (N8).
-    """
-    command, shown = next(pair for pair in transcript.commands(os.path.join(TOP, "README.md")) if "tic -c" in pair[0])
-    room.user_does(command.replace("| ti tic -c", ">source.ti"))
-    lines = [re.sub(r"^(\d+): (\w+) .*", r"\1 \2", line) for line in shown.split("\n") if line]
-    wanted = "".join(f"{re.sub(' W1$', ' N8', line)}\n" for line in lines)
+def wanted_of_readme():
+    """README's first source, and the lines and codes that README shows for it."""
+    pairs = list(transcript.commands(os.path.join(TOP, "README.md")))
+    source = next(command for command, _ in pairs if command.startswith("cat >"))
+    checked, shown = next(pair for pair in pairs if pair[0].startswith("ti-lint "))
+    name = checked.split()[-1]
+    found = re.findall(rf"^{re.escape(name)}:(\d+):\d+: .* \[(\w+) \w+\]$", shown, re.M)
+    return source, name, "".join(f"{line} {code}\n" for line, code in found)
+
+
+def try_neovim(room, ways):
+    """Opens README's first source in Neovim, set up in some ways, which has to show the errors and warnings that
+    README shows for it."""
+    source, name, wanted = wanted_of_readme()
     room.write("show.lua", SHOW.replace("COUNT", str(wanted.count("\n"))))
-    for at, (page, place, text) in enumerate(neovim_files(room)):
-        room.write(f"home{at}/{place}", text)
-        room.user_does(f"mkdir -p home{at}")
-        got = room.user_does("nvim --headless -n -i NONE source.ti -c 'luafile show.lua'", HOME=f"/room/home{at}")
+    for at, (page, set_up) in enumerate(ways):
+        room.user_does(f"mkdir home{at}")
+        home = f"/room/home{at}"
+        set_up(at, home)
+        room.user_does(source, HOME=home)
+        got = room.user_does(f"nvim --headless -n -i NONE {name} -c 'luafile show.lua'", HOME=home)
         room.wants(f"Neovim by {page}", got, wanted)
-    print(f"    Neovim by {at + 1} pages")
+    print(f"    Neovim by {', '.join(page for page, _ in ways)}")
+
+
+def try_readme(room):
+    """Does with README alone what an author does first: what is installed has its commands."""
+    room.wants("README", room.user_does(f"python3 transcript.py /{DOC}/README.md"), "")
+    commands = " && ".join(commands_of("README.md", "## In an editor"))
+    try_neovim(room, [("README", lambda _, home: room.user_does(commands, HOME=home))])
 
 
 def check_author(system):
     room = Room(system, "author")
+    began = time.monotonic()
     room.root_does(install_command("dpkg -i"))
+    shutil.copy(transcript.__file__, room.path("transcript.py"))
+    try_readme(room)
+    seconds = time.monotonic() - began
+    print(f"    with README alone: {seconds:.0f} seconds")
+    if seconds > 60 * MINUTES:
+        room.faults.append(f"the first tasks took {seconds:.0f} seconds")
+    room.user_does("rm -r home0 out mine.ti")
     room.user_does(inline("examples/README.md", "cp -r"))
     try_transcripts(room)
     try_base(room)
-    try_neovim(room)
+    files = list(neovim_files(room))
+    try_neovim(room, [(page, lambda at, _, file=file: room.write(f"home{at}/{file[0]}", file[1])) for page, *file in files])
     room.root_does(inline("README.md", "dpkg -r"))
     return room.faults
 
@@ -189,7 +212,7 @@ def check_author(system):
 
 # the programs of examples/, and what each writes on a terminal of 256 colors
 PROGRAMS_OF_EXAMPLES = {
-    "colours.c": "\033[38;5;200m", "styles.c": "\033[33morange\r\n", "colours.py": "\033[38;5;200mcolour 200",
+    "palette.c": "\033[38;5;200m", "styles.c": "\033[33morange\r\n", "palette.py": "\033[38;5;200mcolor 200",
     "screen.py": "\033[32m",
 }
 
@@ -208,6 +231,7 @@ def check_programmer(system):
     room.write("colors.c", re.search(r"^```c\n(.*?)^```", text_of("README.md"), re.S | re.M)[1])
     room.user_does(inline("README.md", "cc colors.c"))
     room.wants("README's program", room.user_does("./a.out", TERM=TERM), "256 colors\n")
+    try_program_of_tutorial(room)
     page = text_of("man", "ti.3")
     room.write("width.c", "\n".join(next(transcript.blocks(os.path.join(TOP, "man", "ti.3")))) + "\n")
     room.user_does(re.search(r"^\.Ql (cc width\.c .*?) ?\.?$", page, re.M)[1])
@@ -217,9 +241,20 @@ def check_programmer(system):
         printed = room.user_does(command, TERM=TERM)
         if shown not in printed:
             room.faults.append(f"{command}: printed {printed[:400]!r}")
-    room.root_does(f"dpkg --purge {' '.join(name for name in packages.PACKAGES if name != 'ti' and 'tinfo' not in name)}")
+    room.root_does("dpkg --purge libti-dev libti2 python3-ti")
     try_wheel(room)
     return room.faults
+
+
+def try_program_of_tutorial(room):
+    """Builds and runs the program of docs/TUTORIAL.md, on a terminal without true color."""
+    ((text, name),) = programs_of("docs/TUTORIAL.md")
+    room.write(name, text)
+    build, run = commands_of("docs/TUTORIAL.md", "## Use it in a program")
+    room.user_does(build)
+    printed = room.user_does(f"./{run.partition('./')[2]}", TERM=TERM)
+    if not re.fullmatch(r"\033\[33m\033\[4(:3)?mhello\033\(B\033\[m", printed):
+        room.faults.append(f"the program of docs/TUTORIAL.md printed {printed!r}")
 
 
 def try_wheel(room):

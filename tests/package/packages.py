@@ -12,8 +12,8 @@ import tempfile
 import zipfile
 
 from shared import (
-    EVERYDAY_TOOLS, HAS_LSP, INSTALLED_PAGES, TOP, Skipped, files_below, install_command, need, output,
-    text_of, ti,
+    EVERYDAY_TOOLS, HAS_LSP, INSTALLED_PAGES, PAGES_OF_TI, TOP, Skipped, files_below, install_command,
+    need, output, text_of, ti,
 )
 
 MAKER = os.path.join(TOP, "build", "packages.py")
@@ -41,7 +41,9 @@ OF_LIBRARY = (
     "/man3/ti_open.3.gz",
 )
 # the packages of debian/control, sorted
-PACKAGES = ["libti-dev", "libti-tinfo", "libti2", "python3-ti", "ti"]
+PACKAGES = ["libti-dev", "libti-tinfo", "libti2", "python3-ti", "ti", "ti-doc", "ti-lsp"]
+# how many kilobytes the package for users may have installed
+KILOBYTES_OF_TI = 2000
 LIBRARY = os.path.join(TOP, "crates", "ti_c", "out", "lib")
 HAS_LIBRARY = os.path.exists(os.path.join(LIBRARY, "libti.a"))
 HAS_TINFO = os.path.exists(os.path.join(LIBRARY, "ti", "libtinfo.so.6"))
@@ -85,7 +87,7 @@ def check_install():
     """Whether `make install` installs all of it, and `make uninstall` removes it again."""
     need("make")
     with tempfile.TemporaryDirectory(prefix="ti-package-") as directory:
-        words = ["make", "-s", f"DESTDIR={directory}", "PREFIX=/usr", "TOOLS=1"]
+        words = ["make", "-s", f"DESTDIR={directory}", "PREFIX=/usr"]
         said = output([*words, "install"], cwd=TOP)
         if said:
             yield f"make install says {said!r}"
@@ -99,7 +101,8 @@ def check_install():
         wanted += [f"usr/share/{place}/syntax/terminfo.vim" for place in ("vim/vimfiles", "nvim/site")]
         wanted += ["usr/share/emacs/site-lisp/terminfo-mode.el"]
         wanted += ["usr/bin/ti-lsp"] if HAS_LSP else []
-        editors = files_below(os.path.join(TOP, "editors")) if HAS_LSP else []
+        wanted += ["usr/share/ti-lsp/ti-lsp.vsix"] if HAS_LSP else []
+        editors = files_below(os.path.join(TOP, "editors"))
         wanted += [f"usr/share/doc/ti/examples/editors/{name}" for name in editors]
         wanted += [f"usr/share/doc/ti/examples/{name}" for name in os.listdir(os.path.join(TOP, "examples"))]
         for name in sorted(set(wanted) - set(installed)):
@@ -271,19 +274,20 @@ def check_deb():
         for name in names:
             unpacked = os.path.join(room, name.split("_")[0])
             output(["dpkg-deb", "-x", os.path.join(made, name), unpacked])
+            if name.startswith("ti"):
+                output(["dpkg-deb", "-x", os.path.join(made, name), os.path.join(room, "all")])
             if name.startswith("ti_"):
-                yield from dead_links(os.path.join(unpacked, "usr", "share", "doc", "ti"))
-                pages = [name for name in files_below(unpacked) if "/man/man" in name]
-                if len(pages) != len(INSTALLED_PAGES):
-                    yield f"{name} has the pages {pages}"
-                yield from program_faults(name, unpacked, os.path.join(unpacked, "usr", "bin"))
+                yield from faults_of_ti(os.path.join(made, name), unpacked)
+        # ti, ti-lsp and ti-doc together: a script of all programs, and links between their pages
+        yield from program_faults("the packages", os.path.join(room, "all"), os.path.join(room, "all", "usr", "bin"))
+        yield from dead_links(os.path.join(room, "all", "usr", "share", "doc", "ti"))
         need("lintian")
         for name in names:
             words = ["lintian", "--allow-root", "--no-tag-display-limit", os.path.join(made, name)]
             for line in output(words).split("\n"):
                 if re.match("[EW]: ", line):
                     yield line
-        if [name.split("_")[0] for name in names] != PACKAGES:
+        if sorted(name.split("_")[0] for name in names) != PACKAGES:
             yield f"the packages are {names}"
             return
         yield from library_faults(os.path.join(room, "libti2"), os.path.join(room, "libti-dev"))
@@ -292,6 +296,16 @@ def check_deb():
         libraries = os.path.join(room, "libti2", "usr", "lib")
         shared = next(name for name in files_below(libraries) if name.endswith("libti.so.2"))
         yield from python_faults("python3-ti", modules, os.path.dirname(os.path.join(libraries, shared)))
+
+
+def faults_of_ti(package, unpacked):
+    """What is wrong with the pages and the size of the package ti."""
+    pages = [name for name in files_below(unpacked) if "/man/man" in name]
+    if len(pages) != len(PAGES_OF_TI):
+        yield f"ti has the pages {pages}"
+    size = int(output(["dpkg-deb", "-f", package, "Installed-Size"]))
+    if size > KILOBYTES_OF_TI:
+        yield f"ti takes {size} KB installed, over {KILOBYTES_OF_TI}"
 
 
 def extension_faults(path, room):

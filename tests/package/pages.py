@@ -20,6 +20,8 @@ WIDTH = 100
 AVOIDED = re.compile(
     r"\b(behind|besides?|folders?|mend(?:s|ed)?|stands?|want of memory|processor time|by the clock)\b", re.I
 )
+# lines of Markdown that may be longer: rows of tables, and what a tool reports of a source
+FREE = re.compile(r"\||\S+:\d+:\d+: (error|warning|note): ")
 # turns of phrase that pages say more plainly, over lines: "is no number" for "is not a number", "tells"
 # and "is answered" of programs, "so is the other"
 IDIOMS = re.compile(
@@ -123,11 +125,11 @@ def idiom_faults(path):
 
 def check_markdown():
     """Whether pages have the links that they need, which lead to files; lines keep to the width,
-    but for rows of tables; words are plain; the pictures are drawn from what they show."""
+    but for rows of tables and reports; words are plain; the pictures are drawn from what they show."""
     for page in markdown_pages():
         yield from link_faults(page)
         if page != GENERATED:
-            yield from line_faults(page, lambda line: line.startswith("|"))
+            yield from line_faults(page, FREE.match)
             yield from idiom_faults(page)
     for path in PLAIN:
         yield from idiom_faults(path)

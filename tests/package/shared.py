@@ -28,6 +28,8 @@ PAGES_OF_ALL = [*PAGES, "ti-run.1"]
 # the language server and its page are installed if it is built
 HAS_LSP = os.access(LSP, os.X_OK)
 INSTALLED_PAGES = [page for page in PAGES if HAS_LSP or page != "ti-lsp.1"]
+# that page is of another package
+PAGES_OF_TI = [page for page in PAGES if page != "ti-lsp.1"]
 
 
 def output(words, stdin="", **more):

@@ -24,7 +24,7 @@ pub(crate) struct Tool<'a> {
 }
 
 // What the program is, in its help.
-const TI_ABOUT: &str = "ti 1.0.0: tools for terminfo, the database of terminals.";
+const TI_ABOUT: &str = "ti 1.1.0: tools for terminfo, the database of terminals.";
 
 // What follows the options in the help of the program.
 const TI_NOTES: &str = "\

@@ -8,7 +8,7 @@ from .answers import (
 from .base import Meaning
 from .caps import FIND, FLAG, KINDS, NAMES_OF, NUMBER, TEXT
 from .listing import written
-from .source import NAMES_MAX, WHITE, read, unescape
+from .source import NAMES_MAX, NUMBER_MAX, WHITE, number_of, read, unescape
 from .texts import offset_of
 
 MOST = 3
@@ -64,12 +64,22 @@ def known(folded, where, start, end):
     return renamed(folded[start:name], span_of(where, start, name), others)
 
 
+def fits_kind(kind, value, raw):
+    """Whether a capability of a kind is read with its sign before a value, which comes without the
+    white space at its end, and as it is."""
+    if kind == FLAG:
+        return value == b""
+    if kind == TEXT:
+        return value != b"" and unescape(raw)[2] is None
+    number = number_of(value) if re.fullmatch(rb"[0-9]+", value) else None
+    return number is not None and number <= NUMBER_MAX
+
+
 def signed(folded, where, start, end):
     """The sign of an item's capability in place of its own."""
     name, stop = parts_of(folded, start, end)
     kind, value = FIND[folded[start:name]][0], folded[name + 1 : stop]
-    fits = {FLAG: value == b"", NUMBER: re.fullmatch(rb"[0-9]+", value), TEXT: value != b""}[kind]
-    if name == stop or not fits:
+    if name == stop or not fits_kind(kind, value, folded[name + 1 : end]):
         return []
     return [(SIGNS[kind], (where[name], where[name] + 1), {FLAG: "", NUMBER: "#", TEXT: "="}[kind])]
 

@@ -1,6 +1,6 @@
 """Runs less, nano and dialog under tmux on an entry that `ti tic` made and on the one that
 ncurses's tic made of the same source, presses the same keys, and compares the screens, with
-colours and attributes, after each. Prints how many screens were compared, or what differs."""
+colors and attributes, after each. Prints how many screens were compared, or what differs."""
 
 import os
 import shutil

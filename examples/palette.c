@@ -1,8 +1,8 @@
 /*
- * Draws the colours of the terminal, 256 at most, in rows of 16 by libti alone, and moves the
+ * Draws the colors of the terminal, 256 at most, in rows of 16 by libti alone, and moves the
  * cursor.
  *
- *     cc colours.c -lti -o colours && ./colours
+ *     cc palette.c -lti -o palette && ./palette
  */
 #include <stdio.h>
 #include <ti.h>
@@ -28,21 +28,21 @@ static void move_to(int32_t row, int32_t column) {
 
 int main(void) {
     enum ti_status refusal = ti_open(NULL, &terminal);
-    if (refusal != TI_OK) return fprintf(stderr, "colours: %s\n", ti_strerror(refusal)), 1;
-    int64_t colours = ti_number_named(terminal, "colors"); /* negative if there are none */
-    if (colours > 256) colours = 256;
-    if (colours < 8) {
-        fprintf(stderr, "colours: the terminal has no colours\n");
+    if (refusal != TI_OK) return fprintf(stderr, "palette: %s\n", ti_strerror(refusal)), 1;
+    int64_t colors = ti_number_named(terminal, "colors"); /* negative if there are none */
+    if (colors > 256) colors = 256;
+    if (colors < 8) {
+        fprintf(stderr, "palette: the terminal has no colors\n");
         ti_entry_free(terminal);
         return 1;
     }
     ti_line_of(terminal, 38400, &line);
     send("clear", NULL, 0);
-    for (int32_t colour = 0; colour < colours; colour++) {
-        struct ti_parameter chosen = ti_number_given(colour);
-        move_to(1 + colour / 16, 2 + 4 * (colour % 16));
+    for (int32_t color = 0; color < colors; color++) {
+        struct ti_parameter chosen = ti_number_given(color);
+        move_to(1 + color / 16, 2 + 4 * (color % 16));
         send("setaf", &chosen, 1);
-        printf("%03d", (int)colour);
+        printf("%03d", (int)color);
     }
     send("sgr0", NULL, 0);
     move_to(18, 0);

@@ -1,4 +1,4 @@
-"""Writes in colour 200 of the terminal, by libti.so.2: python3 colours.py"""
+"""Writes in color 200 of the terminal, by libti.so.2: python3 palette.py"""
 
 from ctypes import CDLL, Structure, byref, create_string_buffer
 from ctypes import c_char_p, c_int32, c_int64, c_size_t, c_uint32, c_void_p
@@ -32,12 +32,12 @@ def opened(ti: CDLL) -> c_void_p:
     entry = c_void_p()
     refusal = ti.ti_open(None, byref(entry))
     if refusal:
-        raise SystemExit(f"colours.py: {ti.ti_strerror(refusal).decode()}")
+        raise SystemExit(f"palette.py: {ti.ti_strerror(refusal).decode()}")
     return entry
 
 
-def colour(ti: CDLL, entry: c_void_p, number: int) -> Optional[bytes]:
-    """The bytes that choose a colour, or None if the terminal does not have it."""
+def color(ti: CDLL, entry: c_void_p, number: int) -> Optional[bytes]:
+    """The bytes that choose a color, or None if the terminal does not have it."""
     text = Text(b"", 0)
     if ti.ti_number_named(entry, b"colors") <= number:
         return None
@@ -55,8 +55,8 @@ library.ti_expand.restype = Outcome
 library.ti_number_named.restype = c_int64
 library.ti_strerror.restype = c_char_p
 terminal = opened(library)
-bytes_sent = colour(library, terminal, 200)
+bytes_sent = color(library, terminal, 200)
 library.ti_entry_free(terminal)
 if bytes_sent is None:
-    raise SystemExit("colours.py: the terminal does not have colour 200")
-print(bytes_sent.decode() + "colour 200")
+    raise SystemExit("palette.py: the terminal does not have color 200")
+print(bytes_sent.decode() + "color 200")
