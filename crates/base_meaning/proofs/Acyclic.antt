@@ -1,16 +1,19 @@
 -- The owner of a name that leads back to its user does not resolve.
 use Rattle.std.proofs.Common.{◌≡◌, ℕ, zero, suc, ◌+◌, ◌<◌, ◌≤◌, inl, inr, Bool, true, false, cond, List, [], ◌∷◌, length, Option, Some, None}
-use Rattle.std.proofs.Common.{option_and_then, slice_get, sym, ◌∙◌, arith}
+use Rattle.std.proofs.Common.{option_and_then, option_map, slice_get, sym, ◌∙◌, arith}
 use Rattle.std.proofs.lemmas.Bool.{cases_Bool}
 use Rattle.std.proofs.lemmas.Option.{none-some}
+use Rattle.ti_source.specs.declared.parsing.Rule.{Rule}
+use Rattle.ti_source.specs.declared.parsing.Rule.TheVariants.{Leftmost, OwnFirst}
 use Rattle.ti_source.specs.Reading.{Reading, ReadItem}
 use Rattle.base_meaning.specs.Owner.{owner_block}
 use Rattle.ti_layout.specs.Values.{Mention}
-use Rattle.base_meaning.specs.Expansion.{is_broken, mentions_of, expand_items, expand, expansion}
+use Rattle.base_meaning.specs.Expansion.{is_broken, mentions_of, expand_items, own_items, use_items, uncancelled, block_mentions, expand, expansion}
 use Rattle.base_meaning.specs.Reaching.{Uses, IsUseWay, leads_to}
 use Rattle.base_meaning.specs.ValueTables.{names_at}
 use Rattle.base_meaning.proofs.Owning.{owner_to_owned}
 use Rattle.base_meaning.proofs.Depth.{joined_parts, names_at-le}
+use Rattle.base_meaning.proofs.Ruling.{mapped_part, uses-use}
 use Rattle.base_meaning.proofs.MentionMerging.{mentions_of-used}
 use Rattle.base_meaning.proofs.Leading.{leads_to-LeadsTo}
 
@@ -28,6 +31,14 @@ used_is_there f (i ∷ is) name ms (inr later) e =
     let p = joined_parts (mentions_of f i.said) (expand_items f is) ms e in
     used_is_there f is name p.back later p.back_is
 
+pub used_is_in : (r : Rule) (f : List ℕ → Option (List Mention)) (items : List ReadItem) (name : List ℕ) (ms : List Mention) → Uses items name
+    → block_mentions r f items ≡ Some ms → (ns : List Mention) × (f name ≡ Some ns)
+used_is_in Leftmost f items name ms u e = used_is_there f items name ms u e
+used_is_in OwnFirst f items name ms u e =
+    let p = joined_parts (expand_items f (own_items items)) (option_map uncancelled (expand_items f (use_items items))) ms e in
+    let m = mapped_part uncancelled (expand_items f (use_items items)) p.back p.back_is in
+    used_is_there f (use_items items) name m.before (uses-use items name u) m.is
+
 pub if_there : (broken : Bool) (o : Option (List Mention)) (ms : List Mention) → cond broken None o ≡ Some ms → o ≡ Some ms
 if_there true o ms e = absurd (none-some ms e)
 if_there false o ms e = e
@@ -37,7 +48,7 @@ step_down : (env : List ℕ → Option Reading) (k : ℕ) (name next : List ℕ)
     → IsDeep env k next
 step_down env k name next b d e u =
     let whole : expand env (suc k) b ≡ Some d.0 = rw e at d.1 in
-    used_is_there (names_at env k) b.items next d.0 u (if_there (is_broken b) (expand_items (names_at env k) b.items) d.0 whole)
+    used_is_in b.rule (names_at env k) b.items next d.0 u (if_there (is_broken b) (block_mentions b.rule (names_at env k) b.items) d.0 whole)
 
 along : (env : List ℕ → Option Reading) (way : List (List ℕ)) (k : ℕ) (name to : List ℕ) → IsDeep env (length way + k) name → IsUseWay env name way to
     → IsDeep env k to

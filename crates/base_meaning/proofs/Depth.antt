@@ -1,16 +1,19 @@
 -- How deep a block has to be expanded: once there is an expansion, a deeper one is equal, and one
 -- level for each block of the list suffices.
 use Rattle.std.proofs.Common.{◌≡◌, ℕ, zero, suc, ◌+◌, ◌-◌, ◌<◌, ◌≤◌, ◌⊎◌, inl, inr, Bool, true, false, cond, List, [], ◌∷◌, ◌++◌, length, Option, Some}
-use Rattle.std.proofs.Common.{None, is_some, option_and_then, slice_get, refl, sym, ◌∙◌, arith}
+use Rattle.std.proofs.Common.{None, is_some, option_map, option_and_then, slice_get, refl, sym, ◌∙◌, arith}
 use Rattle.std.specs.Option.{option_map_or}
 use Rattle.std.proofs.lemmas.Bool.{false≢true}
 use Rattle.std.proofs.lemmas.Option.{same_Some, none-some, slice_get_within}
+use Rattle.ti_source.specs.declared.parsing.Rule.{Rule}
+use Rattle.ti_source.specs.declared.parsing.Rule.TheVariants.{Leftmost, OwnFirst}
 use Rattle.ti_source.specs.Reading.{Reading, ReadItem, Said, said_flag, said_number, said_text, said_cancel, said_import}
 use Rattle.base_meaning.specs.Owner.{owner_block}
 use Rattle.ti_text.specs.Lists.{both_lists}
 use Rattle.ti_layout.specs.Values.{Mention}
-use Rattle.base_meaning.specs.Expansion.{is_broken, mentions_of, expand_items, expand, expansion}
+use Rattle.base_meaning.specs.Expansion.{is_broken, mentions_of, expand_items, own_items, use_items, uncancelled, block_mentions, expand, expansion}
 use Rattle.base_meaning.proofs.Owning.{nobody, somebody, owning}
+use Rattle.base_meaning.proofs.Ruling.{mapped_part, mapped-some}
 use Rattle.base_meaning.proofs.Settling.{IsGrowing, settles}
 
 abbrev pub Mentions : Type 0
@@ -53,6 +56,14 @@ expand_items-more f g h (i ∷ is) ms e =
     let p = joined_parts (mentions_of f i.said) (expand_items f is) ms e in
     rw (mentions_of-more f g h i.said p.front p.front_is, expand_items-more f g h is p.back p.back_is, p.whole) refl
 
+pub block-more : (r : Rule) (f g : Names) → GivesMore f g → (items : List ReadItem) (ms : List Mention) → block_mentions r f items ≡ Some ms
+    → block_mentions r g items ≡ Some ms
+block-more Leftmost f g h items ms e = expand_items-more f g h items ms e
+block-more OwnFirst f g h items ms e =
+    let p = joined_parts (expand_items f (own_items items)) (option_map uncancelled (expand_items f (use_items items))) ms e in
+    let m = mapped_part uncancelled (expand_items f (use_items items)) p.back p.back_is in
+    rw (expand_items-more f g h (own_items items) p.front p.front_is, expand_items-more f g h (use_items items) m.before m.is, m.mapped, p.whole) refl
+
 abbrev pub names_at : (List ℕ → Option Reading) → ℕ → Names
 names_at env depth name = option_and_then (expand env depth) (env name)
 
@@ -68,8 +79,8 @@ if_sound false o q ms h e = h e
 pub expand-suc : (env : List ℕ → Option Reading) (k : ℕ) (b : Reading) (ms : List Mention) → expand env k b ≡ Some ms → expand env (suc k) b ≡ Some ms
 expand-suc env zero b ms e = absurd (none-some ms e)
 expand-suc env (suc k) b ms e =
-    if_sound (is_broken b) (expand_items (names_at env k) b.items) (expand_items (names_at env (suc k)) b.items) ms
-    (expand_items-more (names_at env k) (names_at env (suc k))
+    if_sound (is_broken b) (block_mentions b.rule (names_at env k) b.items) (block_mentions b.rule (names_at env (suc k)) b.items) ms
+    (block-more b.rule (names_at env k) (names_at env (suc k))
     (λ name. and_then-more (expand env k) (expand env (suc k)) (expand-suc env k) (env name)) b.items ms) e
 
 -- an expansion is the same at each greater depth
@@ -115,6 +126,15 @@ expand_items-some f g h [] = refl
 expand_items-some f g h (i ∷ is) =
     joined-some (mentions_of f i.said) (expand_items f is) (mentions_of g i.said) (expand_items g is) (mentions_of-some f g h i.said)
     (expand_items-some f g h is)
+
+block-some : (r : Rule) (f g : Names) → ((name : List ℕ) → is_some (f name) ≡ is_some (g name)) → (items : List ReadItem)
+    → is_some (block_mentions r f items) ≡ is_some (block_mentions r g items)
+block-some Leftmost f g h items = expand_items-some f g h items
+block-some OwnFirst f g h items =
+    joined-some (expand_items f (own_items items)) (option_map uncancelled (expand_items f (use_items items))) (expand_items g (own_items items))
+    (option_map uncancelled (expand_items g (use_items items))) (expand_items-some f g h (own_items items))
+    (mapped-some uncancelled (expand_items f (use_items items))
+    ∙ (expand_items-some f g h (use_items items) ∙ sym (mapped-some uncancelled (expand_items g (use_items items)))))
 
 cond-some : (b : Bool) (o q : Mentions) → is_some o ≡ is_some q → is_some (cond b None o) ≡ is_some (cond b None q)
 cond-some true o q e = refl
@@ -169,8 +189,8 @@ resolves_at-stays bs k h p l =
       | inl found ↦
           let b = found.0 in
           resolves_at-is bs (suc (suc k)) p b found.1
-          ∙ (cond-some (is_broken b) (expand_items (names_at (owner_block bs) (suc k)) b.items) (expand_items (names_at (owner_block bs) k) b.items)
-          (expand_items-some (names_at (owner_block bs) (suc k)) (names_at (owner_block bs) k) (same_names bs (suc k) k h) b.items)
+          ∙ (cond-some (is_broken b) (block_mentions b.rule (names_at (owner_block bs) (suc k)) b.items)
+          (block_mentions b.rule (names_at (owner_block bs) k) b.items) (block-some b.rule (names_at (owner_block bs) (suc k)) (names_at (owner_block bs) k) (same_names bs (suc k) k h) b.items)
           ∙ sym (resolves_at-is bs (suc k) p b found.1))
     ]
 

@@ -2,11 +2,14 @@
 -- equal in both.
 use Rattle.std.proofs.Common.{◌≡◌, ℕ, zero, suc, inl, inr, Bool, true, false, cond, List, [], ◌∷◌, Option, Some, None, option_and_then, refl, sym, ◌∙◌, ap}
 use Rattle.std.proofs.lemmas.Bool.{cases_Bool}
+use Rattle.ti_source.specs.declared.parsing.Rule.{Rule}
+use Rattle.ti_source.specs.declared.parsing.Rule.TheVariants.{Leftmost, OwnFirst}
 use Rattle.ti_source.specs.Reading.{Reading, ReadItem, Said, said_flag, said_number, said_text, said_cancel, said_import}
 use Rattle.ti_layout.specs.Values.{Mention}
-use Rattle.base_meaning.specs.Expansion.{is_broken, mentions_of, expand_items, expand}
+use Rattle.base_meaning.specs.Expansion.{is_broken, mentions_of, expand_items, own_items, use_items, block_mentions, expand}
 use Rattle.base_meaning.specs.Reaching.{used_name, Uses, IsUseWay}
 use Rattle.base_meaning.specs.ValueTables.{names_at}
+use Rattle.base_meaning.proofs.Ruling.{own-uses, use-uses}
 
 abbrev pub Env : Type 0
 Env = List ℕ → Option Reading
@@ -34,6 +37,13 @@ expand_items-agree f g [] h = refl
 expand_items-agree f g (i ∷ is) h =
     rw (mentions_of-agree f g i.said (λ n u. h n (inl u)), expand_items-agree f g is (λ n u. h n (inr u))) refl
 
+block-agree : (r : Rule) (f g : List ℕ → Option (List Mention)) (items : List ReadItem) → ((n : List ℕ) → Uses items n → f n ≡ g n)
+    → block_mentions r f items ≡ block_mentions r g items
+block-agree Leftmost f g items h = expand_items-agree f g items h
+block-agree OwnFirst f g items h =
+    rw (expand_items-agree f g (own_items items) (λ n u. h n (own-uses items n u)), expand_items-agree f g (use_items items) (λ n u. h n (use-uses items n u)))
+    refl
+
 -- ---- expansions
 
 and_then-agree : (o : Option Reading) (f g : Reading → Option (List Mention)) → ((b : Reading) → o ≡ Some b → f b ≡ g b)
@@ -46,7 +56,7 @@ pub expand-kept : (test : List ℕ → Bool) (e f : Env) → AgreeOff test e f �
     → expand f depth b ≡ expand e depth b
 expand-kept test e f agree zero b free = refl
 expand-kept test e f agree (suc k) b free =
-    ap (λ o. cond (is_broken b) None o) (expand_items-agree (names_at f k) (names_at e k) b.items (λ n u.
+    ap (λ o. cond (is_broken b) None o) (block-agree b.rule (names_at f k) (names_at e k) b.items (λ n u.
     ap (λ o. option_and_then (expand f k) o) (sym (agree n (free n u [] n refl)))
     ∙ and_then-agree (e n) (expand f k) (expand e k) (λ c own. expand-kept test e f agree k c (λ m v way to w. free n u (m ∷ way) to ((c, own, v), w)))))
 

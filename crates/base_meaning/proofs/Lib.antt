@@ -1,5 +1,6 @@
 pub mod Settling
 pub mod Owning
+pub mod Ruling
 pub mod Depth
 pub mod Leading
 pub mod MentionMerging
@@ -16,6 +17,7 @@ pub mod Exchanging
 pub mod KeptFaults
 pub mod ExchangeLaws
 pub mod UseLawProofs
+pub mod RuleLaws
 pub mod ItemLawProofs
 pub mod ReadOrder
 pub mod DistinctNames

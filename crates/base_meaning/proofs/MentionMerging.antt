@@ -1,26 +1,29 @@
 -- What adding mentions to a table makes of it, item by item; and when a block has no expansion at a
 -- depth.
 use Rattle.std.proofs.Common.{◌≡◌, ℕ, zero, suc, append_assoc, ◌+◌, inl, inr, Bool, true, false, cond, List, [], ◌∷◌, ◌++◌, Option, Some, None, slice_get}
-use Rattle.std.proofs.Common.{refl, sym, ◌∙◌, ap, arith}
+use Rattle.std.proofs.Common.{filter, is_some, refl, sym, ◌∙◌, ap, arith}
 use Rattle.std.specs.Option.{option_or}
 use Rattle.std.proofs.lemmas.Option.{same_Some, none-some}
 use Rattle.ti_caps.specs.Tables.{Capability, IsCapability, same_capability}
+use Rattle.ti_source.specs.declared.parsing.Rule.TheVariants.{Leftmost, OwnFirst}
 use Rattle.ti_source.specs.Reading.{Reading, ReadItem, Said, said_flag, said_number, said_text, said_cancel, said_import}
-use Rattle.ti_layout.specs.Values.{Contents, Content, contents, Mention}
+use Rattle.ti_caps.proofs.Same.{same_capability-true}
+use Rattle.ti_layout.specs.Values.{Contents, Content, content_true, content_number, content_text, content_cancelled, contents, Mention}
+use Rattle.ti_layout.specs.Laws.{without_cancel}
 use Rattle.base_meaning.specs.Owner.{owner_block}
 use Rattle.ti_text.specs.Lists.{both_lists}
-use Rattle.base_meaning.specs.Expansion.{is_broken, mentions_of, expand_items}
+use Rattle.base_meaning.specs.Expansion.{is_broken, mentions_of, expand_items, own_items, use_items, values, uncancelled}
 use Rattle.base_meaning.specs.Reaching.{used_name, Uses}
 use Rattle.base_meaning.specs.ValueTables.{names_at, IsTableOf, IsTableOfItems, AddsSaid}
 use Rattle.base_meaning.proofs.Depth.{expand_items-more, names_at-le, mentions_of-more}
 
 -- ---- adding
 
-option_or-none : (o : Option Content) → option_or o None ≡ o
+pub option_or-none : (o : Option Content) → option_or o None ≡ o
 option_or-none None = refl
 option_or-none (Some x) = refl
 
-option_or-assoc : (o p q : Option Content) → option_or (option_or o p) q ≡ option_or o (option_or p q)
+pub option_or-assoc : (o p q : Option Content) → option_or (option_or o p) q ≡ option_or o (option_or p q)
 option_or-assoc None p q = refl
 option_or-assoc (Some x) p q = refl
 
@@ -84,8 +87,59 @@ table_of_one_more bs is i f g t h =
     }
 
 -- all items of a sound block were added
-pub table_of_block : (bs : List Reading) (b : Reading) (f : Contents) → is_broken b ≡ false → IsTableOfItems bs b.items f → IsTableOf bs b f
-table_of_block bs b f sound t = record { depth = suc t.depth; mentions = t.mentions; expands = rw (sound, t.expands) refl; is_table = t.is_table }
+pub table_of_block : (bs : List Reading) (b : Reading) (f : Contents) → b.rule ≡ Leftmost → is_broken b ≡ false → IsTableOfItems bs b.items f
+    → IsTableOf bs b f
+table_of_block bs b f rule sound t = record { depth = suc t.depth; mentions = t.mentions; expands = rw (sound, rule, t.expands) refl; is_table = t.is_table }
+
+-- ---- a block's own mentions first
+
+-- the mentions of one capability, of those whose capability passes a test
+filtered : (p : Capability → Bool) (ms : List Mention) (c : Capability) → contents (filter (λ (m : Mention). p m.0) ms) c ≡ cond (p c) (contents ms c) None
+unfolding contents
+filtered p [] c = nothing (p c) where
+  nothing : (b : Bool) → None ≡ cond b (contents [] c) None
+  nothing true = refl
+  nothing false = refl
+filtered p (m ∷ ms) c = by_tests (filtered p ms c) (p m.0) (same_capability m.0 c) refl refl where
+  by_tests : contents (filter (λ (m : Mention). p m.0) ms) c ≡ cond (p c) (contents ms c) None → (here same : Bool) → p m.0 ≡ here
+      → same_capability m.0 c ≡ same → contents (cond here (m ∷ filter (λ (m : Mention). p m.0) ms) (filter (λ (m : Mention). p m.0) ms)) c
+      ≡ cond (p c) (cond same (Some m.1) (contents ms c)) None
+  by_tests rest true true h s = rw (s, ← same_capability-true m.0 c s, h) refl
+  by_tests rest true false h s = rw s rest
+  by_tests rest false true h s = rest ∙ rw (← same_capability-true m.0 c s, h) refl
+  by_tests rest false false h s = rest
+
+absent_or_there : (o : Option Content) → cond (is_some (without_cancel o)) o None ≡ without_cancel o
+absent_or_there None = refl
+absent_or_there (Some content_true) = refl
+absent_or_there (Some (content_number n)) = refl
+absent_or_there (Some (content_text t)) = refl
+absent_or_there (Some content_cancelled) = refl
+
+pub uncancelled-says : (ms : List Mention) (c : Capability) → contents (uncancelled ms) c ≡ without_cancel (contents ms c)
+unfolding uncancelled
+uncancelled-says ms c = filtered (λ d. is_some (values ms d)) ms c ∙ absent_or_there (contents ms c)
+
+-- all own items of a sound block were added from the last to the first, and behind them what its
+-- uses say, without cancels
+pub own_first_table : (bs : List Reading) (b : Reading) (own used f : Contents) → b.rule ≡ OwnFirst → is_broken b ≡ false
+    → IsTableOfItems bs (own_items b.items) own → IsTableOfItems bs (use_items b.items) used
+    → ((c : Capability) → IsCapability c → f c ≡ option_or (own c) (without_cancel (used c))) → IsTableOf bs b f
+own_first_table bs b own used f rule sound t h says =
+    let deep = t.depth + h.depth in
+    let env = owner_block bs in
+    let front = expand_items-more (names_at env t.depth) (names_at env deep) (names_at-le env t.depth deep (omega arith)) (own_items b.items) t.mentions t.expands in
+    let back = expand_items-more (names_at env h.depth) (names_at env deep) (names_at-le env h.depth deep (omega arith)) (use_items b.items) h.mentions h.expands in
+    record {
+      depth = suc deep;
+      mentions = t.mentions ++ uncancelled h.mentions;
+      expands = rw (sound, rule, front, back) refl;
+      is_table = λ c valid.
+          says c valid
+          ∙ (ap (λ o. option_or o (without_cancel (used c))) (t.is_table c valid)
+          ∙ (ap (λ o. option_or (contents t.mentions c) o) (ap without_cancel (h.is_table c valid) ∙ sym (uncancelled-says h.mentions c))
+          ∙ sym (said-append t.mentions (uncancelled h.mentions) c)));
+    }
 
 -- ---- no depth expands what remains open
 

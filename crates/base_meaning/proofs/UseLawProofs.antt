@@ -4,11 +4,13 @@ use Rattle.std.proofs.Common.{option_and_then, slice_get, refl, sym, ◌∙◌, 
 use Rattle.std.proofs.lemmas.Bool.{cases_Bool, false≢true}
 use Rattle.std.proofs.lemmas.Option.{same_Some, none-some, slice_get_within}
 use Rattle.ti_source.specs.declared.code.Code.TheVariants.{Unresolved}
+use Rattle.ti_source.specs.declared.parsing.Rule.{Rule}
+use Rattle.ti_source.specs.declared.parsing.Rule.TheVariants.{Leftmost, OwnFirst}
 use Rattle.ti_source.specs.Reading.{Reading, ReadItem, Said, said_flag, said_number, said_text, said_cancel, said_import}
 use Rattle.base_meaning.specs.Owner.{owner, owner_block}
 use Rattle.ti_text.specs.Lists.{both_lists}
 use Rattle.ti_layout.specs.Values.{Mention}
-use Rattle.base_meaning.specs.Expansion.{is_broken, mentions_of, expand_items, expand, expansion, resolves}
+use Rattle.base_meaning.specs.Expansion.{is_broken, mentions_of, expand_items, own_items, use_items, uncancelled, block_mentions, expand, expansion, resolves}
 use Rattle.base_meaning.specs.Reaching.{used_name, Uses, IsUseWay, LeadsTo, leads_to}
 use Rattle.base_meaning.specs.Faults.{fault_between, use_fault}
 use Rattle.base_meaning.specs.ValueTables.{names_at}
@@ -17,7 +19,8 @@ use Rattle.base_meaning.specs.UseLaws.{MarksComponents, HasOptionalEdge, HaveOne
 use Rattle.base_meaning.proofs.Owning.{nobody, somebody, owning, owner_to_owned}
 use Rattle.base_meaning.proofs.Depth.{bounded}
 use Rattle.base_meaning.proofs.Leading.{leads_to-LeadsTo}
-use Rattle.base_meaning.proofs.Acyclic.{used_is_there, if_there, not_circular}
+use Rattle.base_meaning.proofs.Ruling.{own-uses, use-uses}
+use Rattle.base_meaning.proofs.Acyclic.{used_is_in, if_there, not_circular}
 
 -- ---- leading is reaching
 
@@ -119,7 +122,8 @@ some_or_none (Some x) = inr (x, refl)
 use_expands : (bs : List Reading) (k : ℕ) (b : Reading) (ms : List Mention) (name : List ℕ) → expand (owner_block bs) (suc k) b ≡ Some ms
     → Uses b.items name → (ns : List Mention) × (names_at (owner_block bs) k name ≡ Some ns)
 use_expands bs k b ms name e u =
-    used_is_there (names_at (owner_block bs) k) b.items name ms u (if_there (is_broken b) (expand_items (names_at (owner_block bs) k) b.items) ms e)
+    used_is_in b.rule (names_at (owner_block bs) k) b.items name ms u
+    (if_there (is_broken b) (block_mentions b.rule (names_at (owner_block bs) k) b.items) ms e)
 
 -- nobody owns the name: no depth expands the block
 pub never_missing : (bs : List Reading) (b : Reading) (name : List ℕ) → Uses b.items name → owner_block bs name ≡ None → expansion bs b ≡ None
@@ -251,10 +255,18 @@ items_there f (i ∷ is) h =
     let rest = items_there f is (λ n u. h n (inr u)) in
     all_joined (mentions_of f i.said) (expand_items f is) one.0 one.1 rest.0 rest.1
 
+pub block_there : (r : Rule) (f : List ℕ → Option (List Mention)) (items : List ReadItem)
+    → ((n : List ℕ) → Uses items n → (ms : List Mention) × (f n ≡ Some ms)) → (ms : List Mention) × (block_mentions r f items ≡ Some ms)
+block_there Leftmost f items h = items_there f items h
+block_there OwnFirst f items h =
+    let own = items_there f (own_items items) (λ n u. h n (own-uses items n u)) in
+    let used = items_there f (use_items items) (λ n u. h n (use-uses items n u)) in
+    (own.0 ++ uncancelled used.0, rw (own.1, used.1) refl)
+
 -- a sound block none of whose uses has a fault resolves
 sound_resolves : (bs : List Reading) (at : ℕ) (b : Reading) → slice_get bs at ≡ Some b → is_broken b ≡ false → HasNoFault bs at b.items → resolves bs b ≡ true
 sound_resolves bs at b s sound none =
-    let all = items_there (names_at (owner_block bs) (suc (length bs))) b.items (λ n u. sound_use bs at n (none n u)) in
+    let all = block_there b.rule (names_at (owner_block bs) (suc (length bs))) b.items (λ n u. sound_use bs at n (none n u)) in
     let deep : expand (owner_block bs) (suc (suc (length bs))) b ≡ Some all.0 = rw (sound, all.1) refl in
     ap (λ x. is_some x) (bounded bs (suc (suc (length bs))) at b all.0 s deep)
 

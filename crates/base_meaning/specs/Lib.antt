@@ -1,6 +1,7 @@
 pub mod Owner
 pub mod Expansion
 pub mod Reaching
+pub mod Rules
 pub mod Compiled
 pub mod Faults
 pub mod OwnNames

@@ -7,6 +7,9 @@ pub use crate::edit_laws::{
     users_of_dependents_depend,
 };
 pub use crate::item_laws::{item_faults_go_by_ordinal, names_are_distinct, read_items_are_ordered};
+pub use crate::rule_laws::{
+    own_mentions_come_first, readings_are_leftmost, rules_agree_on_plain_blocks,
+};
 pub use crate::use_laws::{
     circular_uses_share_a_component, leading_is_reaching, leading_is_walking,
     unresolved_blocks_have_a_cause,

@@ -8,6 +8,7 @@
 //! - `faults`: a fault of a source
 //! - `item_laws`: laws on the faults of items and on names
 //! - `laws`: laws of the definitions
+//! - `rule_laws`: laws on the rules by which a block's values count
 //! - `use_laws`: laws on what blocks reach, and on the faults of their uses
 #![tactic(auto)]
 
@@ -16,6 +17,7 @@ mod edits;
 mod faults;
 mod item_laws;
 pub mod laws;
+mod rule_laws;
 mod use_laws;
 
 pub use edits::{Edit, EditError, Edited, Outcome};

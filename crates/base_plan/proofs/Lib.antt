@@ -1,4 +1,6 @@
 pub mod ItemLists
+pub mod RuledItems
+pub mod UncancelledEntries
 pub mod Places
 pub mod UsedOwners
 pub mod BlockValues

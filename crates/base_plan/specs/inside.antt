@@ -2,3 +2,4 @@
 -- and proofs use.
 pub mod Settling
 pub mod Faults
+pub mod Values

@@ -1,17 +1,21 @@
-//! The values of a block and its entry: items are added to a table, the leftmost mention of a
-//! capability first, and the entry that the block had before is patched to have these values.
+//! The values of a block and its entry: items are added to a table, in the order in which they
+//! decide by the block's rule, and the entry that the block had before is patched to have these
+//! values.
 ghost use Rattle.std.specs.Prelude.{ℕ, ◌≡◌, ◌+◌, ◌<◌, ◌≤◌, ◌↔◌, length, false, List, Some, slice_get, IfOk, IsErrOf, OnOk};
 ghost use Rattle.ti_caps.specs.Tables.{Capability, IsCapability};
+ghost use Rattle.ti_source.specs.declared.parsing.Rule.TheVariants.{Leftmost, OwnFirst};
 ghost use Rattle.ti_source.specs.Reading.{reading_of, said_import, said_of};
 ghost use Rattle.ti_layout.specs.Image.{image, image_limit};
 ghost use Rattle.ti_layout.specs.Laws.{without_cancel};
-ghost use Rattle.ti_layout.specs.Values.{Mention, contents};
+ghost use Rattle.std.specs.Option.{option_or};
+ghost use Rattle.base_plan.specs.inside.Values.{is_cancel};
+ghost use Rattle.ti_layout.specs.Values.{Mention, contents, content_of};
 ghost use Rattle.ti_compiled.specs.Image.{bytes_of, held_by};
-ghost use Rattle.base_meaning.specs.Expansion.{is_broken};
+ghost use Rattle.base_meaning.specs.Expansion.{is_broken, is_use, own_items, use_items};
 ghost use Rattle.base_meaning.specs.Compiled.{state_of, state_with};
 ghost use Rattle.base_meaning.specs.Dependents.{work_of};
 ghost use Rattle.base_meaning.specs.Usable.{IsUsable, SetsWell};
-ghost use Rattle.base_meaning.specs.ValueTables.{HasTable, IsTableOfMentions, AddsSaid, IsTableOf};
+ghost use Rattle.base_meaning.specs.ValueTables.{HasTable, IsTableOfMentions, AddsSaid, IsTableOf, IsTableOfItems};
 ghost use Rattle.base_slots.specs.Settled.{state_seen, table_of};
 ghost use Rattle.base_plan.specs.inside.Settling.{AreUsesSound, CanSettle, IsItemAt, blocks_known};
 
@@ -19,7 +23,7 @@ use crate::owners::{Known, used_table};
 use base_slots::{BlockEntry, Slot, State};
 use std::alloc::{AllocError, Global};
 use ti_compiled::{Image, Mentions, Table, Value, WriteError};
-use ti_source::{Parsed, What};
+use ti_source::{Parsed, Rule, What};
 
 // Adds all values of the owner of a name, which an item of the block at a node uses, after the
 // mentions.
@@ -43,24 +47,20 @@ fn merge_owner(
 }
 
 // Adds the mentions that an item of the block at a node gives, after those before.
-fn add_item(
+fn say(
     known: &Known,
     node: usize,
     index: usize,
     what: &What,
     mentions: &mut Mentions,
-    left: &mut u64,
 ) -> Result<(), AllocError>
     ghost at: { ℕ }
     requires ready { CanSettle known.now node at }
     requires item { IsItemAt (blocks_known known.now) at index (said_of what.now) }
     requires sets { SetsWell (said_of what.now) }
     requires sound { AreUsesSound (blocks_known known.now) at }
-    requires room { 0 < left.old }
-    ensures added { OnOk result (AddsSaid (blocks_known known.now) (said_of what.now) (contents mentions.old) (contents mentions.new)) }
-    ensures work { OnOk result (left.new + 1 ≡ left.old) }
+    ensures { OnOk result (AddsSaid (blocks_known known.now) (said_of what.now) (contents mentions.old) (contents mentions.new)) }
 {
-    *left -= 1;
     // A value or a cancel of a capability that is there stays.
     match what {
         What::Flag(cap) => mentions.push(*cap, Value::True),
@@ -71,7 +71,149 @@ fn add_item(
     }
 }
 
-// The table of the block at a node, which is sound, as are its uses.
+// The table of the block at a node, which is sound, as are its uses, if its leftmost mentions
+// decide.
+fn leftmost_table(
+    alloc: Global,
+    known: &Known,
+    node: usize,
+    block: &Parsed,
+) -> Result<Table, AllocError>
+    ghost at: { ℕ }
+    requires ready { CanSettle known.now node at }
+    requires block { slice_get (blocks_known known.now) at ≡ Some (reading_of block.now) }
+    requires whole { is_broken (reading_of block.now) ≡ false }
+    requires sound { AreUsesSound (blocks_known known.now) at }
+    requires rule { block.now.rule ≡ Leftmost }
+    ensures { IfOk result (λ table. IsTableOf (blocks_known known.now) (reading_of block.now) (contents table)) }
+{
+    let mut mentions = Mentions::new(alloc, block.items.len())?;
+    for (index, item) in block.items.iter().enumerate() {
+        say(known, node, index, &item.what, &mut mentions)?;
+    }
+    mentions.into_table()
+}
+
+// Whether an item uses another entry.
+fn is_use(what: &What) -> bool
+    ensures { result ≡ is_use (said_of what.now) }
+{
+    match what {
+        What::Import(_) => true,
+        What::Flag(_) | What::Number(_, _) | What::Text(_, _) | What::Cancel(_) => false,
+    }
+}
+
+// What the uses of the block at a node say, the first first.
+fn used_mentions(
+    alloc: Global,
+    known: &Known,
+    node: usize,
+    block: &Parsed,
+) -> Result<Mentions, AllocError>
+    ghost at: { ℕ }
+    requires ready { CanSettle known.now node at }
+    requires block { slice_get (blocks_known known.now) at ≡ Some (reading_of block.now) }
+    requires sound { AreUsesSound (blocks_known known.now) at }
+    ensures { IfOk result (λ m. IsTableOfItems (blocks_known known.now) (use_items (reading_of block.now).items) (contents m)) }
+{
+    let mut used = Mentions::new(alloc, block.items.len())?;
+    for (index, item) in block.items.iter().enumerate() {
+        if is_use(&item.what) {
+            say(known, node, index, &item.what, &mut used)?;
+        }
+    }
+    Ok(used)
+}
+
+// What the block at a node says itself, the last first.
+fn own_mentions(
+    alloc: Global,
+    known: &Known,
+    node: usize,
+    block: &Parsed,
+) -> Result<Mentions, AllocError>
+    ghost at: { ℕ }
+    requires ready { CanSettle known.now node at }
+    requires block { slice_get (blocks_known known.now) at ≡ Some (reading_of block.now) }
+    requires sound { AreUsesSound (blocks_known known.now) at }
+    ensures { IfOk result (λ m. IsTableOfItems (blocks_known known.now) (own_items (reading_of block.now).items) (contents m)) }
+{
+    let count = block.items.len();
+    let mut own = Mentions::new(alloc, count)?;
+    for done in 0..count {
+        let index = count - 1 - done;
+        let item = &block.items[index];
+        if !is_use(&item.what) {
+            say(known, node, index, &item.what, &mut own)?;
+        }
+    }
+    Ok(own)
+}
+
+// A copy of a value. Its text is shared.
+fn copy_of(value: &Value) -> Result<Value, AllocError>
+    ensures { IfOk result (λ copy. content_of copy ≡ content_of value.now) }
+{
+    match value {
+        Value::True => Ok(Value::True),
+        Value::Number(number) => Ok(Value::Number(*number)),
+        Value::Text(text) => {
+            let text = text.clone()?;
+            Ok(Value::Text(text))
+        }
+        Value::Cancelled => Ok(Value::Cancelled),
+    }
+}
+
+// Whether a value is a cancel.
+fn is_cancel(value: &Value) -> bool
+    ensures { result ≡ is_cancel (content_of value.now) }
+{
+    match value {
+        Value::Cancelled => true,
+        Value::True | Value::Number(_) | Value::Text(_) => false,
+    }
+}
+
+// Adds a mention of each value of a table, but of no cancel, after the others.
+fn merge_values(inherited: &Table, mentions: &mut Mentions) -> Result<(), AllocError>
+    ensures { OnOk result ((c : Capability) → IsCapability c → contents mentions.new c
+        ≡ option_or (contents mentions.old c) (without_cancel (contents inherited.now c))) }
+{
+    for entry in inherited.entries() {
+        if !is_cancel(&entry.1) {
+            mentions.push(entry.0, copy_of(&entry.1)?)?;
+        }
+    }
+    Ok(())
+}
+
+// The table of the block at a node, which is sound, as are its uses, if its own mentions decide
+// before those of its uses.
+fn own_first_table(
+    alloc: Global,
+    known: &Known,
+    node: usize,
+    block: &Parsed,
+) -> Result<Table, AllocError>
+    ghost at: { ℕ }
+    requires ready { CanSettle known.now node at }
+    requires block { slice_get (blocks_known known.now) at ≡ Some (reading_of block.now) }
+    requires whole { is_broken (reading_of block.now) ≡ false }
+    requires sound { AreUsesSound (blocks_known known.now) at }
+    requires rule { block.now.rule ≡ OwnFirst }
+    ensures { IfOk result (λ table. IsTableOf (blocks_known known.now) (reading_of block.now) (contents table)) }
+{
+    let used = used_mentions(alloc, known, node, block)?;
+    let inherited = used.into_table()?;
+    let mut own = own_mentions(alloc, known, node, block)?;
+    merge_values(&inherited, &mut own)?;
+    own.into_table()
+}
+
+// The table of the block at a node, which is sound, as are its uses. Each of its items takes one of
+// the steps left.
 fn make_table(
     alloc: Global,
     known: &Known,
@@ -88,11 +230,11 @@ fn make_table(
     ensures table { IfOk result (λ table. IsTableOf (blocks_known known.now) (reading_of block.now) (contents table)) }
     ensures work { OnOk result (left.new + length block.now.items.items ≡ left.old) }
 {
-    let mut mentions = Mentions::new(alloc, block.items.len())?;
-    for (index, item) in block.items.iter().enumerate() {
-        add_item(known, node, index, &item.what, &mut mentions, left)?;
+    *left -= block.items.len() as u64;
+    match block.rule {
+        Rule::Leftmost => leftmost_table(alloc, known, node, block),
+        Rule::OwnFirst => own_first_table(alloc, known, node, block),
     }
-    mentions.into_table()
 }
 
 // The entry of before that the block in a slot may be patched from: its own, or else that of the

@@ -2,6 +2,7 @@
 use Rattle.std.specs.Prelude.{ℕ, ◌≡◌, List, [], ◌∷◌, map, filter, Option, Some, None, slice_get, Bool, cond, nat_eq}
 use Rattle.std.specs.Option.{option_map_or}
 use Rattle.std.specs.Str.{bytes_eq}
+use Rattle.ti_source.specs.declared.parsing.Rule.TheVariants.{Leftmost}
 use Rattle.ti_source.specs.Reading.{Reading, reading_of}
 use Rattle.base_meaning.specs.Owner.{is_among, owner}
 use Rattle.base_meaning.specs.Reaching.{any_use}
@@ -63,7 +64,7 @@ slot_at slots id = slot_under slots.placed id
 
 -- a block that says nothing
 abbrev pub empty_reading : Reading
-empty_reading = record { field = []; names = []; items = []; faults = [] }
+empty_reading = record { rule = Leftmost; field = []; names = []; items = []; faults = [] }
 
 -- the block with the id, as it is read
 abbrev pub reading_at : Slots → ℕ → Reading

@@ -1,7 +1,7 @@
 -- The entry of a block is read as what the block says.
 use Rattle.std.proofs.Common.{◌≡◌, ◌≢◌, ℕ, zero, suc, ◌<◌, All, Bool, true, false, cond, List, [], ◌∷◌, ◌++◌, length, Option, Some, None, refl, subst, ◌∙◌}
 use Rattle.std.proofs.Common.{arith}
-use Rattle.std.specs.Prelude.{option_and_then}
+use Rattle.std.specs.Prelude.{filter, is_some, option_and_then, option_map}
 use Rattle.std.proofs.lemmas.Bool.{ltb-false}
 use Rattle.std.proofs.lemmas.List.Elements.{All-head, All-tail}
 use Rattle.std.proofs.lemmas.Option.{none-some, same_Some}
@@ -9,6 +9,8 @@ use Rattle.ti_caps.specs.Tables.{Capability, IsCapability, same_capability}
 use Rattle.ti_caps.proofs.Same.{same_capability-true}
 use Rattle.ti_source.specs.Cutting.{OneBlock}
 use Rattle.ti_source.specs.Parsing.{reading_of_text}
+use Rattle.ti_source.specs.declared.parsing.Rule.{Rule}
+use Rattle.ti_source.specs.declared.parsing.Rule.TheVariants.{Leftmost, OwnFirst}
 use Rattle.ti_source.specs.Reading.{Reading, ReadItem, Said, said_flag, said_number, said_text, said_cancel, said_import}
 use Rattle.ti_source.specs.Sound.{EachIsWellRead, SetsItsKind}
 use Rattle.ti_layout.specs.Image.{image_limit}
@@ -16,9 +18,10 @@ use Rattle.ti_layout.specs.Laws.{ImagesAreRead, without_cancel}
 use Rattle.ti_layout.specs.Reading.{Reads}
 use Rattle.ti_layout.specs.Values.{Agrees, AgreesIfSome, Content, contents, content_true, content_number, content_text, content_cancelled, Contents, Mention}
 use Rattle.base_meaning.specs.Compiled.{image_of, is_too_large}
-use Rattle.base_meaning.specs.Expansion.{expand, expand_items, expansion, is_broken, mentions_of, values}
+use Rattle.base_meaning.specs.Expansion.{block_mentions, expand, expand_items, expansion, is_broken, mentions_of, own_items, uncancelled, use_items, values}
 use Rattle.base_meaning.specs.Owner.{is_among, owner_block, readings}
 use Rattle.base_meaning.proofs.Depth.{joined_parts}
+use Rattle.base_meaning.proofs.Ruling.{mapped_part, own_items-all, use_items-all}
 use Rattle.lsp_document.specs.Documents.{IsShortBlock}
 
 -- ---- what a block says of capabilities fits them
@@ -56,6 +59,29 @@ items_fit of_name h (i ∷ is) ms k e =
     (both_fit p.front p.back (said_fits of_name h i.said p.front (All-head ItemSets i is k) p.front_is)
     (items_fit of_name h is p.back (All-tail ItemSets i is k) p.back_is))
 
+-- the mentions that are not cancelled are among the mentions
+kept_fit : (p : Mention → Bool) (ms : List Mention) → MentionsFit ms → MentionsFit (filter p ms)
+kept_fit p [] f = tt
+kept_fit p (m ∷ ms) f = one_kept (p m)
+  where
+    one_kept : (b : Bool) → MentionsFit (cond b (m ∷ filter p ms) (filter p ms))
+    one_kept true = (f.0, kept_fit p ms f.1)
+    one_kept false = kept_fit p ms f.1
+
+uncancelled_fit : (ms : List Mention) → MentionsFit ms → MentionsFit (uncancelled ms)
+unfolding uncancelled
+uncancelled_fit ms f = kept_fit (λ (m : Mention). is_some (values ms m.0)) ms f
+
+ruled_fit : (rule : Rule) (of_name : Names) → NamesFit of_name → (items : List ReadItem) (ms : List Mention) → All ItemSets items
+    → block_mentions rule of_name items ≡ Some ms → MentionsFit ms
+ruled_fit Leftmost of_name h items ms k e = items_fit of_name h items ms k e
+ruled_fit OwnFirst of_name h items ms k e =
+    let p = joined_parts (expand_items of_name (own_items items)) (option_map uncancelled (expand_items of_name (use_items items))) ms e in
+    let m = mapped_part uncancelled (expand_items of_name (use_items items)) p.back p.back_is in
+    subst MentionsFit p.whole
+    (both_fit p.front p.back (items_fit of_name h (own_items items) p.front (own_items-all ItemSets items k) p.front_is)
+    (subst MentionsFit m.mapped (uncancelled_fit m.before (items_fit of_name h (use_items items) m.before (use_items-all ItemSets items k) m.is))))
+
 abbrev pub OwnersSet : (List ℕ → Option Reading) → Type 0
 OwnersSet env = (name : List ℕ) (b : Reading) → env name ≡ Some b → All ItemSets b.items
 
@@ -75,8 +101,8 @@ block_fits : (env : List ℕ → Option Reading) → OwnersSet env → (depth : 
 block_fits env sets zero b ms k e = absurd (none-some ms e)
 block_fits env sets (suc depth) b ms k e =
     let of_name : Names = λ name. option_and_then (expand env depth) (env name) in
-    items_fit of_name (λ name ns is. name_fits env sets (expand env depth) (block_fits env sets depth) name (env name) refl ns is) b.items ms k
-    (unbroken (is_broken b) (expand_items of_name b.items) ms e).1
+    ruled_fit b.rule of_name (λ name ns is. name_fits env sets (expand env depth) (block_fits env sets depth) name (env name) refl ns is) b.items ms k
+    (unbroken (is_broken b) (block_mentions b.rule of_name b.items) ms e).1
 
 content_fits : (ms : List Mention) → MentionsFit ms → (c : Capability) → AgreesIfSome c (contents ms c)
 unfolding contents
@@ -128,7 +154,8 @@ entry_reads each images texts short text one ms e fits =
     let block = reading_of_text text in
     let env = owner_block (readings texts) in
     let well = each text one in
-    let sound = (unbroken (is_broken block) (expand_items (λ name. option_and_then (expand env (length (readings texts))) (env name)) block.items) ms e).0 in
+    let of_name : Names = λ name. option_and_then (expand env (length (readings texts))) (env name) in
+    let sound = (unbroken (is_broken block) (block_mentions block.rule of_name block.items) ms e).0 in
     let named = well.named sound in
     let agree = block_fits env (owners_set each texts short) (suc (length (readings texts))) block ms well.sets e in
     let r = images block.field (values ms) (some_bytes block.field named.some) named.short named.no_nul

@@ -7,11 +7,13 @@ use Rattle.std.proofs.lemmas.Option.{none-some, same_Some}
 use Rattle.ti_caps.specs.Tables.{Capability, same_capability}
 use Rattle.ti_source.specs.Reading.{Reading, ReadItem, Said, said_flag, said_number, said_text, said_cancel, said_import}
 use Rattle.ti_layout.specs.Values.{Content, contents, content_true, content_number, content_text, content_cancelled, Mention}
-use Rattle.base_meaning.specs.Expansion.{expand, expand_items, expansion, is_broken, mentions_of}
+use Rattle.base_meaning.specs.Expansion.{block_mentions, expand, expand_items, expansion, is_broken, mentions_of}
 use Rattle.base_meaning.specs.Owner.{owner, owner_block}
+use Rattle.base_meaning.specs.Rules.{AreLeftmost}
 use Rattle.base_meaning.proofs.Depth.{expand-le, joined_parts, mentions_of-more, names_at, names_at-le}
 use Rattle.base_meaning.proofs.MentionMerging.{said-append}
 use Rattle.base_meaning.proofs.Owning.{owning, somebody, nobody}
+use Rattle.base_meaning.proofs.Ruling.{leftmost-expands}
 use Rattle.lsp_blocks.specs.Deciding.{Decides, DecidersSayIt, SomeBlockDecides, decider, decider_in, decides_it, first_say, hands_it_on, items_of, said_by}
 use Rattle.lsp_blocks.specs.Deciding.{said_of, say_at, say_before, say_of, say_of_mention, say_of_use}
 use Rattle.lsp_blocks.specs.declared.deciding.Say.{Say}
@@ -202,12 +204,13 @@ says_there blocks c depth at block ms v le there e is =
     let s : Says blocks at ms = record { block = block; there = there; expands = expand-le (owner_block blocks) depth (suc (length blocks)) block ms le e } in
     said_is blocks c at ms s ∙ is
 
-along : (blocks : List Reading) (c : Capability) (depth at : ℕ) (block : Reading) (ms : List Mention) (v : Content) → depth ≤ suc (length blocks)
+along : (blocks : List Reading) → AreLeftmost blocks → (c : Capability) (depth at : ℕ) (block : Reading) (ms : List Mention) (v : Content) → depth ≤ suc (length blocks)
     → slice_get blocks at ≡ Some block
     → expand (owner_block blocks) depth block ≡ Some ms → contents ms c ≡ Some v → Found blocks c depth at v
-along blocks c zero at block ms v le there e is = absurd (none-some ms e)
-along blocks c (suc depth) at block ms v le there e is =
-    let items = unbroken (is_broken block) (expand_items (Shallow blocks depth) block.items) ms e in
+along blocks left c zero at block ms v le there e is = absurd (none-some ms e)
+along blocks left c (suc depth) at block ms v le there e is =
+    let items = sym (leftmost-expands block.rule (Shallow blocks depth) block.items (left at block there))
+    ∙ unbroken (is_broken block) (block_mentions block.rule (Shallow blocks depth) block.items) ms e in
     let first = first_as blocks c depth v (say_at blocks c at) (first_say blocks c block.items) (ap (first_say blocks c) (items_are blocks at block there))
     (first_of_items blocks c depth block.items ms v (omega (arith, le)) items is) in
     elim first [
@@ -218,7 +221,7 @@ along blocks c (suc depth) at block ms v le there e is =
         says = says_there blocks c (suc depth) at block ms v le there e is;
       }
       | handed next on n ↦
-          let more = along blocks c depth next n.block n.mentions v (omega (arith, le)) n.there n.expands n.is in
+          let more = along blocks left c depth next n.block n.mentions v (omega (arith, le)) n.there n.expands n.is in
           record { by = more.by; found = in_later blocks c depth at next on ∙ more.found; decides = hands_it_on on more.decides; says = more.says }
     ]
 
@@ -238,21 +241,21 @@ opened blocks c at v (Some block) there e = by_mentions (expansion blocks block)
     by_mentions None expands e = absurd (none-some v e)
     by_mentions (Some ms) expands e = record { mentions = ms; says = record { block = block; there = there; expands = expands }; is = e }
 
-there_is : (blocks : List Reading) (c : Capability) (at : ℕ) (v : Content) → said_by blocks c at ≡ Some v → Found blocks c (suc (length blocks)) at v
-there_is blocks c at v said =
+there_is : (blocks : List Reading) → AreLeftmost blocks → (c : Capability) (at : ℕ) (v : Content) → said_by blocks c at ≡ Some v → Found blocks c (suc (length blocks)) at v
+there_is blocks left c at v said =
     let o = opened blocks c at v (slice_get blocks at) refl said in
-    along blocks c (suc (length blocks)) at o.says.block o.mentions v (omega arith) o.says.there o.says.expands o.is
+    along blocks left c (suc (length blocks)) at o.says.block o.mentions v (omega arith) o.says.there o.says.expands o.is
 
 pub some_decides : SomeBlockDecides
-some_decides blocks c at said e = let f = there_is blocks c at said e in (f.by, f.decides)
+some_decides blocks left c at said e = let f = there_is blocks left c at said e in (f.by, f.decides)
 
 pub says_it : DecidersSayIt
-says_it blocks c at by said e decides =
-    let f = there_is blocks c at said e in
+says_it blocks left c at by said e decides =
+    let f = there_is blocks left c at said e in
     subst (λ (n : ℕ). said_by blocks c n ≡ Some said) (one_decides blocks c at f.by by f.decides decides) f.says
 
-pub decided_found : (blocks : List Reading) (c : Capability) (at by : ℕ) (said : Content) → said_by blocks c at ≡ Some said → Decides blocks c at by
+pub decided_found : (blocks : List Reading) → AreLeftmost blocks → (c : Capability) (at by : ℕ) (said : Content) → said_by blocks c at ≡ Some said → Decides blocks c at by
     → decider blocks c at ≡ Some by
-decided_found blocks c at by said e decides =
-    let f = there_is blocks c at said e in
+decided_found blocks left c at by said e decides =
+    let f = there_is blocks left c at said e in
     found_in blocks c at ∙ f.found ∙ ap (λ (n : ℕ). Some n) (one_decides blocks c at f.by by f.decides decides)

@@ -17,6 +17,7 @@ use Rattle.base_meaning.specs.Compiled.{compiled}
 use Rattle.base_meaning.specs.Expansion.{expansion}
 use Rattle.base_meaning.specs.Owner.{is_owner, owner, readings}
 use Rattle.base_meaning.specs.Report.{shown_detail}
+use Rattle.base_meaning.specs.Rules.{AreLeftmost}
 use Rattle.lsp_blocks.specs.declared.deciding.Inherited.{Inherited}
 use Rattle.lsp_blocks.specs.declared.deciding.Say.{Say}
 use Rattle.lsp_blocks.specs.declared.deciding.Say.TheVariants.{Silent, Decisive, HandsOn}
@@ -172,7 +173,7 @@ sources_at texts at = if is_some (compiled texts at) then sources_of texts at el
 abbrev pub sources_named : List (List ℕ) → List ℕ → List SourceSeen
 sources_named texts name = option_map_or (sources_at texts) (owner (readings texts) name) []
 
--- ---- laws
+-- ---- laws, of blocks in which the leftmost mention of a capability decides, as in those of a source
 
 -- at most one block decides a capability
 abbrev pub OneBlockDecides : Type 0
@@ -181,19 +182,19 @@ OneBlockDecides = (blocks : List Reading) (c : Capability) (at one other : ℕ) 
 -- if a block says something of a capability, the computed one is the block that decides
 abbrev pub DecidersAreFound : Type 0
 DecidersAreFound =
-    (blocks : List Reading) (c : Capability) (at by : ℕ) (said : Content) → said_by blocks c at ≡ Some said
+    (blocks : List Reading) → AreLeftmost blocks → (c : Capability) (at by : ℕ) (said : Content) → said_by blocks c at ≡ Some said
     → (decider blocks c at ≡ Some by) ↔ Decides blocks c at by
 
 -- what a block says of a capability is what the block says that decides it
 abbrev pub DecidersSayIt : Type 0
 DecidersSayIt =
-    (blocks : List Reading) (c : Capability) (at by : ℕ) (said : Content) → said_by blocks c at ≡ Some said → Decides blocks c at by
-    → said_by blocks c by ≡ Some said
+    (blocks : List Reading) → AreLeftmost blocks → (c : Capability) (at by : ℕ) (said : Content) → said_by blocks c at ≡ Some said
+    → Decides blocks c at by → said_by blocks c by ≡ Some said
 
 -- a capability that a block says something of is decided by some block
 abbrev pub SomeBlockDecides : Type 0
 SomeBlockDecides =
-    (blocks : List Reading) (c : Capability) (at : ℕ) (said : Content) → said_by blocks c at ≡ Some said
+    (blocks : List Reading) → AreLeftmost blocks → (c : Capability) (at : ℕ) (said : Content) → said_by blocks c at ≡ Some said
     → (by : ℕ) × Decides blocks c at by
 
 -- a block that decides capabilities which the block at that position inherits, as it is shown

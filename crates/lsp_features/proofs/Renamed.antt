@@ -1,22 +1,26 @@
 -- What a rename leaves as it is.
-use Rattle.std.proofs.Common.{◌≡◌, ℕ, zero, suc, ◌+◌, ◌==◌, ◌||◌, ◌⊎◌, Bool, true, false, cond, not, inl, inr, List, [], ◌∷◌, length, map, Option, None}
+use Rattle.std.proofs.Common.{◌≡◌, ℕ, zero, suc, ◌+◌, ◌==◌, ◌||◌, ◌⊎◌, Bool, true, false, cond, not, inl, inr, List, [], ◌∷◌, ◌++◌, length, map, Option, None}
 use Rattle.std.proofs.Common.{Some, slice_get, refl, sym, subst, ap, ◌∙◌, arith}
 use Rattle.std.specs.Prelude.{option_and_then}
 use Rattle.std.specs.Option.{option_map, option_map_or}
 use Rattle.std.specs.Str.{bytes_eq}
 use Rattle.std.proofs.lemmas.Bool.{cases_Bool, eq-eqb, eqb-true, ne_eqb}
+use Rattle.std.proofs.lemmas.List.{map-append}
 use Rattle.std.proofs.lemmas.Option.{none-some, same_Some}
 use Rattle.std.proofs.lemmas.Slice.Eq.{bytes_eq-Decides}
 use Rattle.ti_text.specs.Lists.{both_lists}
+use Rattle.ti_source.specs.declared.parsing.Rule.{Rule}
+use Rattle.ti_source.specs.declared.parsing.Rule.TheVariants.{Leftmost, OwnFirst}
 use Rattle.ti_source.specs.Reading.{Reading, ReadItem, Said, said_flag, said_number, said_text, said_cancel, said_import}
 use Rattle.ti_layout.specs.Values.{Mention}
 use Rattle.base_meaning.specs.Compiled.{entry_of}
-use Rattle.base_meaning.specs.Expansion.{expand, expand_items, is_broken, mentions_of}
+use Rattle.base_meaning.specs.Expansion.{block_mentions, expand, expand_items, is_broken, is_use, mentions_of, own_items, use_items}
 use Rattle.base_meaning.specs.Owner.{is_among, owner, owner_block}
 use Rattle.base_meaning.specs.Reaching.{Uses, any_use, used_name}
 use Rattle.base_meaning.proofs.Depth.{names_at}
 use Rattle.base_meaning.proofs.Leading.{used-any_use}
 use Rattle.base_meaning.proofs.Owning.{owning, somebody, nobody, nobody_to_none, owner_to_owned}
+use Rattle.base_meaning.proofs.Ruling.{own-uses, use-uses}
 use Rattle.lsp_features.specs.Renamed.{AreRenamed, BlocksSayWhatTheyDid, EntriesHoldWhatTheyDid, IsAccepted, IsRenamed, UsesLeadWhereTheyDid, renamed_name}
 use Rattle.lsp_features.specs.Renamed.{renamed_said}
 use Rattle.lsp_features.specs.Renaming.{is_used}
@@ -267,6 +271,71 @@ items_same name new f g (item ∷ items) (other ∷ others) e h =
     let later = items_same name new f g items others more (λ used u. h used (inr u)) in
     ap (λ (m : Mentions). both_lists m (expand_items f others)) here ∙ ap (both_lists (mentions_of g item.said)) later
 
+-- what becomes of a block's own items, and of its uses
+one_said : (name new : List ℕ) (item : ReadItem) → is_use (renamed_said name new item.said) ≡ is_use item.said
+one_said name new item = by_said item.said
+  where
+    by_said : (said : Said) → is_use (renamed_said name new said) ≡ is_use said
+    by_said (said_flag c) = refl
+    by_said (said_number c n) = refl
+    by_said (said_text c t) = refl
+    by_said (said_cancel c) = refl
+    by_said (said_import used) = refl
+
+-- the same sayings, renamed
+abbrev SaidAlike : (name new : List ℕ) → (items others : List ReadItem) → Type 0
+SaidAlike name new items others =
+    map (λ (item : ReadItem). item.said) others ≡ map (λ (item : ReadItem). renamed_said name new item.said) items
+
+alike_behind : (name new : List ℕ) (items others : List ReadItem) (item other : ReadItem) → SaidAlike name new items others
+    → other.said ≡ renamed_said name new item.said → SaidAlike name new (items ++ item ∷ []) (others ++ other ∷ [])
+alike_behind name new items others item other e f =
+    map-append (λ (i : ReadItem). i.said) others (other ∷ [])
+    ∙ ap (λ (ss : List Said). ss ++ other.said ∷ []) e
+    ∙ ap (λ (s : Said). map (λ (i : ReadItem). renamed_said name new i.said) items ++ s ∷ []) f
+    ∙ sym (map-append (λ (i : ReadItem). renamed_said name new i.said) items (item ∷ []))
+
+own_alike : (name new : List ℕ) (items others : List ReadItem) → SaidAlike name new items others → SaidAlike name new (own_items items) (own_items others)
+own_alike name new [] [] e = refl
+own_alike name new [] (other ∷ others) e = absurd cc
+own_alike name new (item ∷ items) [] e = absurd cc
+own_alike name new (item ∷ items) (other ∷ others) e =
+    let first : other.said ≡ renamed_said name new item.said = cc in
+    let more : SaidAlike name new items others = cc in
+    let own = own_alike name new items others more in
+    rw (first, one_said name new item) (by_use (is_use item.said) own (alike_behind name new (own_items items) (own_items others) item other own first))
+  where
+    by_use : (b : Bool) → SaidAlike name new (own_items items) (own_items others)
+        → SaidAlike name new (own_items items ++ item ∷ []) (own_items others ++ other ∷ [])
+        → SaidAlike name new (cond b (own_items items) (own_items items ++ item ∷ [])) (cond b (own_items others) (own_items others ++ other ∷ []))
+    by_use true own longer = own
+    by_use false own longer = longer
+
+uses_alike : (name new : List ℕ) (items others : List ReadItem) → SaidAlike name new items others → SaidAlike name new (use_items items) (use_items others)
+uses_alike name new [] [] e = refl
+uses_alike name new [] (other ∷ others) e = absurd cc
+uses_alike name new (item ∷ items) [] e = absurd cc
+uses_alike name new (item ∷ items) (other ∷ others) e =
+    let first : other.said ≡ renamed_said name new item.said = cc in
+    let more : SaidAlike name new items others = cc in
+    let later = uses_alike name new items others more in
+    rw (first, one_said name new item) (by_use (is_use item.said) later (ap (λ (ss : List Said). other.said ∷ ss) later
+    ∙ ap (λ (s : Said). s ∷ map (λ (i : ReadItem). renamed_said name new i.said) (use_items items)) first))
+  where
+    by_use : (b : Bool) → SaidAlike name new (use_items items) (use_items others)
+        → SaidAlike name new (item ∷ use_items items) (other ∷ use_items others)
+        → SaidAlike name new (cond b (item ∷ use_items items) (use_items items)) (cond b (other ∷ use_items others) (use_items others))
+    by_use true later longer = longer
+    by_use false later longer = later
+
+ruled_same : (rule : Rule) (name new : List ℕ) (f g : List ℕ → Mentions) (items others : List ReadItem) → SaidAlike name new items others
+    → ((used : List ℕ) → Uses items used → f (renamed_name name new used) ≡ g used) → block_mentions rule f others ≡ block_mentions rule g items
+ruled_same Leftmost name new f g items others e h = items_same name new f g items others e h
+ruled_same OwnFirst name new f g items others e h =
+    let own = items_same name new f g (own_items items) (own_items others) (own_alike name new items others e) (λ used u. h used (own-uses items used u)) in
+    let uses = items_same name new f g (use_items items) (use_items others) (uses_alike name new items others e) (λ used u. h used (use-uses items used u)) in
+    rw (own, uses) refl
+
 -- a rename that is accepted
 module _ (blocks others : List Reading) (at : ℕ) (name new : List ℕ) (a : IsAccepted blocks others at name new) where
   -- blocks before and after it say the same, expanded to that depth
@@ -294,9 +363,10 @@ module _ (blocks others : List Reading) (at : ℕ) (name new : List ℕ) (a : Is
   expand_same (suc depth) place own block other there r =
       let uses = λ (used : List ℕ) (u : Uses block.items used). use_same depth (expand_same depth) used
       (uses_lead blocks others at name new a place block used there u) in
-      ap (λ (b : Bool). cond b None (expand_items (names_at (owner_block others) depth) other.items)) r.broken
+      ap (λ (b : Bool). cond b None (block_mentions other.rule (names_at (owner_block others) depth) other.items)) r.broken
+      ∙ ap (λ (rule : Rule). cond (is_broken block) None (block_mentions rule (names_at (owner_block others) depth) other.items)) r.same_rule
       ∙ ap (λ (m : Mentions). cond (is_broken block) None m)
-      (items_same name new (names_at (owner_block others) depth) (names_at (owner_block blocks) depth) block.items other.items r.sayings uses)
+      (ruled_same block.rule name new (names_at (owner_block others) depth) (names_at (owner_block blocks) depth) block.items other.items r.sayings uses)
 
 pub blocks_say : BlocksSayWhatTheyDid
 blocks_say blocks others at name new a place block other there after =

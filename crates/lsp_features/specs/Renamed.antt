@@ -22,8 +22,10 @@ renamed_said name new (said_cancel c) = said_cancel c
 renamed_said name new (said_import used) = said_import (renamed_name name new used)
 
 -- a block before and after a rename: its names become the new ones if the name is its `own`, and
--- its uses do. The field that holds its names, and the lines of its items, may be others.
+-- its uses do. Its values count by the same rule. The field that holds its names, and the lines of
+-- its items, may be others.
 pub record IsRenamed (name new : List ℕ) (own : Bool) (block other : Reading) : Type 0 where
+  pub same_rule : other.rule ≡ block.rule
   pub names : other.names ≡ (if own then map (renamed_name name new) block.names else block.names)
   pub sayings : map (λ (item : ReadItem). item.said) other.items ≡ map (λ (item : ReadItem). renamed_said name new item.said) block.items
   pub broken : is_broken other ≡ is_broken block

@@ -10,6 +10,7 @@ use Rattle.ti_source.specs.Folding.{PlacedByte}
 use Rattle.ti_source.specs.Items.{Statement, piece_of}
 use Rattle.ti_source.specs.Judging.{Judged, faults_at, faults_from, header_faults, items_at, items_from, names_found}
 use Rattle.ti_source.specs.Parsing.{reading_of_text}
+use Rattle.ti_source.specs.declared.parsing.Rule.TheVariants.{Leftmost}
 use Rattle.ti_source.specs.Reading.{ReadFault, ReadItem, Reading}
 use Rattle.ti_source.specs.Stating.{statement_of}
 use Rattle.ti_source.specs.Verdicts.{Verdict, accepted, accepted_odd, faults_by, items_by, refused}
@@ -68,7 +69,7 @@ faults_unplaced ordinal (i ∷ is) =
     ∙ ap (λ (back : List ReadFault). faults_at ordinal (judged_text (piece_of i).text) ++ back) (faults_unplaced (ordinal + 1) is)
 
 abbrev made : List ℕ → List ReadItem → List ReadFault → Reading
-made field items faults = record { field = field; names = names_found (header_names field); items = items; faults = faults }
+made field items faults = record { rule = Leftmost; field = field; names = names_found (header_names field); items = items; faults = faults }
 
 -- the reading of a names field and of items of these texts, without their lines
 reading_with : List ℕ → List (List ℕ) → Reading

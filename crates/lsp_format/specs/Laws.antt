@@ -46,6 +46,7 @@ unplaced_fault fault = record { ordinal = fault.ordinal; line = 0; code = fault.
 -- a reading without the lines of its items and faults
 abbrev pub unplaced : Reading → Reading
 unplaced reading = record {
+  rule = reading.rule;
   field = reading.field;
   names = reading.names;
   items = map unplaced_item reading.items;

@@ -10,6 +10,7 @@ use Rattle.ti_source.specs.inside.Parsing.{judged_of}
 -- The items of `start` were added to `old` so far, `ordinal` items in all. Those of `source` are
 -- still to come.
 pub record AddsSoFar (start : List PlacedByte) (old : Reading) (ordinal : ℕ) (source : List PlacedByte) (now : Reading) : Type 0 where
+  pub same_rule : now.rule ≡ old.rule
   pub same_field : now.field ≡ old.field
   pub same_names : now.names ≡ old.names
   pub items : now.items ++ items_from ordinal (map judged_of (items_of escape.Nothing 44 source)) ≡ old.items

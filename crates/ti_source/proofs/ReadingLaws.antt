@@ -9,11 +9,12 @@ use Rattle.ti_source.specs.inside.Folding.{folding_of}
 use Rattle.ti_source.specs.Items.{Statement, States, bytes, piece_of}
 use Rattle.ti_source.specs.inside.Items.{field_of, after_field, items_of}
 use Rattle.ti_source.specs.Stating.{statement_of}
+use Rattle.ti_source.specs.declared.parsing.Rule.{Rule}
 use Rattle.ti_source.specs.Reading.{ReadItem, ReadFault, Reading}
 use Rattle.ti_source.specs.Verdicts.{Verdict}
 use Rattle.ti_source.specs.Judging.{Judged, IsJudged, item_ignored, item_judged, AreJudged, no_item, item_and_rest, items_from, faults_from, names_found}
 use Rattle.ti_source.specs.Judging.{header_faults, reading_by}
-use Rattle.ti_source.specs.Parsing.{Parses, reading_of_text, HasReading, BlocksHaveOneReading}
+use Rattle.ti_source.specs.Parsing.{Parses, reading_of_text, HasReading, BlocksHaveOneReading, BlocksAreLeftmost}
 use Rattle.ti_source.specs.inside.Parsing.{judged_as, judged_of, ReadsField, AddsItems, block_field}
 use Rattle.ti_source.specs.Walking.{block_items}
 use Rattle.ti_source.specs.inside.Verdicts.{verdict_of}
@@ -92,9 +93,15 @@ is_parsed block reading p =
 pub one_reading : BlocksHaveOneReading
 one_reading block one other p q = is_parsed block one p ∙ sym (is_parsed block other q)
 
-same_reading : (one other : Reading) → one.field ≡ other.field → one.names ≡ other.names → one.items ≡ other.items → one.faults ≡ other.faults → one ≡ other
-same_reading one other field names items faults =
-    ap (λ (x : List ℕ). record one { field = x }) field ∙ ap (λ (x : List (List ℕ)). record one { field = other.field; names = x }) names
+pub rule_of_text : BlocksAreLeftmost
+unfolding reading_of_text
+rule_of_text block = refl
+
+same_reading : (one other : Reading) → one.rule ≡ other.rule → one.field ≡ other.field → one.names ≡ other.names → one.items ≡ other.items
+    → one.faults ≡ other.faults → one ≡ other
+same_reading one other rule field names items faults =
+    ap (λ (x : Rule). record one { rule = x }) rule ∙ ap (λ (x : List ℕ). record one { rule = other.rule; field = x }) field
+    ∙ ap (λ (x : List (List ℕ)). record one { rule = other.rule; field = other.field; names = x }) names
     ∙ ap (λ (x : List ReadItem). record other { items = x; faults = one.faults }) items ∙ ap (λ (x : List ReadFault). record other { faults = x }) faults
 
 -- a block that is read part by part
@@ -106,7 +113,7 @@ parsed_by_parts block field source rest header reading at_start is_field at_rest
     let same_field : field ≡ block_field block = is_field ∙ ap (λ s. bytes (field_of s)) at_start in
     let judged = map judged_of (items_of escape.Nothing 44 rest) in
     let same_items : judged ≡ map judged_of (block_items block) = ap (λ s. map judged_of (items_of escape.Nothing 44 s)) (at_rest ∙ ap after_field at_start) in
-    same_reading reading (reading_of_text block) (adds.same_field ∙ reads.is_field ∙ same_field)
+    same_reading reading (reading_of_text block) (adds.same_rule ∙ reads.rule) (adds.same_field ∙ reads.is_field ∙ same_field)
     (adds.same_names ∙ reads.names ∙ ap (λ f. names_found (header_names f)) same_field)
     (adds.more_items ∙ ap (λ l. l ++ items_from 0 judged) reads.items ∙ ap (items_from 0) same_items)
     (adds.more_faults ∙ ap (λ l. l ++ faults_from 0 judged) (reads.faults ∙ ap (λ f. header_faults f (header_names f)) same_field)

@@ -3,6 +3,7 @@
 use Rattle.std.specs.Prelude.{ℕ, ◌+◌, nat_lt, if◌then◌else◌, List, [], ◌∷◌, ◌++◌, length, Option, Some, None}
 use Rattle.ti_text.specs.Limits.{names_max}
 use Rattle.ti_source.specs.declared.code.Code.TheVariants as code
+use Rattle.ti_source.specs.declared.parsing.Rule.TheVariants.{Leftmost}
 use Rattle.ti_source.specs.Folding.{PlacedByte}
 use Rattle.ti_source.specs.Items.{Statement, States, piece_of}
 use Rattle.ti_source.specs.Reading.{ReadItem, ReadFault, Reading}
@@ -64,6 +65,7 @@ header_faults field (Some names) = if nat_lt names_max (length field) then heade
 -- of the field comes before those of items
 abbrev pub reading_by : List ℕ → Option (List (List ℕ)) → List (Option Judged) → Reading
 reading_by field names judged = record {
+  rule = Leftmost;
   field = field;
   names = names_found names;
   items = items_from 0 judged;

@@ -8,6 +8,7 @@ use Rattle.std.specs.Prelude.{◌≡◌, ℕ, List, map, Option}
 use Rattle.ti_source.specs.Header.{ReadsNames}
 use Rattle.ti_source.specs.Folding.{PlacedByte, Folds}
 use Rattle.ti_source.specs.Items.{Begins, AreItems, bytes}
+use Rattle.ti_source.specs.declared.parsing.Rule.TheVariants.{Leftmost}
 use Rattle.ti_source.specs.Reading.{Reading}
 use Rattle.ti_source.specs.inside.Header.{header_names}
 use Rattle.ti_source.specs.inside.Parsing.{block_field, judged_of}
@@ -40,3 +41,7 @@ HasReading = (block : List ℕ) → Parses block (reading_of_text block)
 -- a block has no two readings
 abbrev pub BlocksHaveOneReading : Type 0
 BlocksHaveOneReading = (block : List ℕ) (one other : Reading) → Parses block one → Parses block other → one ≡ other
+
+-- a block is read for the rule of the leftmost mention, whatever it says
+abbrev pub BlocksAreLeftmost : Type 0
+BlocksAreLeftmost = (block : List ℕ) → (reading_of_text block).rule ≡ Leftmost

@@ -9,6 +9,7 @@ use Rattle.ti_source.specs.declared.parsing.What.TheVariants.{Flag, Number, Text
 use Rattle.ti_source.specs.declared.parsing.Item.{Item}
 use Rattle.ti_source.specs.declared.parsing.Local.{Local}
 use Rattle.ti_source.specs.declared.parsing.Parsed.{Parsed}
+use Rattle.ti_source.specs.declared.parsing.Rule.{Rule}
 
 -- what an accepted item says: a boolean, a number or a string, that a capability is cancelled, or
 -- that the items of another entry come here
@@ -32,9 +33,10 @@ pub record ReadFault : Type 0 where
   pub code : Code
   pub detail : Option (List ℕ)
 
--- a block as it is read: the names field, the lookup names, the accepted items and the faults, each
--- in order
+-- a block as it is read: the rule by which its values count, the names field, the lookup names, the
+-- accepted items and the faults, each in order
 pub record Reading : Type 0 where
+  pub rule : Rule
   pub field : List ℕ
   pub names : List (List ℕ)
   pub items : List ReadItem
@@ -59,6 +61,7 @@ fault_of f = record { ordinal = f.ordinal; line = f.line; code = f.code; detail 
 -- a parsed block in memory, as plain data
 abbrev pub reading_of : Parsed → Reading
 reading_of p = record {
+  rule = p.rule;
   field = p.field.items;
   names = map rc_slice_items p.names.items;
   items = map item_of p.items.items;

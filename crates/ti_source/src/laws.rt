@@ -2,7 +2,7 @@
 ghost use Rattle.ti_source.specs.Cutting.{BlocksAreSingle, BlocksAreSingleOnceEnded, EachHasCut, IsOnlyCut};
 ghost use Rattle.ti_source.specs.Folding.{EachIsFolded, OneFolding};
 ghost use Rattle.ti_source.specs.Header.{EachHeaderIsRead, HeadersHaveOneReading};
-ghost use Rattle.ti_source.specs.Parsing.{BlocksHaveOneReading, HasReading};
+ghost use Rattle.ti_source.specs.Parsing.{BlocksAreLeftmost, BlocksHaveOneReading, HasReading};
 ghost use Rattle.ti_source.specs.Sound.{EachIsWellRead};
 
 use ti_caps::{Kind, count};
@@ -51,6 +51,11 @@ pub fn headers_have_one_reading()
 pub fn one_reading()
     ensures each { HasReading }
     ensures only { BlocksHaveOneReading }
+{}
+
+/// The values of a block that is read count by [`Rule::Leftmost`](crate::Rule::Leftmost).
+pub fn blocks_are_leftmost()
+    ensures { BlocksAreLeftmost }
 {}
 
 /// What is known of each block that is read: its lookup names are such, its items set their kinds,

@@ -31,7 +31,7 @@ pub use code::Code;
 pub use cutting::{blocks, is_block};
 pub use header::{is_lookup_name, lookup_names};
 pub use items::{Claim, RawItem, Statement, statement_of, strip};
-pub use parsing::{Item, Local, Parsed, What, names_field, parse, parse_sharing};
+pub use parsing::{Item, Local, Parsed, Rule, What, names_field, parse, parse_sharing};
 pub use sharing::SharedTexts;
 pub use statements::ItemWalk;
 pub use ti_spelling::{NumberError, UnescapeError, Unescaped, escape, read_number, unescape};

@@ -59,9 +59,25 @@ pub struct Local {
     pub detail: Option<RcSlice<u8>>,
 }
 
+/// The rule by which the values of a block come from its own items and from its uses, `use=` of
+/// terminfo(5), "Similar Terminals".
+#[derive(Clone, Copy, Debug)]
+pub enum Rule {
+    /// The rule of `ti`, by X/Open Curses Issue 7, "Terminfo Source Format". All that the used
+    /// entry says stands in the place of a use, and the leftmost mention of a capability decides.
+    Leftmost,
+    /// The rule of ncurses's `tic`. What the block says of a capability itself decides, wherever
+    /// its uses stand; of two mentions the last. Else the first of its uses decides whose entry
+    /// has a value of the capability or cancels it itself. A cancel there leaves the capability
+    /// absent, and is not passed on to the entries that use this block.
+    OwnFirst,
+}
+
 /// A block as it is read.
 #[derive(Debug, Drop)]
 pub struct Parsed {
+    /// The rule by which its values count: `parse` gives `Rule::Leftmost`.
+    pub rule: Rule,
     /// The names field, as it is written.
     pub field: Vec<u8>,
     /// The lookup names in order; none if the names field is bad.
@@ -150,6 +166,7 @@ fn read_header(alloc: Global, field: Vec<u8>) -> Result<Parsed, AllocError>
         }
     };
     Ok(Parsed {
+        rule: Rule::Leftmost,
         field,
         names,
         items: Vec::new(alloc),

@@ -10,8 +10,10 @@ use Rattle.std.proofs.lemmas.Option.{slice_get-map}
 use Rattle.ti_caps.specs.NameOrder.{EachKindIsInOrder}
 use Rattle.ti_caps.specs.Tables.{Capability, IsCapability}
 use Rattle.ti_source.specs.Code.{is_error}
+use Rattle.ti_source.specs.declared.parsing.Rule.TheVariants.{Leftmost}
 use Rattle.ti_source.specs.Reading.{Said, ReadItem, ReadFault, Reading}
 use Rattle.ti_source.specs.Parsing.{reading_of_text}
+use Rattle.ti_source.proofs.ReadingLaws.{rule_of_text}
 use Rattle.ti_layout.specs.Values.{Content, content_true, content_number, content_text, content_cancelled, Contents, contents, Mention}
 use Rattle.ti_layout.specs.Image.{image, image_limit, ImageFits}
 use Rattle.ti_layout.specs.Laws.{without_cancel, ImagesAreOfValues, LimitsAreOfValues}
@@ -38,18 +40,19 @@ abbrev pub used_at : (List ℕ → Option Reading) → ℕ → List ℕ → Opti
 used_at env depth name = option_and_then (expand env depth) (env name)
 
 -- a block without faults, that has these items, expands to their mentions
-expand-says : (env : List ℕ → Option Reading) (depth : ℕ) (block : Reading) (items : List Said) → block.faults ≡ []
+expand-says : (env : List ℕ → Option Reading) (depth : ℕ) (block : Reading) (items : List Said) → block.rule ≡ Leftmost → block.faults ≡ []
     → map (λ (item : ReadItem). item.said) block.items ≡ items
     → expand env (suc depth) block ≡ expand_says (used_at env depth) items
-expand-says env depth block items none says =
+expand-says env depth block items rule none says =
     let sound : is_broken block ≡ false = ap (λ faults. list_any (λ (fault : ReadFault). is_error fault.code) faults) none in
-    rw sound (expand_items-says (used_at env depth) block.items ∙ ap (expand_says (used_at env depth)) says)
+    rw (sound, rule) (expand_items-says (used_at env depth) block.items ∙ ap (expand_says (used_at env depth)) says)
 
-pub own-at : (env : List ℕ → Option Reading) (depth : ℕ) (block : Reading) (table : Contents) (cs : List Capability) (more : List Said) → block.faults ≡ []
+pub own-at : (env : List ℕ → Option Reading) (depth : ℕ) (block : Reading) (table : Contents) (cs : List Capability) (more : List Said)
+    → block.rule ≡ Leftmost → block.faults ≡ []
     → map (λ (item : ReadItem). item.said) block.items ≡ items_for table cs ++ more
     → expand env (suc depth) block ≡ before (mentions_for table cs) (expand_says (used_at env depth) more)
-own-at env depth block table cs more none says =
-    expand-says env depth block (items_for table cs ++ more) none says ∙ own-expands (used_at env depth) table cs more
+own-at env depth block table cs more rule none says =
+    expand-says env depth block (items_for table cs ++ more) rule none says ∙ own-expands (used_at env depth) table cs more
 
 -- what the mentions of a block say has the values of the table, and the image is within the limit
 pub entry-is : ImagesAreOfValues → LimitsAreOfValues → (blocks : List Reading) (block : Reading) (field : List ℕ) (table : Contents) (ms : List Mention)
@@ -84,7 +87,8 @@ pub listing-expands : EachKindIsInOrder → PartsAreRead
     → CanHaveAll table → expand env (suc depth) (reading_of_text (listing field table layout)) ≡ Some (mentions_for table (all_in layout.order))
 listing-expands ordered read env depth field names table layout good has =
     let is = listing-read ordered read field names table layout good has in
-    own-at env depth (reading_of_text (listing field table layout)) table (all_in layout.order) [] is.none_wrong is.says
+    own-at env depth (reading_of_text (listing field table layout)) table (all_in layout.order) [] (rule_of_text (listing field table layout))
+    is.none_wrong is.says
     ∙ ap (λ ms. Some ms) (append-nil (mentions_for table (all_in layout.order)))
 
 pub all-contents : EachKindIsInOrder → (table : Contents) (layout : Layout) (ms : List Mention) (c : Capability) → IsCapability c

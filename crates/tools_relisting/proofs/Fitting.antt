@@ -1,17 +1,20 @@
 -- What a block of a source says fits its capabilities.
-use Rattle.std.proofs.Common.{◌≡◌, ℕ, zero, suc, false, List, [], ◌∷◌, ◌++◌, Option, Some, None, option_and_then, refl, sym, subst, inl, inr}
+use Rattle.std.proofs.Common.{◌≡◌, ℕ, zero, suc, false, option_map, List, [], ◌∷◌, ◌++◌, Option, Some, None, option_and_then, refl, sym, subst, inl, inr}
 use Rattle.std.specs.List.{All}
 use Rattle.std.proofs.lemmas.Bool.{cases_Bool}
 use Rattle.std.proofs.lemmas.Option.{same_Some, none-some}
 use Rattle.std.proofs.lemmas.List.Elements.{All-nil, All-cons, All-head, All-tail, All-append}
 use Rattle.ti_caps.specs.Tables.{Capability, IsCapability, same_capability}
+use Rattle.ti_source.specs.declared.parsing.Rule.{Rule}
+use Rattle.ti_source.specs.declared.parsing.Rule.TheVariants.{Leftmost, OwnFirst}
 use Rattle.ti_source.specs.Reading.{Said, said_flag, said_number, said_text, said_cancel, said_import, ReadItem, Reading}
 use Rattle.ti_source.specs.Sound.{SetsItsKind}
 use Rattle.ti_layout.specs.Values.{Content, content_true, content_number, content_text, content_cancelled, AgreesIfSome, contents, Mention}
 use Rattle.ti_layout.specs.Laws.{without_cancel}
 use Rattle.base_meaning.specs.Owner.{is_among, owner_block}
 use Rattle.ti_text.specs.Lists.{both_lists}
-use Rattle.base_meaning.specs.Expansion.{is_broken, mentions_of, expand_items, expand}
+use Rattle.base_meaning.specs.Expansion.{is_broken, mentions_of, expand_items, own_items, use_items, uncancelled, block_mentions, expand}
+use Rattle.base_meaning.proofs.Ruling.{mapped_part, own_items-all, use_items-all, uncancelled-all}
 use Rattle.tools_relisting.specs.Relisting.{CanHave}
 use Rattle.tools_relisting.proofs.TextBytes.{SaysBytes, ItemSaysBytes}
 use Rattle.ti_caps.proofs.Same.{same_capability-true}
@@ -91,6 +94,18 @@ unbroken-expand env depth block ms e =
       | inr f ↦ f
     ]
 
+-- by either rule
+block-fits : (r : Rule) (of_name : List ℕ → Option (List Mention)) → ((name : List ℕ) (ms : List Mention) → of_name name ≡ Some ms → All MentionFits ms)
+    → (items : List ReadItem) (ms : List Mention) → All ItemFits items → block_mentions r of_name items ≡ Some ms → All MentionFits ms
+block-fits Leftmost of_name h items ms fits e = items-mentions-fit of_name h items ms fits e
+block-fits OwnFirst of_name h items ms fits e =
+    let p = joined-some (expand_items of_name (own_items items)) (option_map uncancelled (expand_items of_name (use_items items))) ms e in
+    let m = mapped_part uncancelled (expand_items of_name (use_items items)) p.second p.is_second in
+    subst (λ l. All MentionFits l) (sym p.whole)
+    (All-append MentionFits p.first p.second (items-mentions-fit of_name h (own_items items) p.first (own_items-all ItemFits items fits) p.is_first)
+    (subst (λ l. All MentionFits l) m.mapped
+    (uncancelled-all MentionFits m.before (items-mentions-fit of_name h (use_items items) m.before (use_items-all ItemFits items fits) m.is))))
+
 -- what follows from a value that is there
 pub record Follows {X Y : Type 0} (f : X → Option Y) (o : Option X) (y : Y) : Type 0 where
   pub from : X
@@ -107,8 +122,8 @@ pub expand-fits : (env : List ℕ → Option Reading) → ((name : List ℕ) (bl
 expand-fits env good zero block ms fits e = absurd (none-some ms e)
 expand-fits env good (suc depth) block ms fits e =
     let of_name : List ℕ → Option (List Mention) = λ name. option_and_then (expand env depth) (env name) in
-    let items : expand_items of_name block.items ≡ Some ms = rw (unbroken-expand env depth block ms e) at e in
-    items-mentions-fit of_name
+    let items : block_mentions block.rule of_name block.items ≡ Some ms = rw (unbroken-expand env depth block ms e) at e in
+    block-fits block.rule of_name
     (λ name more is. let owner = follows (expand env depth) (env name) more is in
     expand-fits env good depth owner.from more (good name owner.from owner.is) owner.gives)
     block.items ms fits items

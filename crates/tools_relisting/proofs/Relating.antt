@@ -12,6 +12,7 @@ use Rattle.ti_caps.specs.NameOrder.{EachKindIsInOrder}
 use Rattle.ti_caps.specs.Tables.{Capability, IsCapability}
 use Rattle.ti_source.specs.Reading.{said_import, Reading}
 use Rattle.ti_source.specs.Parsing.{reading_of_text}
+use Rattle.ti_source.proofs.ReadingLaws.{rule_of_text}
 use Rattle.ti_layout.specs.Values.{Content, content_true, content_number, content_text, content_cancelled, Contents, contents, Mention}
 use Rattle.ti_layout.specs.Laws.{without_cancel, ImagesAreOfValues, LimitsAreOfValues}
 use Rattle.base_meaning.specs.Owner.{is_among, owner, owner_block, readings}
@@ -152,7 +153,8 @@ relatives_compile ordered read images limits e layout listed shown used owns wit
     one.1 one_shown.listable one_shown.holds in
     let ms = mentions_for table (all_in layout.order) ++ used_mentions listed in
     let expanded : expansion blocks block ≡ Some ms =
-    own-at (owner_block blocks) (length blocks) block table (all_in layout.order) (uses_of others) is.none_wrong is.says
+    own-at (owner_block blocks) (length blocks) block table (all_in layout.order) (uses_of others)
+    (rule_of_text (relative e (entries_of listed) layout)) is.none_wrong is.says
     ∙ ap (before (mentions_for table (all_in layout.order))) (uses-expand (used_at (owner_block blocks) (length blocks)) listed expands) in
     let tells : (c : Capability) → IsCapability c → without_cancel (contents ms c) ≡ without_cancel (e.contents c) =
     λ c cap. ap without_cancel (all-contents ordered table layout (used_mentions listed) c cap ∙ ap (option_or (table c)) (used-contents ordered listed c cap))

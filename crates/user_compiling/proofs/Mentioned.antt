@@ -1,16 +1,20 @@
 -- What holds of all that the items of a source say holds of what its blocks say.
-use Rattle.std.proofs.Common.{◌≡◌, ℕ, zero, suc, Bool, true, false, cond, List, [], ◌∷◌, ◌++◌, Option, Some, None, option_and_then, slice_get, refl, subst}
+use Rattle.std.proofs.Common.{◌≡◌, ℕ, zero, suc, Bool, true, false, cond, List, [], ◌∷◌, ◌++◌, Option, Some, None, option_map, option_and_then, slice_get, refl, subst}
 use Rattle.std.specs.List.{All, AllByRecursion, Contains}
 use Rattle.std.specs.Str.{bytes_eq}
 use Rattle.std.specs.Cmp.Lexicographic.{bytes_decides}
-use Rattle.std.proofs.lemmas.List.Elements.{All-nil, All-cons, All-head, All-tail, All-append, All-weaker, All-contains_itself}
+use Rattle.std.proofs.lemmas.List.Elements.{All-nil, All-cons, All-head, All-tail, All-append, All-weaker, All-contains_itself, All-from_recursion, recursion_from_All}
 use Rattle.std.proofs.lemmas.Option.{same_Some, none-some, option_and_then_some}
 use Rattle.ti_text.specs.Lists.{both_lists}
 use Rattle.ti_source.specs.Parsing.{reading_of_text}
+use Rattle.ti_source.specs.declared.parsing.Rule.{Rule}
+use Rattle.ti_source.specs.declared.parsing.Rule.TheVariants.{Leftmost, OwnFirst}
 use Rattle.ti_source.specs.Reading.{Reading, ReadItem, Said, said_flag, said_number, said_text, said_cancel, said_import}
 use Rattle.ti_layout.specs.Values.{Content, content_true, content_number, content_text, content_cancelled, Mention}
 use Rattle.base_meaning.specs.Owner.{is_among, owner, owner_block, readings}
-use Rattle.base_meaning.specs.Expansion.{is_broken, mentions_of as mentions_there, expand_items as expand_there, expand}
+use Rattle.base_meaning.specs.Expansion.{is_broken, mentions_of as mentions_there, expand_items as expand_there, expand, own_items, use_items, block_mentions}
+use Rattle.base_meaning.specs.Expansion.{uncancelled as dropped}
+use Rattle.base_meaning.proofs.Ruling.{mapped_part, own_items-all, use_items-all, uncancelled-all}
 use Rattle.user_items.specs.Verdicts.{UserSaid, says, imports}
 use Rattle.user_items.specs.Reading.{ReadUserItem}
 use Rattle.user_items.specs.Parsing.{user_reading_of_text}
@@ -68,15 +72,31 @@ items-have P of_name h (item ∷ items) ms has e =
     both-have P (mentions_there of_name item.said) (expand_there of_name items) ms e (λ xs f. item-has P of_name h item.said xs has.0 f)
     (λ ys f. items-have P of_name h items ys has.1 f)
 
+-- by either rule
+ruled-have : (P : Mention → Type 0) (rule : Rule) (of_name : List ℕ → Option (List Mention))
+    → ((name : List ℕ) (ms : List Mention) → of_name name ≡ Some ms → All P ms)
+    → (items : List ReadItem) (ms : List Mention) → AllByRecursion (λ (item : ReadItem). SaidHas P item.said) items
+    → block_mentions rule of_name items ≡ Some ms → All P ms
+ruled-have P Leftmost of_name h items ms has e = items-have P of_name h items ms has e
+ruled-have P OwnFirst of_name h items ms has e =
+    let Has : ReadItem → Type 0 = λ item. SaidHas P item.said in
+    let all = All-from_recursion Has items has in
+    let own = recursion_from_All Has (own_items items) (own_items-all Has items all) in
+    let used = recursion_from_All Has (use_items items) (use_items-all Has items all) in
+    both-have P (expand_there of_name (own_items items)) (option_map dropped (expand_there of_name (use_items items))) ms e
+    (λ xs f. items-have P of_name h (own_items items) xs own f)
+    (λ ys f. let m = mapped_part dropped (expand_there of_name (use_items items)) ys f in
+    subst (λ zs. All P zs) m.mapped (uncancelled-all P m.before (items-have P of_name h (use_items items) m.before used m.is)))
+
 pub mentions-have : (P : Mention → Type 0) (env : List ℕ → Option Reading) → ((name : List ℕ) (block : Reading) → env name ≡ Some block → ItemsHave P block)
     → (depth : ℕ) (block : Reading) (ms : List Mention) → ItemsHave P block → expand env depth block ≡ Some ms → All P ms
 mentions-have P env good zero block ms has e = absurd (none-some ms e)
 mentions-have P env good (suc depth) block ms has e =
     let of_name : List ℕ → Option (List Mention) = λ name. option_and_then (expand env depth) (env name) in
-    items-have P of_name
+    ruled-have P block.rule of_name
     (λ name more is. option_and_then_some (expand env depth) (env name) more is
     (λ owned o gives. mentions-have P env good depth owned more (good name owned o) gives))
-    block.items ms has (if_whole (is_broken block) (expand_there of_name block.items) ms e)
+    block.items ms has (if_whole (is_broken block) (block_mentions block.rule of_name block.items) ms e)
 
 owned-at : (P : Reading → Type 0) (b : Reading) (bs : List Reading) (name : List ℕ) (block : Reading) (yes : Bool) → P b
     → (owner_block bs name ≡ Some block → P block) → cond yes (Some b) (owner_block bs name) ≡ Some block → P block

@@ -10,8 +10,10 @@ use Rattle.ti_caps.specs.NameOrder.{EachKindIsInOrder}
 use Rattle.ti_caps.specs.Tables.{Capability, IsCapability}
 use Rattle.ti_source.specs.Code.{is_error}
 use Rattle.ti_source.specs.declared.code.Code.TheVariants as code
+use Rattle.ti_source.specs.declared.parsing.Rule.TheVariants.{Leftmost}
 use Rattle.ti_source.specs.Reading.{ReadFault, ReadItem, Reading}
 use Rattle.ti_source.specs.Parsing.{reading_of_text}
+use Rattle.ti_source.proofs.ReadingLaws.{rule_of_text}
 use Rattle.ti_layout.specs.Values.{Content, Contents, contents}
 use Rattle.ti_layout.specs.Laws.{without_cancel, ImagesAreOfValues, LimitsAreOfValues}
 use Rattle.base_meaning.specs.Owner.{owner_block, readings}
@@ -52,10 +54,11 @@ not-broken [] all = refl
 not-broken (fault ∷ faults) all = rw all.0 (not-broken faults all.1)
 
 -- such a block expands to the mentions of the items that it has of a table
-expands : (env : List ℕ → Option Reading) (depth : ℕ) (block : Reading) (table : Contents) (cs : List Capability) → is_broken block ≡ false
-    → map (λ (item : ReadItem). item.said) block.items ≡ items_for table cs → expand env (suc depth) block ≡ Some (mentions_for table cs)
-expands env depth block table cs sound says =
-    rw sound
+expands : (env : List ℕ → Option Reading) (depth : ℕ) (block : Reading) (table : Contents) (cs : List Capability) → block.rule ≡ Leftmost
+    → is_broken block ≡ false → map (λ (item : ReadItem). item.said) block.items ≡ items_for table cs
+    → expand env (suc depth) block ≡ Some (mentions_for table cs)
+expands env depth block table cs rule sound says =
+    rw (sound, rule)
     (expand_items-says (used_at env depth) block.items
     ∙ ap (expand_says (used_at env depth)) (says ∙ sym (append-nil (items_for table cs)))
     ∙ own-expands (used_at env depth) table cs [] ∙ ap (λ ms. Some ms) (append-nil (mentions_for table cs)))
@@ -84,7 +87,7 @@ module _ (ordered : EachKindIsInOrder) (read : ItemsAreReadByTheProfile) where
   listing-expands-at entry names rows layout good has is are env depth =
       let block = reading_of_text (extended_listing entry layout) in
       let readable = listing-read entry names rows layout good has is are in
-      expands env depth block entry.entry.contents (all_in layout.order)
+      expands env depth block entry.entry.contents (all_in layout.order) (rule_of_text (extended_listing entry layout))
       (not-broken block.faults (recursion_from_All (λ (fault : ReadFault). fault.code ≡ code.UnknownCapability) block.faults readable.warned)) readable.says
 
   listing-expands : (entry : Extended) (names : List (List ℕ)) (rows : List Row) (layout : Layout) → IsListable entry.entry.names names
@@ -119,7 +122,7 @@ module _ (ordered : EachKindIsInOrder) (read : ItemsAreReadByTheProfile) where
   any-expands-at entry layout can env depth =
       let block = reading_of_text (extended_listing entry layout) in
       let readable = any-read entry layout can in
-      expands env depth block entry.entry.contents (all_in layout.order)
+      expands env depth block entry.entry.contents (all_in layout.order) (rule_of_text (extended_listing entry layout))
       (not-broken block.faults (recursion_from_All (λ (fault : ReadFault). fault.code ≡ code.UnknownCapability) block.faults readable.warned)) readable.says
 
   pub tables_say : ListingsSayTheTables

@@ -10,6 +10,8 @@ use Rattle.ti_caps.specs.NameOrder.{EachKindIsInOrder}
 use Rattle.ti_caps.specs.Tables.{Capability, IsCapability}
 use Rattle.ti_source.specs.declared.code.Code.TheVariants as code
 use Rattle.ti_source.specs.Parsing.{reading_of_text}
+use Rattle.ti_source.proofs.ReadingLaws.{rule_of_text}
+use Rattle.ti_source.specs.declared.parsing.Rule.TheVariants.{Leftmost}
 use Rattle.ti_source.specs.Reading.{ReadFault, ReadItem, Reading, Said}
 use Rattle.ti_layout.specs.Values.{Contents, contents, Mention}
 use Rattle.ti_layout.specs.Laws.{without_cancel}
@@ -40,10 +42,10 @@ use Rattle.user_relisting.proofs.Telling.{can-use, writable}
 -- a block that is not broken expands to the mentions of the items that it has of a table, and then
 -- to those of the others
 expands-before : (env : List ℕ → Option Reading) (depth : ℕ) (block : Reading) (table : Contents) (cs : List Capability) (more : List Said)
-    → is_broken block ≡ false → map (λ (item : ReadItem). item.said) block.items ≡ items_for table cs ++ more
+    → block.rule ≡ Leftmost → is_broken block ≡ false → map (λ (item : ReadItem). item.said) block.items ≡ items_for table cs ++ more
     → expand env (suc depth) block ≡ before (mentions_for table cs) (expand_says (used_at env depth) more)
-expands-before env depth block table cs more sound says =
-    rw sound
+expands-before env depth block table cs more rule sound says =
+    rw (sound, rule)
     (expand_items-says (used_at env depth) block.items ∙ ap (expand_says (used_at env depth)) says ∙ own-expands (used_at env depth) table cs more)
 
 -- the mentions of the others, in turn
@@ -103,7 +105,8 @@ module _ (ordered : EachKindIsInOrder) (plain : ItemsAreReadByTheProfile) where
       let table = differing_contents entry.entry.contents (entries_in others) in
       let reads = relative-plain ordered plain entry others can.names layout can.listable can.holds own (can-use texts listed each) in
       let sound = not-broken block.faults (recursion_from_All (λ (fault : ReadFault). fault.code ≡ code.UnknownCapability) block.faults reads.warned) in
-      expands-before env (suc depth) block table (all_in layout.order) (uses_of (entries_in others)) sound
+      expands-before env (suc depth) block table (all_in layout.order) (uses_of (entries_in others))
+      (rule_of_text (extended_relative entry others layout)) sound
       (reads.says ∙ ap (λ (ss : List Said). ss ++ uses_of (entries_in others)) (entry_items-all layout table))
       ∙ ap (before (mentions_for table (all_in layout.order))) (uses-expand (used_at env (suc depth)) listed (each-gives texts depth listed each))
 

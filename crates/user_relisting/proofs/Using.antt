@@ -8,6 +8,7 @@ use Rattle.ti_caps.specs.NameOrder.{EachKindIsInOrder}
 use Rattle.ti_caps.specs.Tables.{Capability, IsCapability, same_capability}
 use Rattle.ti_text.specs.Lists.{both_lists}
 use Rattle.ti_source.specs.Parsing.{reading_of_text}
+use Rattle.ti_source.proofs.ReadingLaws.{rule_of_text}
 use Rattle.ti_source.specs.Reading.{Said, said_flag, said_number, said_text, said_cancel, said_import}
 use Rattle.ti_layout.specs.Laws.{without_cancel}
 use Rattle.ti_layout.specs.Values.{Content, Mention, contents, content_true, content_number, content_text, content_cancelled}
@@ -168,7 +169,7 @@ module _ (ordered : EachKindIsInOrder) (plain : ItemsAreReadByTheProfile) where
       ap (expand_says of_name) (sym (append-nil only.after)) ∙ a.expand [] in
       let by_use : expand_says of_name (said_import used ∷ only.after) ≡ Some (es ++ (a.mentions ++ [])) = rw (here, ends) refl in
       let whole : profile.expand env (suc (suc depth)) (reading_of_text text) ≡ Some (b.mentions ++ (es ++ (a.mentions ++ []))) =
-      rw sound (expand_items-says of_name (reading_of_text text).items ∙ ap (expand_says of_name) only.whole ∙ b.expand (said_import used ∷ only.after)
+      rw (sound, rule_of_text text) (expand_items-says of_name (reading_of_text text).items ∙ ap (expand_says of_name) only.whole ∙ b.expand (said_import used ∷ only.after)
       ∙ ap (both_lists (Some b.mentions)) by_use) in (
         b.mentions ++ (es ++ (a.mentions ++ [])),
         whole,

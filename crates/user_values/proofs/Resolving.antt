@@ -21,6 +21,7 @@ use Rattle.ti_source.specs.Judging.{items_at as items_at_there, items_from as it
 use Rattle.ti_source.specs.Verdicts.{ReadClaim, reads_flag, reads_number, reads_text, reads_cancel, is_import, fitting_verdict, named_verdict}
 use Rattle.ti_source.specs.Verdicts.{items_by as items_by_there, verdict_on as verdict_there}
 use Rattle.ti_source.specs.Parsing.{reading_of_text}
+use Rattle.ti_source.proofs.ReadingLaws.{rule_of_text}
 use Rattle.ti_source.specs.Reading.{Reading}
 use Rattle.ti_layout.specs.Values.{Mention}
 use Rattle.base_meaning.specs.Owner.{owner_block, readings}
@@ -153,9 +154,10 @@ block_some texts (suc depth) text =
           let t = text_read texts at block o.stands in
           rw (o.owns, o.is, t.1) (block_some texts depth t.0 ∙ ap (λ b. is_some (expand_there env depth b)) t.2)
     ] in
-    cond-some (is_broken (reading_of_text text)) (expand_items f (user_reading_of_text text).items) (expand_items_there g (reading_of_text text).items)
+    let rule = rule_of_text text in
+    rw rule (cond-some (is_broken (reading_of_text text)) (expand_items f (user_reading_of_text text).items) (expand_items_there g (reading_of_text text).items)
     (ap (λ is. is_some (expand_items f is)) (items_here text) ∙ all_some f g names 0 (block_items text)
-    ∙ ap (λ is. is_some (expand_items_there g is)) (sym (items_there text)))
+    ∙ ap (λ is. is_some (expand_items_there g is)) (sym (items_there text))))
 
 same_length : (texts : List (List ℕ)) → length (readings texts) ≡ length texts
 same_length texts = length-map texts reading_of_text

@@ -2,10 +2,11 @@
 use Rattle.ti_text.specs.Ascii as ascii
 use Rattle.std.specs.Prelude.{◌≡◌, ℕ, List, [], ◌++◌, map, Option, Some, None}
 use Rattle.ti_source.specs.declared.items.Escape.TheVariants as escape
+use Rattle.ti_source.specs.declared.parsing.Rule.TheVariants.{Leftmost}
 use Rattle.ti_source.specs.Folding.{PlacedByte}
 use Rattle.ti_source.specs.inside.Folding.{folding_of}
 use Rattle.ti_source.specs.Items.{Statement, ItemPiece, bytes, piece_of}
-use Rattle.ti_source.specs.inside.Items.{field_of, after_field, items_of}
+use Rattle.ti_source.specs.inside.Items.{field_of, items_of}
 use Rattle.ti_source.specs.Stating.{statement_of}
 use Rattle.ti_source.specs.Reading.{ReadItem, ReadFault, Reading}
 use Rattle.ti_source.specs.Judging.{Judged, items_at, faults_at, items_from, faults_from, names_found, header_faults}
@@ -27,6 +28,7 @@ block_field block = bytes (field_of (folding_of block))
 
 -- the names and the fault of a names field were read, and no items
 pub record ReadsField (field : List ℕ) (reading : Reading) : Type 0 where
+  pub rule : reading.rule ≡ Leftmost
   pub is_field : reading.field ≡ field
   pub names : reading.names ≡ names_found (header_names field)
   pub items : reading.items ≡ []
@@ -34,6 +36,7 @@ pub record ReadsField (field : List ℕ) (reading : Reading) : Type 0 where
 
 -- these items and faults were added to a reading
 pub record AddsToReading (found : List ReadItem) (faults : List ReadFault) (old new : Reading) : Type 0 where
+  pub same_rule : new.rule ≡ old.rule
   pub same_field : new.field ≡ old.field
   pub same_names : new.names ≡ old.names
   pub more_items : new.items ≡ old.items ++ found

@@ -1,4 +1,4 @@
-use Rattle.std.proofs.Common.{◌≡◌, ◌≤◌, ◌+◌, ℕ, if◌then◌else◌, List, [], ◌∷◌, length, Bool, true, false, arith, refl, subst, sym}
+use Rattle.std.proofs.Common.{◌≤◌, ◌+◌, ℕ, if◌then◌else◌, List, [], ◌∷◌, length, true, false, arith}
 use Rattle.ti_source.specs.declared.items.Escape.{Escape}
 use Rattle.ti_source.specs.declared.items.Escape.TheVariants as escape
 use Rattle.ti_source.specs.Folding.{PlacedByte}

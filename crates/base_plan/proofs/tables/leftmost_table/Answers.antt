@@ -1,4 +1,4 @@
-use Rattle.std.proofs.Common.{◌<◌, ◌≤◌, map, take, length, arith, refl}
+use Rattle.std.proofs.Common.{◌<◌, ◌≤◌, map, take, length, refl}
 use Rattle.std.proofs.lemmas.List.{take_all}
 use Rattle.std.proofs.lemmas.Result.{IfOk-weaker}
 use Rattle.ti_source.specs.Reading.{reading_of, item_of}
@@ -9,17 +9,15 @@ use Rattle.base_slots.specs.Slots.{blocks_of}
 use Rattle.base_plan.proofs.ItemLists.{All-map_item, map-take_item, slice_get-map_item}
 use Rattle.base_plan.proofs.BlockValues.{same_table}
 use Rattle.base_plan.proofs.Places.{usable_at}
-use Rattle.base_plan.proofs.tables.make_table.Goals as goal
+use Rattle.base_plan.proofs.tables.leftmost_table.Goals as goal
 
-pub add_item-requires : goal.add_item-requires
-add_item-requires g c =
+pub say-requires : goal.say-requires
+say-requires g c =
     let items = c.args.block.now.items.items in
     let within : c.loop-index.index < length items = rw c.deref-item-items.ensures.value at c.loop-index-test.true in
     let here = rw c.deref-item-items.ensures.value at c.item-item.is in
     let usable =
-    usable_at c.args.known.now.slots.now c.args.known.now.dependents.now c.requires.0.known.found g.at (reading_of c.args.block.now) c.requires.1.0 in
-    let steps = c.loop-index.invariant.steps in
-    let room = c.requires.1.1.1.1 in (
+    usable_at c.args.known.now.slots.now c.args.known.now.dependents.now c.requires.0.known.found g.at (reading_of c.args.block.now) c.requires.1.0 in (
       c.requires.0,
       (
         record {
@@ -31,7 +29,7 @@ add_item-requires g c =
         },
         (
           All-map_item (λ i. SetsWell i.said) item_of items c.loop-index.index c.item-item.result within here usable.sets,
-          (c.requires.1.1.1.0, omega arith),
+          c.requires.1.1.1.0,
         ),
       ),
     )
@@ -41,26 +39,19 @@ loop-index-preserved g c =
     let items = c.args.block.now.items.items in
     let within : c.loop-index.index < length items = rw c.deref-item-items.ensures.value at c.loop-index-test.true in
     let here = rw c.deref-item-items.ensures.value at c.item-item.is in
-    let steps = c.loop-index.invariant.steps in
-    let more = c.in_ok-add_item.ensures.work in
-    record {
-      added = rw (map-take_item item_of items c.loop-index.index c.item-item.result within here)
-          (table_of_one_more (blocks_of c.args.known.now.slots.now) (map item_of (take c.loop-index.index items)) (item_of c.item-item.result)
-          (contents c.loop-index.mentions) (contents c.add_item.new.mentions)
-          c.loop-index.invariant.added c.in_ok-add_item.ensures.added);
-      steps = omega arith;
-    }
+    rw (map-take_item item_of items c.loop-index.index c.item-item.result within here)
+    (table_of_one_more (blocks_of c.args.known.now.slots.now) (map item_of (take c.loop-index.index items)) (item_of c.item-item.result)
+    (contents c.loop-index.mentions) (contents c.say.new.mentions)
+    c.loop-index.invariant c.in_ok-say.ensures)
 
-pub returns-clause-table : goal.returns-clause-table
-returns-clause-table g c =
+pub returns : goal.returns
+returns g c =
     let past : length c.args.block.now.items.items ≤ c.loop-index.index = rw c.deref-item-items.ensures.value at c.loop-index-test.false in
-    let items = rw (take_all c.loop-index.index c.args.block.now.items.items past) at c.loop-index.invariant.added in
-    let whole = table_of_block (blocks_of c.args.known.now.slots.now) (reading_of c.args.block.now) (contents c.loop-index.mentions) c.requires.1.1.0 items in
+    let items = rw (take_all c.loop-index.index c.args.block.now.items.items past) at c.loop-index.invariant in
+    let whole =
+    table_of_block (blocks_of c.args.known.now.slots.now) (reading_of c.args.block.now) (contents c.loop-index.mentions) c.requires.1.1.1.1 c.requires.1.1.0 items in
     IfOk-weaker c.into_table.result _ _ (λ table same. same_table (blocks_of c.args.known.now.slots.now) (reading_of c.args.block.now)
     (contents c.loop-index.mentions) (contents table) same whole) c.into_table.ensures
 
 pub loop-index-init : goal.loop-index-init
-loop-index-init g c = record {
-  added = table_of_nothing (blocks_of c.args.known.now.slots.now) (contents c.in_ok-mentions.mentions) c.in_ok-mentions.ensures;
-  steps = omega arith;
-}
+loop-index-init g c = table_of_nothing (blocks_of c.args.known.now.slots.now) (contents c.in_ok-mentions.mentions) c.in_ok-mentions.ensures

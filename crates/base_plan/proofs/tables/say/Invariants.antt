@@ -1,4 +1,4 @@
-use Rattle.base_plan.proofs.tables.add_item.Given as goal
+use Rattle.base_plan.proofs.tables.say.Given as goal
 
 abbrev pub ghost-merge_owner : goal.ghost-merge_owner
 ghost-merge_owner g a = g.at

@@ -1,0 +1,20 @@
+//! Laws on the rules by which a block's values count. They compute nothing.
+ghost use Rattle.base_meaning.specs.Rules.{OwnMentionsComeFirst, ReadingsAreLeftmost, RulesAgreeOnPlainBlocks};
+
+/// In each block of a source the leftmost mention of a capability decides, as the blocks are read.
+pub fn readings_are_leftmost()
+    ensures { ReadingsAreLeftmost }
+{}
+
+/// By [`Rule::OwnFirst`](ti_source::Rule::OwnFirst) the last of a block's own mentions of a
+/// capability decides. If it has none, the first of its uses decides whose entry says something of
+/// the capability; a cancel there leaves it absent.
+pub fn own_mentions_come_first()
+    ensures { OwnMentionsComeFirst }
+{}
+
+/// Both rules give a block the same values if in all blocks uses come last, nothing is said twice
+/// and no used entry cancels anything.
+pub fn rules_agree_on_plain_blocks()
+    ensures { RulesAgreeOnPlainBlocks }
+{}
