@@ -9,7 +9,7 @@ use Rattle.std.proofs.lemmas.List.Kept.{AllPairs-cons}
 use Rattle.ti_caps.proofs.Table.{Contains-cons}
 use Rattle.lsp_keeping.specs.Keeping.{stays_in_line}
 use Rattle.everyday_lint.specs.Laws.{AreAmong, FixesAreMade, FixesChangeNothingElse, IsInTheWay, given_by, taken_by, woven}
-use Rattle.everyday_lint.specs.Mending.{begins, ends, is_made, made, mended}
+use Rattle.everyday_lint.specs.Fixing.{begins, ends, is_made, made, fixed_text}
 use Rattle.everyday_lint.specs.Offers.{OfferSeen}
 
 -- ---- what they change
@@ -24,7 +24,7 @@ unfolding parts_from
 each_part text at [] = refl
 each_part text at (fix ∷ fixes) = let rest = each_part text (ends text fix) fixes in omega (arith, rest)
 
-parts_after : (text : List ℕ) (at : ℕ) (fixes : List OfferSeen) → woven (parts_from text at fixes) (map given_by fixes) ≡ mended text at fixes
+parts_after : (text : List ℕ) (at : ℕ) (fixes : List OfferSeen) → woven (parts_from text at fixes) (map given_by fixes) ≡ fixed_text text at fixes
 unfolding parts_from
 parts_after text at [] = refl
 parts_after text at (fix ∷ fixes) =

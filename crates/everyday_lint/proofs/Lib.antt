@@ -1,7 +1,7 @@
 -- Lemmas of this crate.
 pub mod Choices
-pub mod Mended
-pub mod Mendings
+pub mod FixedFiles
+pub mod FixingProofs
 pub mod Sentences
 pub mod Turns
 pub mod Walking

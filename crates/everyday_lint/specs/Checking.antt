@@ -5,7 +5,7 @@ use Rattle.std.specs.Prelude.{◌≡◌, ℕ, List, [], if◌then◌else◌}
 use Rattle.lsp_plain.specs.Reading.{plain_source, without_mark}
 use Rattle.lsp_document.specs.Diagnostics.{diagnostics_by}
 use Rattle.lsp_remarks.specs.Remarks.{remarks_of}
-use Rattle.everyday_lint.specs.Mending.{made}
+use Rattle.everyday_lint.specs.Fixing.{made}
 use Rattle.everyday_lint.specs.Offers.{OfferSeen, offers_of}
 use Rattle.everyday_lint.specs.Telling.{severities_of, told_of_all}
 use Rattle.everyday_lint.specs.declared.checking.Linted.{Linted}

@@ -6,7 +6,7 @@ use Rattle.lsp_plain.specs.Reading.{without_mark}
 use Rattle.lsp_plain.specs.Writing.{marked_like}
 use Rattle.everyday_fmt.specs.Fates.{Held, Holds, IsReason, whole_size}
 use Rattle.everyday_lint.specs.Checking.{IsLintedSource, made_in}
-use Rattle.everyday_lint.specs.Mending.{fix_lines, mended}
+use Rattle.everyday_lint.specs.Fixing.{fix_lines, fixed_text}
 use Rattle.everyday_lint.specs.Offers.{OfferSeen}
 use Rattle.everyday_lint.specs.declared.files.Done.{Done}
 use Rattle.everyday_lint.specs.declared.files.Fate.{Fate}
@@ -30,29 +30,29 @@ TellsFailure cause (Failed reason) = IsReason cause (string_bytes reason)
 TellsFailure cause fate = ⊥
 
 -- a source with fixes made, in its lines as they are; a byte order mark stays, and counts in no place
-abbrev pub mended_source : List ℕ → List OfferSeen → List ℕ
-mended_source source offers = marked_like source (mended (without_mark source) 0 offers)
+abbrev pub fixed_source : List ℕ → List OfferSeen → List ℕ
+fixed_source source offers = marked_like source (fixed_text (without_mark source) 0 offers)
 
 -- what becomes of the file at a path, of this source, in which these fixes are made: it gets the source
 -- with them, and that is what is told of; or it could not be written, and the tree says why
-abbrev pub Mends : LintOptions → (path source : List ℕ) → List OfferSeen → Held → Held → Fate → Type 0
-Mends options path source offers before after (Checked linted) =
-    IsLintedSource options path (mended_source source offers) (fix_lines path (without_mark source) offers) linted
-    × Sets (path, mended_source source offers) before.files after.files × (after.failures ≡ before.failures)
-Mends options path source offers before after Absent = ⊥
-Mends options path source offers before after (Failed reason) =
+abbrev pub Fixes : LintOptions → (path source : List ℕ) → List OfferSeen → Held → Held → Fate → Type 0
+Fixes options path source offers before after (Checked linted) =
+    IsLintedSource options path (fixed_source source offers) (fix_lines path (without_mark source) offers) linted
+    × Sets (path, fixed_source source offers) before.files after.files × (after.failures ≡ before.failures)
+Fixes options path source offers before after Absent = ⊥
+Fixes options path source offers before after (Failed reason) =
     IsReason after.cause (string_bytes reason) × (after.failures ≡ before.failures + 1) × ChangesOnly path before.files after.files
 
 -- the same if there may be no fixes: then it stays as it is
-abbrev pub MendsIfSome : LintOptions → (path source : List ℕ) → List OfferSeen → Held → Held → Fate → Type 0
-MendsIfSome options path source [] before after (Checked linted) =
+abbrev pub FixesIfSome : LintOptions → (path source : List ℕ) → List OfferSeen → Held → Held → Fate → Type 0
+FixesIfSome options path source [] before after (Checked linted) =
     IsLintedSource options path source [] linted × (after.files ≡ before.files) × (after.failures ≡ before.failures)
-MendsIfSome options path source [] before after fate = ⊥
-MendsIfSome options path source (offer ∷ offers) before after fate = Mends options path source (offer ∷ offers) before after fate
+FixesIfSome options path source [] before after fate = ⊥
+FixesIfSome options path source (offer ∷ offers) before after fate = Fixes options path source (offer ∷ offers) before after fate
 
 -- what becomes of the file at a path, of this source
 abbrev pub Finds : LintOptions → (path source : List ℕ) → Held → Held → Fate → Type 0
-Finds options path source before after fate = MendsIfSome options path source (made_in options source) before after fate
+Finds options path source before after fate = FixesIfSome options path source (made_in options source) before after fate
 
 -- what becomes of the file at a path: what is in it is told of; or it is not there, or could not be
 -- read, and the tree says why

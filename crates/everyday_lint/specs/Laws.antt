@@ -3,7 +3,7 @@
 use Rattle.std.specs.Prelude.{◌≡◌, ◌⊎◌, ℕ, ◌+◌, ◌<◌, ◌≤◌, false, true, List, [], ◌∷◌, ◌++◌, All, Contains, length, map}
 use Rattle.std.specs.List.{AllPairs, slice_range}
 use Rattle.lsp_keeping.specs.Keeping.{stays_in_line}
-use Rattle.everyday_lint.specs.Mending.{begins, ends, made, mended}
+use Rattle.everyday_lint.specs.Fixing.{begins, ends, made, fixed_text}
 use Rattle.everyday_lint.specs.Offers.{OfferSeen}
 
 -- ---- what they change
@@ -32,7 +32,7 @@ pub record ChangesOnly (text : List ℕ) (fixes : List OfferSeen) (changed : Lis
 
 -- A text with fixes made is the text before but for what the fixes are of.
 abbrev pub FixesChangeNothingElse : Type 0
-FixesChangeNothingElse = (text : List ℕ) (offers : List OfferSeen) → ChangesOnly text (made text 0 offers) (mended text 0 (made text 0 offers))
+FixesChangeNothingElse = (text : List ℕ) (offers : List OfferSeen) → ChangesOnly text (made text 0 offers) (fixed_text text 0 (made text 0 offers))
 
 -- ---- which are made
 

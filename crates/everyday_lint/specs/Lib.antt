@@ -2,7 +2,7 @@
 pub mod Words
 pub mod Telling
 pub mod Offers
-pub mod Mending
+pub mod Fixing
 pub mod Laws
 pub mod Checking
 pub mod Fates

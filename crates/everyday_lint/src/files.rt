@@ -4,12 +4,12 @@ ghost use Rattle.std.specs.String.{string_bytes};
 ghost use Rattle.lsp_plain.specs.Reading.{plain_source};
 ghost use Rattle.everyday_fmt.specs.Fates.{held};
 ghost use Rattle.tools_devices.specs.Tree.{ChangesOnly};
-ghost use Rattle.everyday_lint.specs.Fates.{Finds, LintsFile, LintsFiles, Mends, StopsAmong, Stays, TellsFailure};
+ghost use Rattle.everyday_lint.specs.Fates.{Finds, LintsFile, LintsFiles, Fixes, StopsAmong, Stays, TellsFailure};
 ghost use Rattle.everyday_lint.specs.Checking.{made_in};
 ghost use Rattle.everyday_lint.specs.Offers.{made_seen};
 
 use crate::checking::{Linted, check_source, document_of, offers_in};
-use crate::mending::{fix_lines, made, mended};
+use crate::fixing::{fix_lines, made, fixed_text};
 use crate::offers::Offer;
 use crate::options::LintOptions;
 use everyday_fmt::ReasonedTree;
@@ -46,7 +46,7 @@ fn failure<T: ReasonedTree>(alloc: Global, tree: &T) -> Result<Fate, AllocError>
 }
 
 // Writes a source with fixes made, and finds out about it.
-fn mend_file<T: ReasonedTree>(
+fn fix_file<T: ReasonedTree>(
     alloc: Global,
     tree: &mut T,
     options: LintOptions,
@@ -54,16 +54,16 @@ fn mend_file<T: ReasonedTree>(
     source: &[u8],
     offers: &[&Offer],
 ) -> Result<Fate, AllocError>
-    ensures done { IfOk result (Mends options path.now source.now (map made_seen offers.now)
+    ensures done { IfOk result (Fixes options path.now source.now (map made_seen offers.now)
         (held T.files T.failures T.cause tree.old) (held T.files T.failures T.cause tree.new)) }
     ensures refused { OnErr result (ChangesOnly path.now (T.files tree.old) (T.files tree.new)) }
 {
     let text = without_mark(source);
     let fixes = fix_lines(alloc, path, text, offers)?;
-    let mended = marked_like(alloc, source, mended(alloc, text, offers)?)?;
-    let mut document = document_of(alloc, &mended)?;
-    let linted = check_source(alloc, options, path, &mended, &mut document, fixes)?;
-    match tree.write(path, &mended) {
+    let fixed_text = marked_like(alloc, source, fixed_text(alloc, text, offers)?)?;
+    let mut document = document_of(alloc, &fixed_text)?;
+    let linted = check_source(alloc, options, path, &fixed_text, &mut document, fixes)?;
+    match tree.write(path, &fixed_text) {
         Ok(()) => Ok(Fate::Checked(linted)),
         Err(TreeFault::Failed) => failure(alloc, tree),
         Err(TreeFault::Memory) => Err(AllocError),
@@ -90,7 +90,7 @@ fn lint_made<T: ReasonedTree>(
         let linted = check_source(alloc, options, path, source, document, fixes)?;
         return Ok(Fate::Checked(linted));
     }
-    mend_file(alloc, tree, options, path, source, offers)
+    fix_file(alloc, tree, options, path, source, offers)
 }
 
 // Finds out about a source of a file, and makes the fixes that are certain, if fixes are made.

@@ -16,7 +16,7 @@
 //!   (`LintOutcome`)
 //! - `words`: the words of a diagnostic in each form
 //! - `lines`: the lines of a text, and columns in bytes; `telling`: what is told of diagnostics
-//! - `offers`: the fixes that are certain; `mending`: a source with these made, which keeps its
+//! - `offers`: the fixes that are certain; `fixing`: a source with these made, which keeps its
 //!   comments and blank lines (`fixes_keep_lines`)
 //! - `checking`: what is found out about a source (`Linted`)
 //! - `files`: what becomes of a file, and of files in turn
@@ -30,7 +30,7 @@ mod checking;
 mod files;
 pub mod laws;
 mod lines;
-mod mending;
+mod fixing;
 mod offers;
 mod options;
 mod report;
@@ -43,7 +43,7 @@ pub use everyday_fmt::ReasonedTree;
 pub use everyday_forms::Form;
 pub use files::{Done, Fate};
 pub use lsp_document::Capabilities;
-pub use mending::fixes_keep_lines;
+pub use fixing::fixes_keep_lines;
 pub use options::{LintOptions, LintOutcome};
 pub use tool::{hint_lines, lint_files, lint_input};
 pub use words::sentences_are_of_faults;

@@ -20,7 +20,7 @@ use Rattle.lsp_spans.specs.Subjects.{head_text, items_of}
 use Rattle.lsp_spans.specs.declared.parts.Part.{Part}
 use Rattle.lsp_spans.proofs.Exchanging.{begins_visible, found_raw, one_replaced}
 use Rattle.lsp_spans.proofs.Rereading.{fault_by, fault_is, new_read, only_code, other_got, others_read, said_is, same_got, verdict_in}
-use Rattle.lsp_fixes.specs.Healing.{LosesFault, OneItemChanges}
+use Rattle.lsp_fixes.specs.Healing.{IsFixed, LosesFault, OneItemChanges}
 use Rattle.lsp_fixes.specs.Laws.{IsAccepted, IsOfCapability, IsRead}
 
 -- what a text that takes a part's place makes of its block
@@ -151,35 +151,35 @@ loses_unknown block after ordinal text had changes is = record {
 accepted_not : (verdict : Verdict) (said : Said) (c : Code) → said_by verdict ≡ Some said → verdict ≢ refused c
 accepted_not verdict said c accepts e = let no = ap said_by e in cc
 
+-- an item that is refused with a fault other than that of an odd escape, and then is accepted
+loses_accepted : (c : Code) → c ≢ code.UnknownEscape → (block after : List ℕ) (ordinal : ℕ) (text : List ℕ) → fault_at block ordinal ≡ Some c
+    → OneItemChanges block after ordinal text → IsAccepted text → IsFixed c block after ordinal text
+    → LosesFault block after ordinal
+loses_accepted c other block after ordinal text had changes is fixed = record {
+  code = c;
+  text = text;
+  had = had;
+  gone = λ e. code_of_refused is.verdict c ((changes.reads is.verdict is.is_read).fault c e) (accepted_not is.verdict is.said c is.accepts) other;
+  changes = changes;
+  fixed = fixed;
+}
+
+-- what it says then
+says_accepted : (block after : List ℕ) (ordinal : ℕ) (text : List ℕ) → OneItemChanges block after ordinal text → (is : IsAccepted text)
+    → said_at after ordinal ≡ Some is.said
+says_accepted block after ordinal text changes is = (changes.reads is.verdict is.is_read).says ∙ is.accepts
+
 pub loses_kind : (block after : List ℕ) (ordinal : ℕ) (text : List ℕ) → fault_at block ordinal ≡ Some code.WrongKind
     → OneItemChanges block after ordinal text → IsAccepted text
     → LosesFault block after ordinal
 loses_kind block after ordinal text had changes is =
-    let read = changes.reads is.verdict is.is_read in
-    record {
-      code = code.WrongKind;
-      text = text;
-      had = had;
-      gone = λ e. code_of_refused is.verdict code.WrongKind (read.fault code.WrongKind e) (accepted_not is.verdict is.said code.WrongKind is.accepts)
-          (λ same. cc);
-      changes = changes;
-      fixed = (is.said, read.says ∙ is.accepts);
-    }
+    loses_accepted code.WrongKind (λ same. cc) block after ordinal text had changes is (is.said, says_accepted block after ordinal text changes is)
 
 pub loses_caret : (block after : List ℕ) (ordinal : ℕ) (text : List ℕ) → fault_at block ordinal ≡ Some code.BadString
     → OneItemChanges block after ordinal text → IsAccepted text
     → LosesFault block after ordinal
 loses_caret block after ordinal text had changes is =
-    let read = changes.reads is.verdict is.is_read in
-    record {
-      code = code.BadString;
-      text = text;
-      had = had;
-      gone = λ e. code_of_refused is.verdict code.BadString (read.fault code.BadString e) (accepted_not is.verdict is.said code.BadString is.accepts)
-          (λ same. cc);
-      changes = changes;
-      fixed = (is.said, read.says ∙ is.accepts);
-    }
+    loses_accepted code.BadString (λ same. cc) block after ordinal text had changes is (is.said, says_accepted block after ordinal text changes is)
 
 -- an item that is accepted as it is has no fault
 none_is : (o : Option Code) → ((c : Code) → o ≡ Some c → ⊥) → o ≡ None

@@ -34,7 +34,7 @@ use Rattle.lsp_fixes.specs.Candidates.{names_for}
 use Rattle.lsp_fixes.specs.Carets.{healing_caret}
 use Rattle.lsp_fixes.specs.Pieces.{after_name, value_of, without_last, written_name}
 use Rattle.lsp_fixes.specs.Shown.{shown}
-use Rattle.lsp_fixes.specs.Healing.{IsFixed, OneItemChanges, block_after}
+use Rattle.lsp_fixes.specs.Healing.{IsFixed, LosesFault, OneItemChanges, Stays, block_after}
 use Rattle.lsp_fixes.specs.Together.{CertainEditsAreMade, IsSound, StaysAsItWas, TheseAreCertain, certain_edits, certain_for, certain_from, edited_last}
 use Rattle.lsp_fixes.proofs.CaretsMend.{carets_mend}
 use Rattle.lsp_fixes.proofs.Exchanging.{no_edit, only_edit}
@@ -365,34 +365,32 @@ fixed_as : (c found : Code) (block after : List ℕ) (ordinal : ℕ) (text : Lis
     → IsFixed c block after ordinal text
 fixed_as c found block after ordinal text same is = subst (λ (k : Code). IsFixed k block after ordinal text) same is
 
+-- an edit by which an item loses a fault, and says something then
+one_made_by : (c : Code) (block : List ℕ) (ordinal : ℕ) (item : List PlacedByte) (edit : EditSeen) → OneBlock block
+    → slice_get (items_of (folded_of block)) ordinal ≡ Some item
+    → ((text : List ℕ) → IsFixed c block (block_after block edit) ordinal text → (said : Said) × (said_at (block_after block edit) ordinal ≡ Some said))
+    → fault_at block ordinal ≡ Some c → LosesFault block (block_after block edit) ordinal × Stays block edit × Fits item edit
+    → IsMade block (block_after block edit) ordinal
+one_made_by c block ordinal item edit single there says had heals =
+    let loses = heals.0 in
+    let same : loses.code ≡ c = let h = loses.had in cc in
+    let now = says loses.text (fixed_as c loses.code block (block_after block edit) ordinal loses.text same loses.fixed) in
+    record {
+      single = heals.1.1;
+      text = loses.text;
+      changes = loses.changes;
+      sound = is_sound (block_after block edit) ordinal now.0 now.1;
+      earlier = earlier_fits block ordinal item edit single there heals.2;
+    }
+
 one_made : (block : List ℕ) (ordinal : ℕ) (item : List PlacedByte) (edit : EditSeen) (o : Option Code) → OneBlock block
     → slice_get (items_of (folded_of block)) ordinal ≡ Some item → fault_at block ordinal ≡ o → Contains (certain_for item o) edit
     → IsMade block (block_after block edit) ordinal
 one_made block ordinal item edit None single there had has = absurd (no_edit edit has)
 one_made block ordinal item edit (Some code.WrongKind) single there had has =
-    let heals = signs_heal block ordinal item edit single there had has in
-    let loses = heals.0 in
-    let same : loses.code ≡ code.WrongKind = let h = loses.had in cc in
-    let says = fixed_as code.WrongKind loses.code block (block_after block edit) ordinal loses.text same loses.fixed in
-    record {
-      single = heals.1.1;
-      text = loses.text;
-      changes = loses.changes;
-      sound = is_sound (block_after block edit) ordinal says.0 says.1;
-      earlier = earlier_fits block ordinal item edit single there heals.2;
-    }
+    one_made_by code.WrongKind block ordinal item edit single there (λ text fixed. fixed) had (signs_heal block ordinal item edit single there had has)
 one_made block ordinal item edit (Some code.BadString) single there had has =
-    let heals = carets_mend block ordinal item edit single there had has in
-    let loses = heals.0 in
-    let same : loses.code ≡ code.BadString = let h = loses.had in cc in
-    let says = fixed_as code.BadString loses.code block (block_after block edit) ordinal loses.text same loses.fixed in
-    record {
-      single = heals.1.1;
-      text = loses.text;
-      changes = loses.changes;
-      sound = is_sound (block_after block edit) ordinal says.0 says.1;
-      earlier = earlier_fits block ordinal item edit single there heals.2;
-    }
+    one_made_by code.BadString block ordinal item edit single there (λ text fixed. fixed) had (carets_mend block ordinal item edit single there had has)
 one_made block ordinal item edit (Some _) single there had has = absurd (no_edit edit has)
 
 -- ---- those of the items from one on

@@ -22,10 +22,10 @@ no_value text none = elim (cases_Bool (is_utf8 text)) [ inl t ↦ rw t (sym (non
 abbrev pub Repairs : List ℕ → (at kept exchanged : ℕ) → List ℕ → Type 0
 Repairs text at kept exchanged all = all ++ repair kept exchanged (drop at text) ≡ repair 0 0 text
 
-pub mends_more : (text all : List ℕ) (at kept exchanged : ℕ) → at < length text → Repairs text at kept exchanged all
+pub repairs_more : (text all : List ℕ) (at kept exchanged : ℕ) → at < length text → Repairs text at kept exchanged all
     → Repairs text (at + 1) (kept_next kept exchanged (drop at text)) (exchanged_next kept exchanged (drop at text))
     (all ++ byte_for kept exchanged (get_or text at 0) ∷ [])
-mends_more text all at kept exchanged within so =
+repairs_more text all at kept exchanged within so =
     let byte = byte_for kept exchanged (get_or text at 0) in
     let cut : drop at text ≡ get_or text at 0 ∷ drop (suc at) text = drop-cons text at 0 within in
     let next = repair (kept_next kept exchanged (drop at text)) (exchanged_next kept exchanged (drop at text)) (drop (at + 1) text) in
@@ -37,10 +37,10 @@ mends_more text all at kept exchanged within so =
     append_assoc all (byte ∷ []) next ∙ ap (λ (t : List ℕ). all ++ t) (sym one) ∙ so
 
 -- the same as the loop is told
-pub mends_told : (text all pushed : List ℕ) (at kept exchanged kept_now exchanged_now byte : ℕ) → at < length text → Repairs text at kept exchanged all
+pub repairs_told : (text all pushed : List ℕ) (at kept exchanged kept_now exchanged_now byte : ℕ) → at < length text → Repairs text at kept exchanged all
     → byte ≡ byte_for kept exchanged (get_or text at 0) → kept_now ≡ kept_next kept exchanged (take (length text - at) (drop at text))
     → exchanged_now ≡ exchanged_next kept exchanged (take (length text - at) (drop at text)) → pushed ≡ all ++ byte ∷ []
     → Repairs text (at + 1) kept_now exchanged_now pushed
-mends_told text all pushed at kept exchanged kept_now exchanged_now byte within so b k x p =
+repairs_told text all pushed at kept exchanged kept_now exchanged_now byte within so b k x p =
     let rest : take (length text - at) (drop at text) ≡ drop at text = take_all (length text - at) (drop at text) (omega (arith, length-drop at text)) in
-    rw (p, b, k, x, rest) (mends_more text all at kept exchanged within so)
+    rw (p, b, k, x, rest) (repairs_more text all at kept exchanged within so)

@@ -8,7 +8,7 @@ use Rattle.std.specs.Prelude.{flat_map, unwrap_or}
 use Rattle.std.specs.Char.{is_ascii_hexdigit}
 use Rattle.lsp_messages.specs.Bodies.{begins_half, byte_at, digit_before, ends_half, exchanged_after, is_alone, is_first_digit, is_first_half, is_pair, is_second_digit, is_second_half, kept_after, repair, repaired}
 use Rattle.lsp_messages.specs.Laws.{BodiesAreInPieces, NoHalfIsLeft, RepairExchangesHalves, WholeBodiesStay}
-use Rattle.lsp_messages.specs.Pieces.{ArePiecesOf, Piece, byte, escape, half, has_half, mended, pair}
+use Rattle.lsp_messages.specs.Pieces.{ArePiecesOf, Piece, byte, escape, half, has_half, replaced, pair}
 
 -- ---- a repair, some bytes at a time
 
@@ -187,7 +187,7 @@ halves text (a ∷ b ∷ c ∷ d ∷ e ∷ f ∷ []) rest is size alone =
     ∙ ap (λ (n : ℕ). 92 ∷ n ∷ 102 ∷ 102 ∷ 102 ∷ 100 ∷ repaired rest) second
 halves text _ rest is size alone = absurd (omega arith)
 
-exchanged : (pieces : List Piece) (text : List ℕ) → ArePiecesOf pieces text → repaired text ≡ flat_map mended pieces
+exchanged : (pieces : List Piece) (text : List ℕ) → ArePiecesOf pieces text → repaired text ≡ flat_map replaced pieces
 exchanged [] text are = ap repaired are
 exchanged (pair bytes ∷ pieces) text are =
     let is = are.2.0 in
@@ -209,7 +209,7 @@ exchanged (byte one ∷ pieces) text are =
         | inl other ↦ absurd (other (eqb-true one 92 slash))
         | inr alone ↦
             let rest : are.0 ≡ [] = cc (are.1, alone) in
-            let last : flat_map mended pieces ≡ [] = sym (exchanged pieces are.0 are.3) ∙ ap repaired rest in
+            let last : flat_map replaced pieces ≡ [] = sym (exchanged pieces are.0 are.3) ∙ ap repaired rest in
             ap repaired (alone ∙ ap (λ (n : ℕ). n ∷ []) (eqb-true one 92 slash))
             ∙ ap (λ (n : ℕ). n ∷ []) (sym (eqb-true one 92 slash)) ∙ ap (λ (t : List ℕ). one ∷ t) (sym last)
       ]
@@ -228,7 +228,7 @@ exchanges body pieces are = exchanged pieces body are
 
 -- bytes after an escape that are no backslashes stay
 follows : (pieces : List Piece) (text : List ℕ) → ArePiecesOf pieces text → (at : ℕ)
-    → ((k : ℕ) → k ≤ at → byte_at (flat_map mended pieces) k ≢ 92) → byte_at (flat_map mended pieces) at ≡ byte_at text at
+    → ((k : ℕ) → k ≤ at → byte_at (flat_map replaced pieces) k ≢ 92) → byte_at (flat_map replaced pieces) at ≡ byte_at text at
 follows [] text are at none = ap (λ (t : List ℕ). byte_at t at) (sym are)
 follows (pair [] ∷ pieces) text are at none = absurd (omega (arith, are.2.1))
 follows (pair (x ∷ xs) ∷ pieces) text are at none =
@@ -236,7 +236,7 @@ follows (pair (x ∷ xs) ∷ pieces) text are at none =
     absurd (none 0 (omega arith) (ap (λ (t : List ℕ). byte_at t 0) (sym are.1) ∙ (half_front is_first_digit text first).0))
 follows (half bytes ∷ pieces) text are at none = absurd (none 0 (omega arith) refl)
 follows (escape bytes ∷ pieces) text are at none =
-    absurd (none 0 (omega arith) (ap (λ (t : List ℕ). byte_at (t ++ flat_map mended pieces) 0) are.2.2.1))
+    absurd (none 0 (omega arith) (ap (λ (t : List ℕ). byte_at (t ++ flat_map replaced pieces) 0) are.2.2.1))
 follows (byte one ∷ pieces) text are zero none = ap (λ (t : List ℕ). byte_at t 0) (sym are.1)
 follows (byte one ∷ pieces) text are (suc at) none =
     follows pieces are.0 are.3 at (λ k within. none (suc k) (omega (arith, within))) ∙ ap (λ (t : List ℕ). byte_at t (suc at)) (sym are.1)
@@ -254,9 +254,9 @@ tail_by digit taken a b c d = (92 == 92 && taken == 117 && (a == 68 || a == 100)
 
 -- an escape that is no half is none after the repair
 module _ (digit : ℕ → Bool) (other : digit 92 ≡ false) (pieces : List Piece) (text : List ℕ) (are : ArePiecesOf pieces text) (taken : ℕ) where
-  plain_four : half_by digit (92 ∷ taken ∷ flat_map mended pieces) ≡ true → (k : ℕ) → k ≤ 3 → byte_at (flat_map mended pieces) k ≢ 92
+  plain_four : half_by digit (92 ∷ taken ∷ flat_map replaced pieces) ≡ true → (k : ℕ) → k ≤ 3 → byte_at (flat_map replaced pieces) k ≢ 92
   plain_four is =
-      let m = flat_map mended pieces in
+      let m = flat_map replaced pieces in
       let both = and_parts (begins_half (92 ∷ taken ∷ m) 0 && digit (byte_at m 1)) (ends_half (92 ∷ taken ∷ m) 4) is in
       let front = and_parts (begins_half (92 ∷ taken ∷ m) 0) (digit (byte_at m 1)) both.0 in
       let mark = (and_parts (92 == 92 && taken == 117) (byte_at m 0 == 68 || byte_at m 0 == 100) front.0).1 in
@@ -267,9 +267,9 @@ module _ (digit : ℕ → Bool) (other : digit 92 ≡ false) (pieces : List Piec
       (λ e. false≢true (subst (λ (n : ℕ). is_ascii_hexdigit n ≡ true) e ends.0))
       (λ e. false≢true (subst (λ (n : ℕ). is_ascii_hexdigit n ≡ true) e ends.1))
 
-  was_half : half_by digit (92 ∷ taken ∷ flat_map mended pieces) ≡ true → half_by digit (92 ∷ taken ∷ text) ≡ true
+  was_half : half_by digit (92 ∷ taken ∷ flat_map replaced pieces) ≡ true → half_by digit (92 ∷ taken ∷ text) ≡ true
   was_half is =
-      let m = flat_map mended pieces in
+      let m = flat_map replaced pieces in
       let same : (at : ℕ) → at ≤ 3 → byte_at m at ≡ byte_at text at =
       λ at within. follows pieces text are at (λ k below. plain_four is k (omega (arith, within, below))) in
       subst (λ (n : ℕ). tail_by digit taken (byte_at text 0) (byte_at text 1) (byte_at text 2) n ≡ true) (same 3 (omega arith))
@@ -277,9 +277,9 @@ module _ (digit : ℕ → Bool) (other : digit 92 ≡ false) (pieces : List Piec
       (subst (λ (n : ℕ). tail_by digit taken (byte_at text 0) n (byte_at m 2) (byte_at m 3) ≡ true) (same 1 (omega arith))
       (subst (λ (n : ℕ). tail_by digit taken n (byte_at m 1) (byte_at m 2) (byte_at m 3) ≡ true) (same 0 (omega arith)) is)))
 
-  still_none : half_by digit (92 ∷ taken ∷ text) ≡ false → half_by digit (92 ∷ taken ∷ flat_map mended pieces) ≡ false
+  still_none : half_by digit (92 ∷ taken ∷ text) ≡ false → half_by digit (92 ∷ taken ∷ flat_map replaced pieces) ≡ false
   still_none none =
-      false_from_ne_true (half_by digit (92 ∷ taken ∷ flat_map mended pieces)) (λ is. false≢true (sym none ∙ was_half is))
+      false_from_ne_true (half_by digit (92 ∷ taken ∷ flat_map replaced pieces)) (λ is. false≢true (sym none ∙ was_half is))
 
 -- a text with neither a pair nor a half that is alone at its front has no half there
 no_half : (text : List ℕ) → is_pair text ≡ false → is_alone text ≡ false
@@ -293,9 +293,9 @@ no_half text unpaired none =
 
 escape_stays : (pieces : List Piece) (text : List ℕ) → ArePiecesOf pieces text → (taken : ℕ) → is_pair (92 ∷ taken ∷ text) ≡ false
     → is_alone (92 ∷ taken ∷ text) ≡ false
-    → (is_pair (92 ∷ taken ∷ flat_map mended pieces) ≡ false) × (is_alone (92 ∷ taken ∷ flat_map mended pieces) ≡ false)
+    → (is_pair (92 ∷ taken ∷ flat_map replaced pieces) ≡ false) × (is_alone (92 ∷ taken ∷ flat_map replaced pieces) ≡ false)
 escape_stays pieces text are taken unpaired none =
-    let now = 92 ∷ taken ∷ flat_map mended pieces in
+    let now = 92 ∷ taken ∷ flat_map replaced pieces in
     let was = no_half (92 ∷ taken ∷ text) unpaired none in
     let first = still_none is_first_digit refl pieces text are taken was.0 in
     let second = still_none is_second_digit refl pieces text are taken was.1 in (
@@ -314,14 +314,14 @@ abbrev stand : Piece → List Piece
 stand (half bytes) = escape (92 ∷ 117 ∷ []) ∷ byte 102 ∷ byte 102 ∷ byte 102 ∷ byte 100 ∷ []
 stand piece = piece ∷ []
 
-sound : (pieces : List Piece) (text : List ℕ) → ArePiecesOf pieces text → ArePiecesOf (flat_map stand pieces) (flat_map mended pieces)
+sound : (pieces : List Piece) (text : List ℕ) → ArePiecesOf pieces text → ArePiecesOf (flat_map stand pieces) (flat_map replaced pieces)
 sound [] text are = refl
 sound (pair bytes ∷ pieces) text are =
-    let m = flat_map mended pieces in
+    let m = flat_map replaced pieces in
     let is : is_pair (bytes ++ m) ≡ true = pair_stays bytes are.0 m are.2.1 (ap is_pair (sym are.1) ∙ are.2.0) in
     (m, refl, (is, are.2.1), sound pieces are.0 are.3)
 sound (half bytes ∷ pieces) text are =
-    let m = flat_map mended pieces in
+    let m = flat_map replaced pieces in
     let f : 102 ≢ 92 = eqb-false 102 92 refl in (
       102 ∷ 102 ∷ 102 ∷ 100 ∷ m,
       refl,
@@ -329,14 +329,14 @@ sound (half bytes ∷ pieces) text are =
       (102 ∷ 102 ∷ 100 ∷ m, refl, inl f, (102 ∷ 100 ∷ m, refl, inl f, (100 ∷ m, refl, inl f, (m, refl, inl (eqb-false 100 92 refl), sound pieces are.0 are.3)))),
     )
 sound (escape bytes ∷ pieces) text are =
-    let m = flat_map mended pieces in
+    let m = flat_map replaced pieces in
     let taken = are.2.2.0 in
     let was : text ≡ 92 ∷ taken ∷ are.0 = are.1 ∙ ap (λ (t : List ℕ). t ++ are.0) are.2.2.1 in
     let now : bytes ++ m ≡ 92 ∷ taken ∷ m = ap (λ (t : List ℕ). t ++ m) are.2.2.1 in
     let both = escape_stays pieces are.0 are.3 taken (ap is_pair (sym was) ∙ are.2.0) (ap is_alone (sym was) ∙ are.2.1) in
     (m, refl, (ap is_pair now ∙ both.0, ap is_alone now ∙ both.1, (taken, are.2.2.1)), sound pieces are.0 are.3)
 sound (byte one ∷ pieces) text are =
-    let m = flat_map mended pieces in (
+    let m = flat_map replaced pieces in (
       m,
       refl,
       elim are.2 [
@@ -365,7 +365,7 @@ none_is_left body =
 
 -- ---- a body in which no half is alone
 
-same_pieces : (pieces : List Piece) (text : List ℕ) → ArePiecesOf pieces text → has_half pieces ≡ false → flat_map mended pieces ≡ text
+same_pieces : (pieces : List Piece) (text : List ℕ) → ArePiecesOf pieces text → has_half pieces ≡ false → flat_map replaced pieces ≡ text
 same_pieces [] text are none = sym are
 same_pieces (pair bytes ∷ pieces) text are none = ap (λ (t : List ℕ). bytes ++ t) (same_pieces pieces are.0 are.3 none) ∙ sym are.1
 same_pieces (half bytes ∷ pieces) text are none = absurd (false≢true (sym none))

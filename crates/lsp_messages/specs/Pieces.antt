@@ -32,9 +32,9 @@ ArePiecesOf [] text = text ≡ []
 ArePiecesOf (piece ∷ pieces) text = (rest : List ℕ) × (text ≡ written piece ++ rest) × IsFirstOf text piece × ArePiecesOf pieces rest
 
 -- what is read in place of a piece: of a half that is alone U+FFFD, of any other the piece itself
-abbrev pub mended : Piece → List ℕ
-mended (half bytes) = codes "\\ufffd"
-mended piece = written piece
+abbrev pub replaced : Piece → List ℕ
+replaced (half bytes) = codes "\\ufffd"
+replaced piece = written piece
 
 -- whether a piece is a half that is alone
 abbrev pub is_half : Piece → Bool

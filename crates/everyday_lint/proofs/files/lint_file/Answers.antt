@@ -4,7 +4,7 @@ use Rattle.std.specs.Option.{option_map}
 use Rattle.std.proofs.lemmas.Result.{IfOk-weaker}
 use Rattle.tools_devices.specs.Tree.{FindsFile}
 use Rattle.everyday_fmt.specs.Fates.{Holds, held, whole_size}
-use Rattle.everyday_lint.proofs.Mended.{lints_found}
+use Rattle.everyday_lint.proofs.FixedFiles.{lints_found}
 use Rattle.everyday_lint.proofs.files.lint_file.Goals as goal
 
 pub returns-in-Ok-Some-clause-done : goal.returns-in-Ok-Some-clause-done

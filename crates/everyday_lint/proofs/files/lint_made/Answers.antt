@@ -5,18 +5,18 @@ use Rattle.lsp_plain.specs.Reading.{without_mark}
 use Rattle.everyday_fmt.specs.Fates.{held}
 use Rattle.everyday_lint.specs.Checking.{made_in}
 use Rattle.everyday_lint.specs.Offers.{made_seen}
-use Rattle.everyday_lint.proofs.Mended.{finds_some, may_change, on_err_weaker, some_made}
+use Rattle.everyday_lint.proofs.FixedFiles.{finds_some, may_change, on_err_weaker, some_made}
 use Rattle.everyday_lint.proofs.files.lint_made.Goals as goal
 
 pub returns-clause-done : goal.returns-clause-done
 returns-clause-done g c =
     let before = held g.T.Tree.files g.T.Tree.failures g.T.ReasonedTree.cause c.args.tree.now in
-    let after = held g.T.Tree.files g.T.Tree.failures g.T.ReasonedTree.cause c.mend_file.new.tree in
+    let after = held g.T.Tree.files g.T.Tree.failures g.T.ReasonedTree.cause c.fix_file.new.tree in
     let offers = c.args.offers.now in
     let some : map made_seen offers ≢ [] = some_made made_seen offers (sym c.is_empty.ensures ∙ c.if-is_empty.false) in
-    IfOk-weaker c.mend_file.result _ _
-    (λ fate mends. finds_some c.args.options c.args.path.now c.args.source.now (map made_seen offers) before after fate c.requires.offers some mends)
-    c.mend_file.ensures.done
+    IfOk-weaker c.fix_file.result _ _
+    (λ fate fixes. finds_some c.args.options c.args.path.now c.args.source.now (map made_seen offers) before after fate c.requires.offers some fixes)
+    c.fix_file.ensures.done
 
 pub returns-clause-refused : goal.returns-clause-refused
 returns-clause-refused g c =
@@ -25,6 +25,6 @@ returns-clause-refused g c =
     let offers = c.args.offers.now in
     let some : map made_seen offers ≢ [] = some_made made_seen offers (sym c.is_empty.ensures ∙ c.if-is_empty.false) in
     let made_some : made_in options source ≢ [] = λ none. some (c.requires.offers ∙ none) in
-    on_err_weaker c.mend_file.result _ _
-    (may_change options.fix (without_mark source) _ c.args.path.now (g.T.Tree.files c.args.tree.now) (g.T.Tree.files c.mend_file.new.tree) made_some)
-    c.mend_file.ensures.refused
+    on_err_weaker c.fix_file.result _ _
+    (may_change options.fix (without_mark source) _ c.args.path.now (g.T.Tree.files c.args.tree.now) (g.T.Tree.files c.fix_file.new.tree) made_some)
+    c.fix_file.ensures.refused

@@ -2,8 +2,8 @@
 ghost use Rattle.std.specs.Prelude.{◌≡◌, ◌≤◌, ◌++◌, IfOk, OnOk, length, map};
 ghost use Rattle.std.specs.String.{string_bytes};
 ghost use Rattle.lsp_fixes.specs.Edits.{advice_seen};
-ghost use Rattle.everyday_lint.specs.Mending as spec;
-ghost use Rattle.everyday_lint.specs.Mending.{begins, ends, fix_line, is_made, made};
+ghost use Rattle.everyday_lint.specs.Fixing as spec;
+ghost use Rattle.everyday_lint.specs.Fixing.{begins, ends, fix_line, is_made, made};
 ghost use Rattle.everyday_forms.specs.Gcc.{ordinal};
 ghost use Rattle.everyday_lint.specs.Offers.{made_seen, offer_seen};
 
@@ -71,15 +71,15 @@ pub(crate) fn made<'a>(
 /// A law, with no code: a text with fixes made has its comments and blank lines, each on the line that
 /// it was on.
 pub fn fixes_keep_lines()
-    ensures { spec.MendingKeepsLines }
+    ensures { spec.FixingKeepsLines }
 {}
 
 /// A text with these fixes made.
 ///
 /// # Errors
 /// Out of memory.
-pub(crate) fn mended(alloc: Global, text: &[u8], offers: &[&Offer]) -> Result<Vec<u8>, AllocError>
-    ensures { IfOk result (λ all. all.items ≡ spec.mended text.now 0 (map made_seen offers.now)) }
+pub(crate) fn fixed_text(alloc: Global, text: &[u8], offers: &[&Offer]) -> Result<Vec<u8>, AllocError>
+    ensures { IfOk result (λ all. all.items ≡ spec.fixed_text text.now 0 (map made_seen offers.now)) }
 {
     let mut all = Vec::new(alloc);
     let mut at = 0;

@@ -6,7 +6,7 @@ use Rattle.std.proofs.Math.Seq.{take-add}
 use Rattle.std.proofs.lemmas.List.{take-append-drop}
 use Rattle.lsp_keeping.specs.Keeping.{KeepsLines, kept_in, stays_in_line}
 use Rattle.lsp_keeping.proofs.LinesKept.{exchange_keeps}
-use Rattle.everyday_lint.specs.Mending.{MendingKeepsLines, begins, ends, is_made, made, mended}
+use Rattle.everyday_lint.specs.Fixing.{FixingKeepsLines, begins, ends, is_made, made, fixed_text}
 use Rattle.everyday_lint.specs.Offers.{OfferSeen}
 
 -- the first bytes of a text, and those from there up to another offset
@@ -27,17 +27,17 @@ one_kept text new rest at start end after forward stays later =
     ap kept_in now ∙ exchange_keeps (take start text) old new rest both.0 both.1 ∙ ap kept_in (sym was) ∙ later
 
 -- the first bytes of a text, and the rest with fixes made
-kept_from : (text : List ℕ) (at : ℕ) (offers : List OfferSeen) → KeepsLines text (take at text ++ mended text at (made text at offers))
+kept_from : (text : List ℕ) (at : ℕ) (offers : List OfferSeen) → KeepsLines text (take at text ++ fixed_text text at (made text at offers))
 kept_from text at [] = ap kept_in (take-append-drop at text)
 kept_from text at (offer ∷ offers) =
     elim (cases_Bool (is_made text at offer)) [
       | inl t ↦
           let both = and_parts _ _ t in
           let end = ends text offer in
-          rw t (one_kept text offer.fix.text (mended text end (made text end offers)) at (begins text offer) end (leb-true at (begins text offer) both.0)
+          rw t (one_kept text offer.fix.text (fixed_text text end (made text end offers)) at (begins text offer) end (leb-true at (begins text offer) both.0)
           (omega arith) both.1 (kept_from text end offers))
       | inr f ↦ rw f (kept_from text at offers)
     ]
 
-pub mending_keeps : MendingKeepsLines
-mending_keeps text offers = kept_from text 0 offers
+pub fixing_keeps : FixingKeepsLines
+fixing_keeps text offers = kept_from text 0 offers

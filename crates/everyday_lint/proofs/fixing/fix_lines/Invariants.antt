@@ -1,7 +1,7 @@
 use Rattle.std.proofs.Common.{◌≡◌, map, take}
-use Rattle.everyday_lint.specs.Mending as spec
+use Rattle.everyday_lint.specs.Fixing as spec
 use Rattle.everyday_lint.specs.Offers.{made_seen}
-use Rattle.everyday_lint.proofs.mending.fix_lines.Given as goal
+use Rattle.everyday_lint.proofs.fixing.fix_lines.Given as goal
 
 -- those so far are told
 abbrev pub invariant-loop-offer : goal.invariant-loop-offer

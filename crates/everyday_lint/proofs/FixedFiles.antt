@@ -5,8 +5,8 @@ use Rattle.std.specs.Prelude.{OnErr, if◌then◌else◌}
 use Rattle.tools_devices.specs.Tree.{ChangesOnly, Files, Sets}
 use Rattle.everyday_fmt.specs.Fates.{Held, Holds}
 use Rattle.everyday_lint.specs.Checking.{made_in}
-use Rattle.everyday_lint.specs.Fates.{Finds, LintsFile, MayChange, Mends, MendsIfSome, mended_source}
-use Rattle.everyday_lint.specs.Mending.{made}
+use Rattle.everyday_lint.specs.Fates.{Finds, LintsFile, MayChange, Fixes, FixesIfSome, fixed_source}
+use Rattle.everyday_lint.specs.Fixing.{made}
 use Rattle.everyday_lint.specs.Offers.{OfferSeen}
 use Rattle.everyday_lint.specs.declared.files.Fate.{Fate}
 use Rattle.everyday_lint.specs.declared.files.Fate.TheVariants.{Absent, Checked, Failed}
@@ -29,40 +29,40 @@ may_change true text offers path before after some changes = changes
 may_change false text offers path before after some changes = absurd (some refl)
 
 -- if there are fixes, they are made
-mends_some : (options : LintOptions) (path source : List ℕ) (offers : List OfferSeen) (before after : Held) (fate : Fate) → offers ≢ []
-    → Mends options path source offers before after fate → MendsIfSome options path source offers before after fate
-mends_some options path source [] before after fate some mends = absurd (some refl)
-mends_some options path source (offer ∷ offers) before after fate some mends = mends
+fixes_some : (options : LintOptions) (path source : List ℕ) (offers : List OfferSeen) (before after : Held) (fate : Fate) → offers ≢ []
+    → Fixes options path source offers before after fate → FixesIfSome options path source offers before after fate
+fixes_some options path source [] before after fate some fixes = absurd (some refl)
+fixes_some options path source (offer ∷ offers) before after fate some fixes = fixes
 
 -- what is found out about a source in which fixes are made
 pub finds_some : (options : LintOptions) (path source : List ℕ) (offers : List OfferSeen) (before after : Held) (fate : Fate)
-    → offers ≡ made_in options source → offers ≢ [] → Mends options path source offers before after fate → Finds options path source before after fate
-finds_some options path source offers before after fate is some mends =
-    subst (λ (all : List OfferSeen). MendsIfSome options path source all before after fate) is
-    (mends_some options path source offers before after fate some mends)
+    → offers ≡ made_in options source → offers ≢ [] → Fixes options path source offers before after fate → Finds options path source before after fate
+finds_some options path source offers before after fate is some fixes =
+    subst (λ (all : List OfferSeen). FixesIfSome options path source all before after fate) is
+    (fixes_some options path source offers before after fate some fixes)
 
 -- what is found out does not depend on why the tree failed before
 module _ (options : LintOptions) (path source : List ℕ) (before mid after : Held) (files : mid.files ≡ before.files) (failures : mid.failures ≡ before.failures) where
-  from_before : (offers : List OfferSeen) (fate : Fate) → MendsIfSome options path source offers mid after fate
-      → MendsIfSome options path source offers before after fate
-  from_before [] (Checked linted) mends = (mends.0, mends.1 ∙ files, mends.2 ∙ failures)
-  from_before [] Absent mends = absurd mends
-  from_before [] (Failed reason) mends = absurd mends
-  from_before (offer ∷ offers) (Checked linted) mends =
-      (mends.0, subst (λ (held : Option Files). Sets (path, mended_source source (offer ∷ offers)) held after.files) files mends.1, mends.2 ∙ failures)
-  from_before (offer ∷ offers) Absent mends = absurd mends
-  from_before (offer ∷ offers) (Failed reason) mends =
-      (mends.0, mends.1 ∙ ap (λ n. n + 1) failures, subst (λ (held : Option Files). ChangesOnly path held after.files) files mends.2)
+  from_before : (offers : List OfferSeen) (fate : Fate) → FixesIfSome options path source offers mid after fate
+      → FixesIfSome options path source offers before after fate
+  from_before [] (Checked linted) fixes = (fixes.0, fixes.1 ∙ files, fixes.2 ∙ failures)
+  from_before [] Absent fixes = absurd fixes
+  from_before [] (Failed reason) fixes = absurd fixes
+  from_before (offer ∷ offers) (Checked linted) fixes =
+      (fixes.0, subst (λ (held : Option Files). Sets (path, fixed_source source (offer ∷ offers)) held after.files) files fixes.1, fixes.2 ∙ failures)
+  from_before (offer ∷ offers) Absent fixes = absurd fixes
+  from_before (offer ∷ offers) (Failed reason) fixes =
+      (fixes.0, fixes.1 ∙ ap (λ n. n + 1) failures, subst (λ (held : Option Files). ChangesOnly path held after.files) files fixes.2)
 
   by_offers : (offers : List OfferSeen) (fate : Fate) → Holds path before.files source → made_in options source ≡ offers
-      → MendsIfSome options path source offers before after fate → LintsFile options path before after fate
-  by_offers offers (Checked linted) holds is mends =
-      (source, holds, subst (λ (all : List OfferSeen). MendsIfSome options path source all before after (Checked linted)) (sym is) mends)
-  by_offers [] Absent holds is mends = absurd mends
-  by_offers (offer ∷ offers) Absent holds is mends = absurd mends
-  by_offers [] (Failed reason) holds is mends = absurd mends
-  by_offers (offer ∷ offers) (Failed reason) holds is mends =
-      (mends.0, mends.1, inr (source, holds, subst (λ (all : List OfferSeen). MendsIfSome options path source all before after (Failed reason)) (sym is) mends))
+      → FixesIfSome options path source offers before after fate → LintsFile options path before after fate
+  by_offers offers (Checked linted) holds is fixes =
+      (source, holds, subst (λ (all : List OfferSeen). FixesIfSome options path source all before after (Checked linted)) (sym is) fixes)
+  by_offers [] Absent holds is fixes = absurd fixes
+  by_offers (offer ∷ offers) Absent holds is fixes = absurd fixes
+  by_offers [] (Failed reason) holds is fixes = absurd fixes
+  by_offers (offer ∷ offers) (Failed reason) holds is fixes =
+      (fixes.0, fixes.1, inr (source, holds, subst (λ (all : List OfferSeen). FixesIfSome options path source all before after (Failed reason)) (sym is) fixes))
 
   -- what becomes of a file, by what is found out about its source
   pub lints_found : (fate : Fate) → Holds path before.files source → Finds options path source mid after fate → LintsFile options path before after fate

@@ -33,13 +33,13 @@ made text at [] = []
 made text at (offer ∷ offers) = if is_made text at offer then offer ∷ made text (ends text offer) offers else made text at offers
 
 -- a text from an offset on with fixes made: of each what is before it, and its new text
-abbrev pub mended : List ℕ → ℕ → List OfferSeen → List ℕ
-mended text at [] = drop at text
-mended text at (offer ∷ offers) = slice_range text at (begins text offer) ++ offer.fix.text ++ mended text (ends text offer) offers
+abbrev pub fixed_text : List ℕ → ℕ → List OfferSeen → List ℕ
+fixed_text text at [] = drop at text
+fixed_text text at (offer ∷ offers) = slice_range text at (begins text offer) ++ offer.fix.text ++ fixed_text text (ends text offer) offers
 
 -- the text with fixes made has its comments and blank lines, each on the line that it was on
-abbrev pub MendingKeepsLines : Type 0
-MendingKeepsLines = (text : List ℕ) (offers : List OfferSeen) → KeepsLines text (mended text 0 (made text 0 offers))
+abbrev pub FixingKeepsLines : Type 0
+FixingKeepsLines = (text : List ℕ) (offers : List OfferSeen) → KeepsLines text (fixed_text text 0 (made text 0 offers))
 
 -- ---- what is told of them
 

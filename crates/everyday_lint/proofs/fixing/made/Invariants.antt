@@ -1,7 +1,7 @@
 use Rattle.std.proofs.Common.{◌≡◌, ◌++◌, drop, map}
-use Rattle.everyday_lint.specs.Mending.{made}
+use Rattle.everyday_lint.specs.Fixing.{made}
 use Rattle.everyday_lint.specs.Offers.{made_seen, offer_seen}
-use Rattle.everyday_lint.proofs.mending.made.Given as goal
+use Rattle.everyday_lint.proofs.fixing.made.Given as goal
 
 -- those that are made so far, and those of the others that are made, are all
 abbrev pub invariant-loop-offer : goal.invariant-loop-offer

@@ -4,10 +4,10 @@ use Rattle.tools_devices.specs.Tree.{Sets}
 use Rattle.lsp_plain.specs.Reading.{without_mark}
 use Rattle.lsp_plain.specs.Writing.{marked_like}
 use Rattle.everyday_lint.specs.Checking.{IsLintedSource}
-use Rattle.everyday_lint.specs.Fates.{mended_source}
-use Rattle.everyday_lint.specs.Mending.{fix_lines, mended}
+use Rattle.everyday_lint.specs.Fates.{fixed_source}
+use Rattle.everyday_lint.specs.Fixing.{fix_lines, fixed_text}
 use Rattle.everyday_lint.specs.Offers.{OfferSeen, made_seen}
-use Rattle.everyday_lint.proofs.files.mend_file.Goals as goal
+use Rattle.everyday_lint.proofs.files.fix_file.Goals as goal
 
 pub returns-in-Ok-clause-done : goal.returns-in-Ok-clause-done
 returns-in-Ok-clause-done g c =
@@ -17,12 +17,12 @@ returns-in-Ok-clause-done g c =
     let linted = c.in_ok-linted.linted in
     let fixes : c.in_ok-fixes.fixes.items ≡ fix_lines path (without_mark source) offers =
     c.in_ok-fixes.ensures ∙ ap (λ (text : List ℕ). fix_lines path text offers) c.without_mark-text.ensures in
-    let made : c.in_ok-mended-2.mended.items ≡ mended_source source offers =
-    c.in_ok-mended-2.ensures ∙ ap (marked_like source) (c.in_ok-mended.ensures ∙ ap (λ (text : List ℕ). mended text 0 offers) c.without_mark-text.ensures) in
-    let told : IsLintedSource c.args.options path (mended_source source offers) (fix_lines path (without_mark source) offers) linted =
-    subst (λ (before : List ℕ). IsLintedSource c.args.options path (mended_source source offers) before linted) fixes
+    let made : c.in_ok-fixed_text-2.fixed_text.items ≡ fixed_source source offers =
+    c.in_ok-fixed_text-2.ensures ∙ ap (marked_like source) (c.in_ok-fixed_text.ensures ∙ ap (λ (text : List ℕ). fixed_text text 0 offers) c.without_mark-text.ensures) in
+    let told : IsLintedSource c.args.options path (fixed_source source offers) (fix_lines path (without_mark source) offers) linted =
+    subst (λ (before : List ℕ). IsLintedSource c.args.options path (fixed_source source offers) before linted) fixes
     (subst (λ (all : List ℕ). IsLintedSource c.args.options path all c.in_ok-fixes.fixes.items linted) (c.deref-2.ensures.value ∙ made) c.in_ok-linted.ensures.linted) in
-    let written : Sets (path, mended_source source offers) (g.T.Tree.files c.args.tree.now) (g.T.Tree.files c.write.new.self) =
+    let written : Sets (path, fixed_source source offers) (g.T.Tree.files c.args.tree.now) (g.T.Tree.files c.write.new.self) =
     subst (λ (bytes : List ℕ). Sets (path, bytes) (g.T.Tree.files c.args.tree.now) (g.T.Tree.files c.write.new.self)) (c.deref-3.ensures.value ∙ made)
     c.in-Ok.ensures.written in
     (told, written, omega (arith, c.in-Ok.ensures.counted))
