@@ -3,7 +3,7 @@
 
     build/capability_tables.py --write    writes them into these sources
     build/capability_tables.py --check    fails unless the sources have them as they follow, and the
-                                          variables of lsp_descriptions are those of ti_names
+                                          variables of source_descriptions are those of ti_names
 
 BY_NAME is every capability in the order of the bytes of its name, by its number: booleans, numbers
 and strings are counted as one list. KEYS has the key of each of these names: its first eight bytes
@@ -112,8 +112,8 @@ def derived():
 
 
 def described():
-    """The variables of the rows of lsp_descriptions, the first word of each."""
-    return re.findall(r'^    "([^"]*)",\s*"', read("lsp_descriptions", "descriptions.rt"), re.M)
+    """The variables of the rows of source_descriptions, the first word of each."""
+    return re.findall(r'^    "([^"]*)",\s*"', read("source_descriptions", "descriptions.rt"), re.M)
 
 
 def main():
@@ -130,7 +130,7 @@ def main():
             with open(os.path.join(CRATES, crate, "src", file), "w", encoding="utf-8") as source:
                 source.write(text[:start] + items + text[end:])
     if described() != [word for kind in ["FLAG", "NUMBER", "TEXT"] for word in variables_of(kind)]:
-        sys.exit("the variables of lsp_descriptions are not those of ti_names")
+        sys.exit("the variables of source_descriptions are not those of ti_names")
     if sys.argv[1] == "--check" and differing:
         sys.exit("not as they follow from the lists: " + ", ".join(differing))
 

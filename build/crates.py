@@ -1,42 +1,62 @@
 """The crates of the repository as crates.txt lists them: the one reader of that file.
 
-    build/crates.py        prints each crate, its group and what it depends on
+    build/crates.py        prints each crate, its layer and what it depends on
+    build/crates.py --check  fails unless each crate depends only on crates above it
 
 A line is `NAME: DEPENDENCY ..`; between the name and the colon a line may have the word
-`staticlib` (a static library) and words `KEY=VALUE`. A comment line `# PREFIX: WHAT IT HOLDS`
-begins the group of the crates whose names have that prefix; `ti` itself is of the group `ti_`.
+`staticlib` (a static library) and words `KEY=VALUE`. A comment line `# LAYER: WHAT IT HOLDS`
+begins a layer. A crate depends only on crates that stand above its line, so that a layer never
+leans on one below it: whoever reads the file refuses anything else.
 """
 
 import os
+import re
+import sys
 
 from repository import TOP
 
-GROUPS = ("ti_", "user_", "base_", "tools_", "everyday_", "lsp_", "test_", "dev_")
+LAYER = re.compile(r"# ([a-z-]+): (.+)")
 
 
 class Crate:
-    """One crate: its name, its group, what it depends on, and whether it is a static library."""
+    """One crate: its name, its layer, the prefix of its name, what it depends on, and whether it is
+    a static library."""
 
-    def __init__(self, name, group, needs, is_static):
-        self.name, self.group, self.needs, self.is_static = name, group, needs, is_static
+    def __init__(self, name, layer, needs, is_static):
+        self.name, self.layer, self.needs, self.is_static = name, layer, needs, is_static
+        self.group = name.partition("_")[0] + "_"
+
+
+def read_lines(lines):
+    """The crates by name, in the order of these lines of crates.txt."""
+    crates, layer = {}, ""
+    for line in lines:
+        begins = LAYER.match(line)
+        if begins:
+            layer = begins[1]
+        text = line.partition("#")[0]
+        head, colon, needs = text.partition(":")
+        if colon:
+            name, *words = head.split()
+            crates[name] = Crate(name, layer, needs.split(), "staticlib" in words)
+    refuse_leaning(crates)
+    return crates
+
+
+def refuse_leaning(crates):
+    """Stops if a crate depends on one that does not stand above it."""
+    above = set()
+    for crate in crates.values():
+        for need in crate.needs:
+            if need in crates and need not in above:
+                raise SystemExit(f"crates.txt: {crate.name} depends on {need}, which does not stand above it")
+        above.add(crate.name)
 
 
 def read_crates(top=TOP):
     """The crates by name, in the order of the file."""
-    crates, group = {}, ""
     with open(os.path.join(top, "crates.txt"), encoding="utf-8") as file:
-        for line in file:
-            text, _, comment = line.partition("#")
-            prefix = comment.strip().partition(":")[0]
-            if not text.strip() and prefix in GROUPS:
-                group = prefix
-            head, colon, needs = text.partition(":")
-            if colon:
-                name, *words = head.split()
-                if group and not f"{name}_".startswith(group):
-                    raise SystemExit(f"crates.txt: {name} is in the group {group}")
-                crates[name] = Crate(name, group, needs.split(), "staticlib" in words)
-    return crates
+        return read_lines(file)
 
 
 def direct_needs(crates, name):
@@ -70,4 +90,5 @@ def files_of(name, top=TOP):
 if __name__ == "__main__":
     for crate in read_crates().values():
         kind = " (static library)" if crate.is_static else ""
-        print(f"{crate.group:8} {crate.name}{kind}: {' '.join(crate.needs)}")
+        if "--check" not in sys.argv[1:]:
+            print(f"{crate.layer:12} {crate.name}{kind}: {' '.join(crate.needs)}")

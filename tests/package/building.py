@@ -9,7 +9,7 @@ import tempfile
 
 from shared import TOP, Skipped, need, output
 
-from crates import all_below, read_crates  # of build/, which shared has put on the path
+from crates import all_below, read_crates, read_lines  # of build/, which shared has put on the path
 
 
 def unpacked(directory):
@@ -239,6 +239,28 @@ fn main(rt: HostRuntime) -> io::Result<()> {
     println!(rt; "{lines} lines")
 }
 """
+
+
+def leans(*lines):
+    """Whether the reader of crates.txt refuses these lines, since a crate depends on one below it."""
+    try:
+        read_lines(lines)
+    except SystemExit as refusal:
+        return "does not stand above it" in str(refusal)
+    return False
+
+
+def check_layers():
+    """Whether a crate of crates.txt may depend only on crates above it."""
+    low, high = ("# low: what others use", "a_low: memchr"), ("# high: what uses it", "b_high: a_low")
+    if leans(*low, *high):
+        yield "a crate that depends on one above it is refused"
+    if not leans(*high, *low):
+        yield "a crate that depends on one of a lower layer is not refused"
+    if not leans("# one: a layer", "a_first: a_second", "a_second:"):
+        yield "a crate that depends on one below it in its own layer is not refused"
+    if any(not crate.layer for crate in read_crates().values()):
+        yield "a crate of crates.txt is in no layer"
 
 
 def check_small_build():

@@ -33,6 +33,7 @@ tarball-builds
              the program is built from that tarball, with every proof anew
 build        ./ti proves each crate after those that it depends on, ends if one is refused, and
              proves again what an edit reaches and nothing else (with a substitute for the toolchain)
+layers       a crate of crates.txt depends only on crates above it
 small-build  ./ti proves, compiles and links with the toolchain itself: one library, a small program
 audit        tests/audit finds the wrong bodies that are proved or cannot be applied, and chooses the
              crates that changed and those above (with a substitute for the toolchain)
@@ -76,6 +77,7 @@ CHECKS = {
     "tarball": building.check_tarball,
     "tarball-builds": building.check_tarball_builds,
     "build": building.check_build,
+    "layers": building.check_layers,
     "small-build": building.check_small_build,
     "audit": auditing.check_audit,
     "claims": claiming.check_claims,
@@ -83,7 +85,7 @@ CHECKS = {
 # these look at the repository alone, and not at the built program
 WITHOUT_PROGRAM = {
     "tables", "markdown", "scripts", "spelling", "pages", "grammar", "everyday-options", "links", "tarball",
-    "tarball-builds", "build", "small-build", "audit", "claims",
+    "tarball-builds", "build", "layers", "small-build", "audit", "claims",
 }
 EXPECTED = (subprocess.SubprocessError, OSError, IndexError, KeyError, TypeError, StopIteration)
 

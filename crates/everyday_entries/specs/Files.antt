@@ -6,8 +6,8 @@ use Rattle.std.specs.String.{string_bytes}
 use Rattle.ti_text.specs.Ascii as ascii
 use Rattle.tools_devices.specs.Tree.{Files, FindsFile}
 use Rattle.tools_devices.specs.declared.tool_error.ToolError.TheVariants.{NoTerminal, Memory as MemoryFault}
-use Rattle.everyday_directories.specs.Finding.{Answers, front_size}
-use Rattle.everyday_directories.specs.declared.finding.Found.{Found}
+use Rattle.tools_directories.specs.Finding.{Answers, front_size}
+use Rattle.tools_directories.specs.declared.finding.Found.{Found}
 use Rattle.everyday_entries.specs.declared.failure.Failure.{Failure}
 use Rattle.everyday_entries.specs.declared.failure.Failure.TheVariants.{Unknown, Absent, Unreadable, Stopped}
 

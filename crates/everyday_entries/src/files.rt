@@ -6,9 +6,9 @@ ghost use Rattle.ti_text.specs.Ascii as ascii;
 ghost use Rattle.everyday_entries.specs.Files.{GivesFile, GivesFileAt, GivesNamedFile};
 
 use crate::failure::Failure;
-use everyday_directories::{Found, find};
 use std::alloc::Global;
 use tools_devices::{ToolError, Tree, TreeFault};
+use tools_directories::{Found, find};
 
 // The most bytes of a file that may be an entry.
 const FILE_MAX: usize = 65_536;
@@ -37,7 +37,7 @@ fn file_at<T: Tree>(alloc: Global, tree: &mut T, path: &str) -> Result<Found, Fa
 }
 
 /// The file of a terminal's entry, looked for in these directories as
-/// [`everyday_directories::find`] does.
+/// [`tools_directories::find`] does.
 ///
 /// # Errors
 /// `Unknown` if the name is not a lookup name, or there is no file; out of memory.

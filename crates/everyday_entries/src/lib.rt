@@ -17,8 +17,8 @@ mod failure;
 mod files;
 mod lines;
 
-pub use everyday_directories::Found;
 pub use everyday_words::Tool;
 pub use failure::Failure;
 pub use files::{entry_file, named_file};
 pub use lines::{capability_line, line, status};
+pub use tools_directories::Found;

@@ -3,7 +3,7 @@ use Rattle.std.proofs.Common.{◌≡◌, ◌||◌, ℕ, Bool, true, false, cond,
 use Rattle.std.specs.List.{list_any}
 use Rattle.std.proofs.lemmas.Bool.{true≢false}
 use Rattle.tools_devices.specs.Tree.{Files, Sets}
-use Rattle.lsp_format.specs.Sources.{FormattedSourcesAreLaidOut, IsLaidOut, formatted_source}
+use Rattle.source_format.specs.Sources.{FormattedSourcesAreLaidOut, IsLaidOut, formatted_source}
 use Rattle.everyday_fmt.specs.Fates.{FormatsFile, FormatsFiles, GetsLayout, Held}
 use Rattle.everyday_fmt.specs.Laws.{FilesAreLaidOut, HoldLaidOut, HoldsLaidOut, InputIsLaidOut}
 use Rattle.everyday_fmt.specs.Report.{is_wrong, is_wrong_fate}

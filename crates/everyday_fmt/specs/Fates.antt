@@ -2,7 +2,7 @@
 use Rattle.std.specs.Prelude.{◌≡◌, ◌≢◌, ◌⊎◌, ℕ, ◌+◌, ◌^◌, Bool, true, false, List, [], ◌∷◌, ◌++◌, Option, Some, None}
 use Rattle.std.specs.String.{string_bytes}
 use Rattle.tools_devices.specs.Tree.{ChangesOnly, Files, FindsFile, Sets}
-use Rattle.lsp_format.specs.Sources.{formatted_source}
+use Rattle.source_format.specs.Sources.{formatted_source}
 use Rattle.everyday_fmt.specs.declared.files.Done.{Done}
 use Rattle.everyday_fmt.specs.declared.files.Fate.{Fate}
 use Rattle.everyday_fmt.specs.declared.files.Fate.TheVariants.{Absent, Changed, Failed, Same}

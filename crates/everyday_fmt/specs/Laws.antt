@@ -1,7 +1,7 @@
 -- What formatting promises of a source, of each file and of standard input (own).
 use Rattle.std.specs.Prelude.{◌≡◌, ◌⊎◌, ℕ, false, List, [], ◌∷◌, Option}
 use Rattle.tools_devices.specs.Tree.{Files, Sets}
-use Rattle.lsp_format.specs.Sources.{IsLaidOut}
+use Rattle.source_format.specs.Sources.{IsLaidOut}
 use Rattle.everyday_fmt.specs.Fates.{FormatsFiles, Held, Holds}
 use Rattle.everyday_fmt.specs.Report.{status_of}
 use Rattle.everyday_fmt.specs.Tool.{IsOutcomeOfInput}

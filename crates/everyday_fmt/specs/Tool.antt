@@ -2,7 +2,7 @@
 use Rattle.std.specs.Prelude.{◌≡◌, ◌≢◌, ◌⊎◌, ℕ, Bool, true, false, List, [], codes}
 use Rattle.std.specs.List.{flat_map}
 use Rattle.everyday_fmt.specs.Fates.{FormatsFiles, Held}
-use Rattle.lsp_format.specs.Sources.{formatted_source}
+use Rattle.source_format.specs.Sources.{formatted_source}
 use Rattle.everyday_fmt.specs.Report.{error_line, name_line, status_of}
 use Rattle.everyday_fmt.specs.declared.files.Done.{Done}
 use Rattle.everyday_fmt.specs.declared.options.FmtOptions.{FmtOptions}

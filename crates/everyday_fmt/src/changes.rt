@@ -1,8 +1,8 @@
 //! A source in its layout, if it has another.
 ghost use Rattle.std.specs.Prelude.{◌≡◌, ◌≢◌, IfOk, MatchOption};
-ghost use Rattle.lsp_format.specs.Sources.{formatted_source};
+ghost use Rattle.source_format.specs.Sources.{formatted_source};
 
-use lsp_format::formatted_source;
+use source_format::formatted_source;
 use std::alloc::{AllocError, Global};
 
 /// A source in its layout, if it has another.

@@ -4,7 +4,7 @@ ghost use Rattle.std.specs.String.{string_bytes};
 ghost use Rattle.everyday_fmt.specs.Fates.{StopsAmong, held};
 ghost use Rattle.everyday_fmt.specs.Laws.{HoldLaidOut};
 ghost use Rattle.everyday_fmt.specs.Tool.{ComesOfFiles, IsOutcomeOfInput, PrintsInput};
-ghost use Rattle.lsp_format.specs.Sources.{IsLaidOut, formatted_source};
+ghost use Rattle.source_format.specs.Sources.{IsLaidOut, formatted_source};
 
 use crate::changes::changed_text;
 use crate::files::format_each;
@@ -12,7 +12,7 @@ use crate::laws;
 use crate::options::{FmtOptions, FmtOutcome};
 use crate::reasons::ReasonedTree;
 use crate::report::{error_lines, name_lines, status_of};
-use lsp_format::formatted_source;
+use source_format::formatted_source;
 use std::alloc::{AllocError, Global};
 
 /// Gives each of these files its layout, in order, or, with `check`, finds out whether it has it. A

@@ -1,8 +1,8 @@
 -- How many errors, warnings and hints there are, and which are bad (own).
 use Rattle.std.specs.Prelude.{ℕ, ◌==◌, ◌++◌, [], Bool, true, false, List, codes, count_by, if◌then◌else◌}
 use Rattle.std.specs.Fmt.{decimal}
-use Rattle.lsp_types.specs.declared.severities.Severity.{Severity}
-use Rattle.lsp_types.specs.declared.severities.Severity.TheVariants.{Error, Warning, Information, Hint}
+use Rattle.source_types.specs.declared.severities.Severity.{Severity}
+use Rattle.source_types.specs.declared.severities.Severity.TheVariants.{Error, Warning, Information, Hint}
 
 -- whether it is an error
 abbrev pub is_error : Severity → Bool

@@ -3,8 +3,8 @@
 use Rattle.std.specs.Prelude.{ℕ, ◌+◌, ◌++◌, ◌∷◌, [], Bool, true, false, List, codes}
 use Rattle.std.specs.Fmt.{decimal}
 use Rattle.ti_text.specs.Ascii as ascii
-use Rattle.lsp_types.specs.declared.severities.Severity.{Severity}
-use Rattle.lsp_types.specs.declared.severities.Severity.TheVariants.{Error, Warning, Information, Hint}
+use Rattle.source_types.specs.declared.severities.Severity.{Severity}
+use Rattle.source_types.specs.declared.severities.Severity.TheVariants.{Error, Warning, Information, Hint}
 use Rattle.everyday_forms.specs.Excerpts.{excerpt, indent, mark_of}
 use Rattle.everyday_forms.specs.Told.{ToldSeen}
 

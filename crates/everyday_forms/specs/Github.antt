@@ -2,8 +2,8 @@
 -- the escapes are those of GitHub's own toolkit).
 use Rattle.std.specs.Prelude.{ℕ, ◌++◌, ◌∷◌, [], ◌==◌, List, codes, flat_map, if◌then◌else◌}
 use Rattle.ti_text.specs.Ascii as ascii
-use Rattle.lsp_types.specs.declared.severities.Severity.{Severity}
-use Rattle.lsp_types.specs.declared.severities.Severity.TheVariants.{Error, Warning, Information, Hint}
+use Rattle.source_types.specs.declared.severities.Severity.{Severity}
+use Rattle.source_types.specs.declared.severities.Severity.TheVariants.{Error, Warning, Information, Hint}
 use Rattle.everyday_forms.specs.Gcc.{ordinal}
 use Rattle.everyday_forms.specs.Told.{ToldSeen}
 

@@ -4,9 +4,9 @@ use Rattle.std.specs.Prelude.{◌≡◌, ℕ, ◌++◌, List, codes, drop, flat_
 use Rattle.serde_json.specs.Data.{Data, array, number, unsigned, string, object, no_members, member}
 use Rattle.serde_json.specs.View.{items_of}
 use Rattle.serde_json.specs.Written.{compact_text}
-use Rattle.lsp_types.specs.Numbers.{severity_number}
-use Rattle.lsp_types.specs.declared.places.Position.{Position}
-use Rattle.lsp_types.specs.declared.places.Range.{Range}
+use Rattle.source_types.specs.Numbers.{severity_number}
+use Rattle.source_types.specs.declared.places.Position.{Position}
+use Rattle.source_types.specs.declared.places.Range.{Range}
 use Rattle.everyday_forms.specs.Told.{ToldSeen}
 
 -- a natural number

@@ -1,7 +1,7 @@
 -- One thing that is told of a source, as plain data (own).
 use Rattle.std.specs.Prelude.{ℕ, List}
-use Rattle.lsp_types.specs.declared.places.Range.{Range}
-use Rattle.lsp_types.specs.declared.severities.Severity.{Severity}
+use Rattle.source_types.specs.declared.places.Range.{Range}
+use Rattle.source_types.specs.declared.severities.Severity.{Severity}
 use Rattle.everyday_forms.specs.declared.told.Told.{Told}
 
 -- the file, what is faulty as an editor counts it, its line, where in the line it begins and how many

@@ -4,7 +4,7 @@ ghost use Rattle.std.specs.List.{list_any};
 ghost use Rattle.everyday_forms.specs.Counts as spec;
 ghost use Rattle.everyday_forms.specs.Counts.{is_bad, is_error, is_hint, is_warning};
 
-use lsp_types::Severity;
+use source_types::Severity;
 use std::alloc::{AllocError, Global};
 use std::fmt::Write;
 

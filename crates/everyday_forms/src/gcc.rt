@@ -7,7 +7,7 @@ ghost use Rattle.everyday_forms.specs.Told.{told_seen};
 
 use crate::excerpts::{push_excerpt, push_indent, push_mark_of};
 use crate::told::Told;
-use lsp_types::Severity;
+use source_types::Severity;
 use std::alloc::{AllocError, Global};
 use std::fmt::Write;
 

@@ -5,7 +5,7 @@ ghost use Rattle.everyday_forms.specs.Told.{told_seen};
 
 use crate::gcc::ordinal;
 use crate::told::Told;
-use lsp_types::Severity;
+use source_types::Severity;
 use std::alloc::{AllocError, Global};
 
 // Adds a byte of a message as a command has it.

@@ -7,8 +7,8 @@ ghost use Rattle.everyday_forms.specs.Json.{position_data, range_data, told_data
 ghost use Rattle.everyday_forms.specs.Told.{told_seen};
 
 use crate::told::Told;
-use lsp_types::{Position, Range};
 use serde_json::{Map, Value, json};
+use source_types::{Position, Range};
 use std::alloc::{AllocError, Global};
 
 // A position ("Position").

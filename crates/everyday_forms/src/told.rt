@@ -1,5 +1,5 @@
 //! One thing that is told of a source, and the forms.
-use lsp_types::{Range, Severity};
+use source_types::{Range, Severity};
 
 /// One thing that is told of a source. It has the words of each form, so that a form only arranges
 /// them.

@@ -11,8 +11,8 @@ use Rattle.user_extension.specs.Reading.{EndsWell, rows_after}
 use Rattle.user_extension.specs.declared.fault.ExtensionError.{ExtensionError}
 use Rattle.user_extension.specs.declared.fault.ExtensionError.TheVariants as errors
 use Rattle.user_listing.specs.Entries.{Extended}
-use Rattle.everyday_directories.specs.Reading as extended
-use Rattle.everyday_directories.specs.declared.finding.Found.{Found}
+use Rattle.tools_directories.specs.Reading as extended
+use Rattle.tools_directories.specs.declared.finding.Found.{Found}
 use Rattle.everyday_entries.specs.Failures.{out_of_memory}
 use Rattle.everyday_entries.specs.declared.failure.Failure.{Failure}
 use Rattle.everyday_entries.specs.declared.failure.Failure.TheVariants.{BadEntry}

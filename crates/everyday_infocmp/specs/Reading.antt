@@ -1,7 +1,7 @@
 -- The files of the names that are asked for, read one after another (infocmp(1), -A and -B).
 use Rattle.std.specs.Prelude.{◌≡◌, ℕ, ◌+◌, List, [], ◌∷◌, Option, Some, None, Result, Ok, Err}
 use Rattle.tools_devices.specs.Tree.{Files}
-use Rattle.everyday_directories.specs.declared.finding.Found.{Found}
+use Rattle.tools_directories.specs.declared.finding.Found.{Found}
 use Rattle.everyday_entries.specs.Files.{AnswersEither, is_path}
 use Rattle.everyday_entries.specs.declared.failure.Failure.{Failure}
 

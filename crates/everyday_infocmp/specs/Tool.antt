@@ -6,7 +6,7 @@ use Rattle.tools_commands.specs.declared.jobs.InfocmpMode.{InfocmpMode}
 use Rattle.tools_devices.specs.Tree.{Files}
 use Rattle.user_listing.specs.Entries.{Extended, entries_in}
 use Rattle.everyday_words.specs.Requests.{InfocmpWanted}
-use Rattle.everyday_directories.specs.declared.finding.Found.{Found}
+use Rattle.tools_directories.specs.declared.finding.Found.{Found}
 use Rattle.everyday_entries.specs.Failures.{out_of_memory}
 use Rattle.everyday_entries.specs.declared.failure.Failure.{Failure}
 use Rattle.everyday_entries.specs.declared.failure.Failure.TheVariants.{NoName}

@@ -3,11 +3,11 @@ ghost use Rattle.std.specs.Prelude.{IfErr, IfOk, false, map, true};
 ghost use Rattle.everyday_infocmp.specs.Entries.{AreEntries, IsBadFile, IsEntry, IsRefusalOf, IsRefused, plain_entry};
 ghost use Rattle.user_listing.specs.Entries.{extended_seen};
 
-use everyday_directories::{Found, read};
 use everyday_entries::Failure;
 use std::alloc::Global;
 use ti_layout::View;
 use tools_devices::{ToolError, entry};
+use tools_directories::{Found, read};
 use user_extension::ExtensionError;
 use user_listing::ExtendedEntry;
 

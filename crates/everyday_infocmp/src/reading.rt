@@ -3,10 +3,10 @@ ghost use Rattle.std.specs.Prelude.{◌≡◌, ◌∷◌, [], IfOk, map, option_
 ghost use Rattle.std.specs.String.{string_bytes};
 ghost use Rattle.everyday_infocmp.specs.Reading.{GivesFiles, GivesSought, directories_for, sought_names, stop_of};
 
-use everyday_directories::Found;
 use everyday_entries::{Failure, entry_file};
 use std::alloc::{AllocError, Global};
 use tools_devices::{ToolError, Tree};
+use tools_directories::Found;
 
 /// Where the entries of names are looked for: the only directory for the first name and that for
 /// the others, if they are given, and the directories for the rest.

@@ -11,11 +11,11 @@ use crate::listings::extended_text;
 use crate::names::all_names;
 use crate::plain_listings::plain_text;
 use crate::reading::{Places, read_files};
-use everyday_directories::Found;
 use everyday_entries::Failure;
 use everyday_words::InfocmpRequest;
 use std::alloc::Global;
 use tools_devices::{ToolError, Tree};
+use tools_directories::Found;
 
 // What is printed of the entries of files without their user-defined capabilities. There are as many
 // files as the mode takes at least.

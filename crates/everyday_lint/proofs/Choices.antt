@@ -7,7 +7,7 @@ use Rattle.std.proofs.lemmas.List.{drop-drop, take-append-drop}
 use Rattle.std.proofs.lemmas.List.Elements.{All-cons}
 use Rattle.std.proofs.lemmas.List.Kept.{AllPairs-cons}
 use Rattle.ti_caps.proofs.Table.{Contains-cons}
-use Rattle.lsp_keeping.specs.Keeping.{stays_in_line}
+use Rattle.source_keeping.specs.Keeping.{stays_in_line}
 use Rattle.everyday_lint.specs.Laws.{AreAmong, FixesAreMade, FixesChangeNothingElse, IsInTheWay, given_by, taken_by, woven}
 use Rattle.everyday_lint.specs.Fixing.{begins, ends, is_made, made, fixed_text}
 use Rattle.everyday_lint.specs.Offers.{OfferSeen}

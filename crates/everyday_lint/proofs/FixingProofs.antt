@@ -4,8 +4,8 @@ use Rattle.std.specs.List.{slice_range}
 use Rattle.std.proofs.lemmas.Bool.{and_parts, cases_Bool, leb-true}
 use Rattle.std.proofs.Math.Seq.{take-add}
 use Rattle.std.proofs.lemmas.List.{take-append-drop}
-use Rattle.lsp_keeping.specs.Keeping.{KeepsLines, kept_in, stays_in_line}
-use Rattle.lsp_keeping.proofs.LinesKept.{exchange_keeps}
+use Rattle.source_keeping.specs.Keeping.{KeepsLines, kept_in, stays_in_line}
+use Rattle.source_keeping.proofs.LinesKept.{exchange_keeps}
 use Rattle.everyday_lint.specs.Fixing.{FixingKeepsLines, begins, ends, is_made, made, fixed_text}
 use Rattle.everyday_lint.specs.Offers.{OfferSeen}
 

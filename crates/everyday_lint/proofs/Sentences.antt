@@ -6,9 +6,9 @@ use Rattle.ti_source.specs.Code.{code_name}
 use Rattle.ti_source.specs.declared.code.Code.{Code}
 use Rattle.ti_source.specs.declared.code.Code.TheVariants as code
 use Rattle.base_meaning.specs.Report.{detail_text}
-use Rattle.lsp_document.specs.Diagnostics.{fault_message, sentence_by}
-use Rattle.lsp_diagnostics.specs.declared.capabilities.Capabilities.{Capabilities}
-use Rattle.lsp_diagnostics.specs.declared.capabilities.Capabilities.TheVariants.{Profile, UserDefined}
+use Rattle.source_document.specs.Diagnostics.{fault_message, sentence_by}
+use Rattle.source_diagnostics.specs.declared.capabilities.Capabilities.{Capabilities}
+use Rattle.source_diagnostics.specs.declared.capabilities.Capabilities.TheVariants.{Profile, UserDefined}
 use Rattle.everyday_lint.specs.Words.{SentencesAreOfFaults, skipped, subject_text}
 
 -- a part that is there is skipped

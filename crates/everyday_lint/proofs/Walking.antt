@@ -3,10 +3,10 @@ use Rattle.std.proofs.Common.{◌≡◌, ◌∙◌, ℕ, suc, zero, ◌+◌, ◌
 use Rattle.std.specs.Prelude.{◌&&◌, nat_lt}
 use Rattle.std.proofs.lemmas.Bool.{and_parts, cases_Bool, false≢true, le-ltb}
 use Rattle.std.specs.List.{list_all}
-use Rattle.lsp_places.specs.LineTexts.{until_end}
-use Rattle.lsp_places.specs.Position.{begins_with_newline, column_offset, ends_line, line_start}
-use Rattle.lsp_places.proofs.LineStarts.{start-newline, start-plain}
-use Rattle.lsp_places.proofs.Places.{line_start-zero, until_end-inside}
+use Rattle.source_places.specs.LineTexts.{until_end}
+use Rattle.source_places.specs.Position.{begins_with_newline, column_offset, ends_line, line_start}
+use Rattle.source_places.proofs.LineStarts.{start-newline, start-plain}
+use Rattle.source_places.proofs.Places.{line_start-zero, until_end-inside}
 use Rattle.everyday_lint.specs.Telling.{byte_offset}
 use Rattle.everyday_lint.specs.inside.Ascii.{is_character}
 

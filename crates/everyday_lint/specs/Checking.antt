@@ -2,9 +2,9 @@
 -- that are certain are made, if fixes are made. What is told of is the text that is read of the source:
 -- without a byte order mark in front, and without the CR of lines that end in CR LF.
 use Rattle.std.specs.Prelude.{◌≡◌, ℕ, List, [], if◌then◌else◌}
-use Rattle.lsp_plain.specs.Reading.{plain_source, without_mark}
-use Rattle.lsp_document.specs.Diagnostics.{diagnostics_by}
-use Rattle.lsp_remarks.specs.Remarks.{remarks_of}
+use Rattle.source_plain.specs.Reading.{plain_source, without_mark}
+use Rattle.source_document.specs.Diagnostics.{diagnostics_by}
+use Rattle.source_remarks.specs.Remarks.{remarks_of}
 use Rattle.everyday_lint.specs.Fixing.{made}
 use Rattle.everyday_lint.specs.Offers.{OfferSeen, offers_of}
 use Rattle.everyday_lint.specs.Telling.{severities_of, told_of_all}

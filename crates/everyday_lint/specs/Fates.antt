@@ -2,8 +2,8 @@
 use Rattle.std.specs.Prelude.{◌≡◌, ◌⊎◌, ℕ, ◌+◌, Bool, true, false, List, [], ◌∷◌, ◌++◌, Option, None}
 use Rattle.std.specs.String.{string_bytes}
 use Rattle.tools_devices.specs.Tree.{ChangesOnly, Files, FindsFile, Sets}
-use Rattle.lsp_plain.specs.Reading.{without_mark}
-use Rattle.lsp_plain.specs.Writing.{marked_like}
+use Rattle.source_plain.specs.Reading.{without_mark}
+use Rattle.source_plain.specs.Writing.{marked_like}
 use Rattle.everyday_fmt.specs.Fates.{Held, Holds, IsReason, whole_size}
 use Rattle.everyday_lint.specs.Checking.{IsLintedSource, made_in}
 use Rattle.everyday_lint.specs.Fixing.{fix_lines, fixed_text}

@@ -4,11 +4,11 @@ use Rattle.std.specs.Prelude.{ℕ, ◌++◌, ◌&&◌, nat_le, Bool, List, [], �
 use Rattle.std.specs.List.{slice_range}
 use Rattle.ti_caps.specs.declared.capability.Kind.{Kind}
 use Rattle.ti_caps.specs.declared.capability.Kind.TheVariants.{Flag, Number, Text}
-use Rattle.lsp_types.specs.declared.places.Position.{Position}
-use Rattle.lsp_places.specs.LineTexts.{line_of}
-use Rattle.lsp_places.specs.Position.{offset_of}
-use Rattle.lsp_keeping.specs.Keeping.{KeepsLines, stays_in_line}
-use Rattle.lsp_fixes.specs.Edits.{AdviceSeen, advises_caret, advises_name, advises_sign, advises_spelling}
+use Rattle.source_types.specs.declared.places.Position.{Position}
+use Rattle.source_places.specs.LineTexts.{line_of}
+use Rattle.source_places.specs.Position.{offset_of}
+use Rattle.source_keeping.specs.Keeping.{KeepsLines, stays_in_line}
+use Rattle.source_fixes.specs.Edits.{AdviceSeen, advises_caret, advises_name, advises_sign, advises_spelling}
 use Rattle.everyday_forms.specs.Gcc.{ordinal}
 use Rattle.everyday_lint.specs.Offers.{OfferSeen}
 use Rattle.everyday_lint.specs.Telling.{byte_offset}

@@ -2,7 +2,7 @@
 -- "TextEdit[]": no two overlap, and all ranges are those of the text before).
 use Rattle.std.specs.Prelude.{◌≡◌, ◌⊎◌, ℕ, ◌+◌, ◌<◌, ◌≤◌, false, true, List, [], ◌∷◌, ◌++◌, All, Contains, length, map}
 use Rattle.std.specs.List.{AllPairs, slice_range}
-use Rattle.lsp_keeping.specs.Keeping.{stays_in_line}
+use Rattle.source_keeping.specs.Keeping.{stays_in_line}
 use Rattle.everyday_lint.specs.Fixing.{begins, ends, made, fixed_text}
 use Rattle.everyday_lint.specs.Offers.{OfferSeen}
 

@@ -4,12 +4,12 @@ use Rattle.std.specs.Prelude.{ℕ, Bool, true, false, List, [], filter, flat_map
 use Rattle.std.specs.Borrow.{Bor}
 use Rattle.ti_source.specs.declared.code.Code.{Code}
 use Rattle.ti_source.specs.declared.code.Code.TheVariants as code
-use Rattle.lsp_document.specs.Diagnostics.{Shown}
-use Rattle.lsp_diagnostics.specs.declared.capabilities.Capabilities.{Capabilities}
-use Rattle.lsp_diagnostics.specs.declared.diagnostics.Problem.{Problem}
-use Rattle.lsp_diagnostics.specs.declared.diagnostics.Problem.TheVariants.{Fault}
-use Rattle.lsp_fixes.specs.Edits.{is_certain}
-use Rattle.lsp_fixes.specs.Fixes.{FixSeen, fix_seen, fixes_of}
+use Rattle.source_document.specs.Diagnostics.{Shown}
+use Rattle.source_diagnostics.specs.declared.capabilities.Capabilities.{Capabilities}
+use Rattle.source_diagnostics.specs.declared.diagnostics.Problem.{Problem}
+use Rattle.source_diagnostics.specs.declared.diagnostics.Problem.TheVariants.{Fault}
+use Rattle.source_fixes.specs.Edits.{is_certain}
+use Rattle.source_fixes.specs.Fixes.{FixSeen, fix_seen, fixes_of}
 use Rattle.everyday_lint.specs.declared.offers.Offer.{Offer}
 
 -- a fix, and what it is for, as plain data

@@ -2,7 +2,7 @@
 use Rattle.std.specs.Prelude.{ℕ, ◌||◌, nat_lt, Bool, true, false, if◌then◌else◌, List, [], ◌++◌, codes, count_by, length}
 use Rattle.std.specs.List.{list_any}
 use Rattle.std.specs.String.{string_bytes}
-use Rattle.lsp_types.specs.declared.severities.Severity.{Severity}
+use Rattle.source_types.specs.declared.severities.Severity.{Severity}
 use Rattle.everyday_forms.specs.Counts.{is_bad}
 use Rattle.everyday_lint.specs.declared.files.Done.{Done}
 use Rattle.everyday_lint.specs.declared.files.Fate.{Fate}

@@ -1,12 +1,12 @@
 -- What is told of the faults and hints of a text (own).
 use Rattle.std.specs.Prelude.{ℕ, ◌-◌, List, [], flat_map, map}
-use Rattle.lsp_plain.specs.Reading.{plain_source}
-use Rattle.lsp_types.specs.declared.severities.Severity.{Severity}
-use Rattle.lsp_diagnostics.specs.declared.capabilities.Capabilities.{Capabilities}
-use Rattle.lsp_remarks.specs.Hints.{source_hints}
-use Rattle.lsp_remarks.specs.Remarks.{SeenRemark, label_of_remark, message_of, range_of, remarks_by, severity_of}
-use Rattle.lsp_places.specs.LineTexts.{line_of}
-use Rattle.lsp_places.specs.Position.{offset_of}
+use Rattle.source_plain.specs.Reading.{plain_source}
+use Rattle.source_types.specs.declared.severities.Severity.{Severity}
+use Rattle.source_diagnostics.specs.declared.capabilities.Capabilities.{Capabilities}
+use Rattle.source_remarks.specs.Hints.{hints_of_source}
+use Rattle.source_remarks.specs.Remarks.{SeenRemark, label_of_remark, message_of, range_of, remarks_by, severity_of}
+use Rattle.source_places.specs.LineTexts.{line_of}
+use Rattle.source_places.specs.Position.{offset_of}
 use Rattle.everyday_forms.specs.Forms.{told_text}
 use Rattle.everyday_forms.specs.Told.{ToldSeen}
 use Rattle.everyday_forms.specs.declared.told.Form.{Form}
@@ -46,4 +46,4 @@ severities_of all = map severity_of all
 
 -- the hints on a source alone, each on a line
 abbrev pub hint_lines : Capabilities → (file source : List ℕ) → List ℕ
-hint_lines capabilities file source = told_of_all Lines file (plain_source source) (remarks_by [] (source_hints capabilities source))
+hint_lines capabilities file source = told_of_all Lines file (plain_source source) (remarks_by [] (hints_of_source capabilities source))

@@ -2,8 +2,8 @@
 use Rattle.std.specs.Prelude.{◌≡◌, ℕ, ◌++◌, List, codes, count_by, flat_map, if◌then◌else◌}
 use Rattle.std.specs.List.{list_any}
 use Rattle.everyday_fmt.specs.Fates.{Held}
-use Rattle.lsp_plain.specs.Reading.{plain_source}
-use Rattle.lsp_remarks.specs.Remarks.{remarks_of}
+use Rattle.source_plain.specs.Reading.{plain_source}
+use Rattle.source_remarks.specs.Remarks.{remarks_of}
 use Rattle.everyday_forms.specs.Counts.{is_bad, summary}
 use Rattle.everyday_forms.specs.Forms.{whole}
 use Rattle.everyday_lint.specs.Fates.{LintsFiles}

@@ -4,13 +4,13 @@ use Rattle.std.specs.Str.{bytes_eq}
 use Rattle.ti_source.specs.Code.{code_name, code_text}
 use Rattle.ti_source.specs.declared.code.Code.{Code}
 use Rattle.base_meaning.specs.Report.{shown_detail}
-use Rattle.lsp_document.specs.Diagnostics.{fault_message, sentence_by}
-use Rattle.lsp_diagnostics.specs.declared.capabilities.Capabilities.{Capabilities}
-use Rattle.lsp_block_hints.specs.Words.{label_of, name_of as hint_name}
-use Rattle.lsp_block_hints.specs.declared.hint.HintKind.{HintKind}
-use Rattle.lsp_remarks.specs.Remarks.{SeenRemark, seen_fault, seen_hint}
-use Rattle.lsp_diagnostics.specs.declared.diagnostics.Problem.{Problem}
-use Rattle.lsp_diagnostics.specs.declared.diagnostics.Problem.TheVariants.{Fault, BadUserDefined, BlockTooLong, TooManyBlocks}
+use Rattle.source_document.specs.Diagnostics.{fault_message, sentence_by}
+use Rattle.source_diagnostics.specs.declared.capabilities.Capabilities.{Capabilities}
+use Rattle.source_block_hints.specs.Words.{label_of, name_of as hint_name}
+use Rattle.source_block_hints.specs.declared.hint.HintKind.{HintKind}
+use Rattle.source_remarks.specs.Remarks.{SeenRemark, seen_fault, seen_hint}
+use Rattle.source_diagnostics.specs.declared.diagnostics.Problem.{Problem}
+use Rattle.source_diagnostics.specs.declared.diagnostics.Problem.TheVariants.{Fault, BadUserDefined, BlockTooLong, TooManyBlocks}
 
 -- the code of a problem with its name, such as `E3 BadNumber`
 abbrev pub problem_title : Problem → List ℕ

@@ -1,5 +1,5 @@
 //! What is found out about a source.
-ghost use Rattle.lsp_plain.specs.Reading.{plain_source};
+ghost use Rattle.source_plain.specs.Reading.{plain_source};
 ghost use Rattle.std.specs.Prelude.{◌≡◌, IfOk, map};
 ghost use Rattle.everyday_lint.specs.Checking.{IsLintedSource, offers_in};
 ghost use Rattle.everyday_lint.specs.Offers.{offer_seen};
@@ -7,10 +7,10 @@ ghost use Rattle.everyday_lint.specs.Offers.{offer_seen};
 use crate::offers::{Offer, offers_of};
 use crate::options::LintOptions;
 use crate::telling::{severities_of, told_of_all};
-use lsp_document::Document;
-use lsp_plain::plain;
-use lsp_remarks::{remarks_of, source_hints_in};
-use lsp_types::Severity;
+use source_document::Document;
+use source_plain::plain;
+use source_remarks::{remarks_of, source_hints_in};
+use source_types::Severity;
 use std::alloc::{AllocError, Global};
 
 /// What is found out about a source.

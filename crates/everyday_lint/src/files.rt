@@ -1,7 +1,7 @@
 //! What becomes of a file, and of files in turn.
 ghost use Rattle.std.specs.Prelude.{◌≡◌, IfOk, OnErr, map};
 ghost use Rattle.std.specs.String.{string_bytes};
-ghost use Rattle.lsp_plain.specs.Reading.{plain_source};
+ghost use Rattle.source_plain.specs.Reading.{plain_source};
 ghost use Rattle.everyday_fmt.specs.Fates.{held};
 ghost use Rattle.tools_devices.specs.Tree.{ChangesOnly};
 ghost use Rattle.everyday_lint.specs.Fates.{Finds, LintsFile, LintsFiles, Fixes, StopsAmong, Stays, TellsFailure};
@@ -9,12 +9,12 @@ ghost use Rattle.everyday_lint.specs.Checking.{made_in};
 ghost use Rattle.everyday_lint.specs.Offers.{made_seen};
 
 use crate::checking::{Linted, check_source, document_of, offers_in};
-use crate::fixing::{fix_lines, made, fixed_text};
+use crate::fixing::{fix_lines, fixed_text, made};
 use crate::offers::Offer;
 use crate::options::LintOptions;
 use everyday_fmt::ReasonedTree;
-use lsp_document::Document;
-use lsp_plain::{marked_like, without_mark};
+use source_document::Document;
+use source_plain::{marked_like, without_mark};
 use std::alloc::{AllocError, Global};
 use tools_devices::TreeFault;
 

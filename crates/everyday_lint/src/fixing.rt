@@ -1,7 +1,7 @@
 //! A source with fixes made, and what is told of them.
 ghost use Rattle.std.specs.Prelude.{◌≡◌, ◌≤◌, ◌++◌, IfOk, OnOk, length, map};
 ghost use Rattle.std.specs.String.{string_bytes};
-ghost use Rattle.lsp_fixes.specs.Edits.{advice_seen};
+ghost use Rattle.source_fixes.specs.Edits.{advice_seen};
 ghost use Rattle.everyday_lint.specs.Fixing as spec;
 ghost use Rattle.everyday_lint.specs.Fixing.{begins, ends, fix_line, is_made, made};
 ghost use Rattle.everyday_forms.specs.Gcc.{ordinal};
@@ -10,10 +10,10 @@ ghost use Rattle.everyday_lint.specs.Offers.{made_seen, offer_seen};
 use crate::lines::Line;
 use crate::offers::Offer;
 use crate::words::problem_title;
-use lsp_fixes::Advice;
-use lsp_keeping::stays_in_line;
-use lsp_places::offset_of;
-use lsp_types::Position;
+use source_fixes::Advice;
+use source_keeping::stays_in_line;
+use source_places::offset_of;
+use source_types::Position;
 use std::alloc::{AllocError, Global};
 use std::fmt::Write;
 use ti_caps::Kind;
@@ -78,7 +78,11 @@ pub fn fixes_keep_lines()
 ///
 /// # Errors
 /// Out of memory.
-pub(crate) fn fixed_text(alloc: Global, text: &[u8], offers: &[&Offer]) -> Result<Vec<u8>, AllocError>
+pub(crate) fn fixed_text(
+    alloc: Global,
+    text: &[u8],
+    offers: &[&Offer],
+) -> Result<Vec<u8>, AllocError>
     ensures { IfOk result (λ all. all.items ≡ spec.fixed_text text.now 0 (map made_seen offers.now)) }
 {
     let mut all = Vec::new(alloc);

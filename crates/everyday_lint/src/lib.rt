@@ -28,9 +28,9 @@
 
 mod checking;
 mod files;
+mod fixing;
 pub mod laws;
 mod lines;
-mod fixing;
 mod offers;
 mod options;
 mod report;
@@ -42,8 +42,8 @@ pub use checking::Linted;
 pub use everyday_fmt::ReasonedTree;
 pub use everyday_forms::Form;
 pub use files::{Done, Fate};
-pub use lsp_document::Capabilities;
 pub use fixing::fixes_keep_lines;
 pub use options::{LintOptions, LintOutcome};
+pub use source_document::Capabilities;
 pub use tool::{hint_lines, lint_files, lint_input};
 pub use words::sentences_are_of_faults;

@@ -1,14 +1,14 @@
 //! The lines of a text, one after another.
 ghost use Rattle.std.specs.Prelude.{◌≡◌, ◌≤◌, length, true};
 ghost use Rattle.std.specs.List.{list_all};
-ghost use Rattle.lsp_places.specs.LineTexts.{line_of, until_end};
-ghost use Rattle.lsp_places.specs.Position.{line_start};
+ghost use Rattle.source_places.specs.LineTexts.{line_of, until_end};
+ghost use Rattle.source_places.specs.Position.{line_start};
 ghost use Rattle.everyday_lint.specs.Telling.{byte_offset};
 ghost use Rattle.everyday_lint.specs.inside.Ascii.{is_character};
 
-use lsp_places::{first_of, offset_of};
-use lsp_types::Position;
 use memchr::memchr;
+use source_places::{first_of, offset_of};
+use source_types::Position;
 use std::marker::Model;
 
 /// A line of a text, without its end.
@@ -22,7 +22,7 @@ pub(crate) struct Line<'a> {
 impl<'a> Model for Line<'a> {
     ghost use Rattle.std.specs.Prelude.{◌≡◌, ℕ, List};
     ghost use Rattle.std.specs.List.{list_all};
-    ghost use Rattle.lsp_places.specs.LineTexts.{until_end};
+    ghost use Rattle.source_places.specs.LineTexts.{until_end};
     ghost use Rattle.everyday_lint.specs.inside.Ascii.{is_character};
 
     ghost Value = { List ℕ };
@@ -118,8 +118,8 @@ pub(crate) struct LineWalk<'a> {
 
 impl<'a> Model for LineWalk<'a> {
     ghost use Rattle.std.specs.Prelude.{◌≡◌, ◌≤◌, ℕ, List, drop, length};
-    ghost use Rattle.lsp_places.specs.LineTexts.{until_end};
-    ghost use Rattle.lsp_places.specs.Position.{line_start};
+    ghost use Rattle.source_places.specs.LineTexts.{until_end};
+    ghost use Rattle.source_places.specs.Position.{line_start};
 
     ghost Value = { List ℕ × ℕ };
 

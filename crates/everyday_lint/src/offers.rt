@@ -1,13 +1,13 @@
 //! The fixes that are certain.
 ghost use Rattle.std.specs.Prelude.{◌≡◌, ◌++◌, IfOk, OnOk, filter, map};
-ghost use Rattle.lsp_document.specs.Diagnostics.{diagnostic_seen};
-ghost use Rattle.lsp_fixes.specs.Fixes.{fix_seen};
-ghost use Rattle.lsp_fixes.specs.Fixes as offered;
+ghost use Rattle.source_document.specs.Diagnostics.{diagnostic_seen};
+ghost use Rattle.source_fixes.specs.Fixes.{fix_seen};
+ghost use Rattle.source_fixes.specs.Fixes as offered;
 ghost use Rattle.everyday_lint.specs.Offers as spec;
 ghost use Rattle.everyday_lint.specs.Offers.{is_fixable, offer_seen, offers_for};
 
-use lsp_document::{Capabilities, Diagnostic, Document, Problem};
-use lsp_fixes::{Fix, fixes_of};
+use source_document::{Capabilities, Diagnostic, Document, Problem};
+use source_fixes::{Fix, fixes_of};
 use std::alloc::{AllocError, Global};
 use ti_source::Code;
 

@@ -1,6 +1,6 @@
 //! What is looked for in sources, and what comes of it.
 use everyday_forms::Form;
-use lsp_document::Capabilities;
+use source_document::Capabilities;
 
 /// What is looked for, and how it is told.
 #[derive(Clone, Copy, Debug)]

@@ -5,7 +5,7 @@ ghost use Rattle.everyday_lint.specs.Report as spec;
 
 use crate::files::{Done, Fate};
 use everyday_forms::has_bad;
-use lsp_types::Severity;
+use source_types::Severity;
 use std::alloc::{AllocError, Global};
 
 // What is told of a file.

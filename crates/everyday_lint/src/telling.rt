@@ -1,6 +1,6 @@
 //! What is told of faults and hints.
 ghost use Rattle.std.specs.Prelude.{◌≡◌, ◌++◌, IfOk, OnOk, map};
-ghost use Rattle.lsp_remarks.specs.Remarks.{remark_seen};
+ghost use Rattle.source_remarks.specs.Remarks.{remark_seen};
 ghost use Rattle.everyday_forms.specs.Forms.{told_text};
 ghost use Rattle.everyday_lint.specs.Telling as spec;
 ghost use Rattle.everyday_lint.specs.Telling.{told_of, told_on};
@@ -8,8 +8,8 @@ ghost use Rattle.everyday_lint.specs.Telling.{told_of, told_on};
 use crate::lines::{Line, LineWalk};
 use crate::words::{sentence_of, title_of};
 use everyday_forms::{Form, Told, push_told};
-use lsp_remarks::Remark;
-use lsp_types::Severity;
+use source_remarks::Remark;
+use source_types::Severity;
 use std::alloc::{AllocError, Global};
 
 // Adds what is told of a fault or a hint, if what is faulty begins on this line.

@@ -13,8 +13,8 @@ use crate::report::{count_of, lines_of_files, severities_of_files, status_of, to
 use crate::telling::told_of_all;
 use everyday_fmt::ReasonedTree;
 use everyday_forms::{Form, has_bad, push_summary, whole};
-use lsp_document::Capabilities;
-use lsp_remarks::{remarks_of, source_hints_in};
+use source_document::Capabilities;
+use source_remarks::{remarks_of, source_hints_in};
 use std::alloc::{AllocError, Global};
 
 // What standard input is called.

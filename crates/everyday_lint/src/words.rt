@@ -2,13 +2,13 @@
 ghost use Rattle.std.specs.Prelude.{◌≡◌, IfOk};
 ghost use Rattle.std.specs.String.{string_bytes};
 ghost use Rattle.ti_source.specs.Code.{code_text};
-ghost use Rattle.lsp_remarks.specs.Remarks.{remark_seen};
+ghost use Rattle.source_remarks.specs.Remarks.{remark_seen};
 ghost use Rattle.everyday_lint.specs.Words as spec;
 ghost use Rattle.everyday_lint.specs.Words.{skipped};
 
-use lsp_block_hints::HintKind;
-use lsp_document::Problem;
-use lsp_remarks::Remark;
+use source_block_hints::HintKind;
+use source_document::Problem;
+use source_remarks::Remark;
 use std::alloc::{AllocError, Global};
 use ti_source::Code;
 

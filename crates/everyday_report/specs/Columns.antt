@@ -2,7 +2,7 @@
 use Rattle.std.specs.Prelude.{ℕ, suc, ◌==◌, Bool, not, List, take, Option, Some, None}
 use Rattle.std.specs.List.{suffix_len}
 use Rattle.ti_text.specs.Ascii as ascii
-use Rattle.lsp_spans.specs.declared.parts.Part.{Part}
+use Rattle.source_spans.specs.declared.parts.Part.{Part}
 
 -- whether a byte is on the line of the byte after it
 abbrev pub is_on_line : ℕ → Bool

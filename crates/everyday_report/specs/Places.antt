@@ -2,8 +2,8 @@
 -- it is of, which is sought after the parts of the faults before it.
 use Rattle.std.specs.Prelude.{ℕ, nat_eq, List, Option, Some, if◌then◌else◌}
 use Rattle.ti_source.specs.declared.code.Code.TheVariants as code
-use Rattle.lsp_spans.specs.Faulty.{Search, Sought, find_sought, search_of}
-use Rattle.lsp_spans.specs.declared.parts.Part.{Part}
+use Rattle.source_spans.specs.Faulty.{Search, Sought, find_sought, search_of}
+use Rattle.source_spans.specs.declared.parts.Part.{Part}
 use Rattle.user_compiling.specs.Faults.{ExtendedSourceFault, of_profile, bad_user_defined}
 use Rattle.everyday_report.specs.Columns.{column_of}
 

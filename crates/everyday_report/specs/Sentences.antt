@@ -3,7 +3,7 @@
 use Rattle.std.specs.Prelude.{ℕ, List, codes}
 use Rattle.ti_source.specs.declared.code.Code.{Code}
 use Rattle.ti_source.specs.declared.code.Code.TheVariants.{MissingUse}
-use Rattle.lsp_spans.specs.Sentences as server
+use Rattle.source_spans.specs.Sentences as server
 
 -- what is reported about an error or a warning of the profile
 abbrev pub sentence : Code → List ℕ

@@ -17,6 +17,6 @@ mod places;
 mod report;
 mod sentences;
 
-pub use lsp_spans::{BLOCK_TOO_LONG, TOO_MANY_BLOCKS};
 pub use report::{Place, append_parts, write_faults, write_said};
 pub use sentences::{BAD_USER_DEFINED, TOO_MANY_NAMES, sentence};
+pub use source_spans::{BLOCK_TOO_LONG, TOO_MANY_BLOCKS};

@@ -1,7 +1,7 @@
 //! The columns of the faults of a source.
 ghost use Rattle.std.specs.Prelude.{◌≡◌, IfOk, OnOk, option_map};
 ghost use Rattle.std.specs.Rc.{rc_slice_items};
-ghost use Rattle.lsp_spans.specs.Faulty.{find_sought};
+ghost use Rattle.source_spans.specs.Faulty.{find_sought};
 ghost use Rattle.user_compiling.specs.Faults.{fault_seen};
 ghost use Rattle.everyday_report.specs.Columns.{column_of};
 ghost use Rattle.everyday_report.specs.Places as spec;
@@ -10,7 +10,7 @@ ghost use Rattle.everyday_report.specs.inside.Blocks.{IsReadBlock};
 
 use crate::blocks::ReadBlock;
 use crate::columns::Columns;
-use lsp_spans::{FaultFinder, Part};
+use source_spans::{FaultFinder, Part};
 use std::alloc::{AllocError, Global};
 use std::marker::Model;
 use ti_base::Fault;

@@ -12,7 +12,7 @@ pub fn sentence(code: Code) -> &'static str
     match code {
         Code::MissingUse =>
             "No block and no installed entry has this name. Correct it, or add the block.",
-        _ => lsp_spans::sentence(code),
+        _ => source_spans::sentence(code),
     }
 }
 

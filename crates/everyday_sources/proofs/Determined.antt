@@ -8,9 +8,9 @@ use Rattle.ti_list.specs.Listing.{listing}
 use Rattle.ti_source.specs.Header.{HeadersHaveOneReading, ReadsNames}
 use Rattle.ti_source.specs.Judging.{names_found}
 use Rattle.tools_devices.specs.Tree.{FileAt, Files}
-use Rattle.everyday_directories.specs.Finding.{Finds, FindsTheFirst, Searches, first_at}
-use Rattle.everyday_directories.specs.Paths.{paths_of}
-use Rattle.everyday_directories.specs.Reading.{FilesHaveOneReading}
+use Rattle.tools_directories.specs.Finding.{Finds, FindsTheFirst, Searches, first_at}
+use Rattle.tools_directories.specs.Paths.{paths_of}
+use Rattle.tools_directories.specs.Reading.{FilesHaveOneReading}
 use Rattle.user_extension.specs.Reading.{ReadRow}
 use Rattle.user_extension.specs.View.{read_rows}
 use Rattle.user_extension.specs.declared.view.Extension.{Extension}

@@ -11,7 +11,7 @@ use Rattle.ti_list.specs.declared.layout.Order.TheVariants as order
 use Rattle.ti_source.specs.Header.{ReadsNames}
 use Rattle.ti_source.specs.Judging.{names_found}
 use Rattle.tools_devices.specs.Searching.{file_bytes_max}
-use Rattle.everyday_directories.specs.Reading.{Opens}
+use Rattle.tools_directories.specs.Reading.{Opens}
 use Rattle.user_extension.specs.View.{read_rows}
 use Rattle.user_extension.specs.declared.view.Extension.{Extension}
 use Rattle.user_listing.specs.Listing.{extended_listing}

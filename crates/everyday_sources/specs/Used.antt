@@ -15,8 +15,8 @@ use Rattle.base_meaning.specs.Owner.{owner, readings}
 use Rattle.base_meaning.specs.Usable.{IsPlaced}
 use Rattle.base_meaning.specs.declared.faults.Fault.{Fault}
 use Rattle.tools_devices.specs.Tree.{FileAt, Files}
-use Rattle.everyday_directories.specs.Finding.{Finds}
-use Rattle.everyday_directories.specs.Paths.{paths_of}
+use Rattle.tools_directories.specs.Finding.{Finds}
+use Rattle.tools_directories.specs.Paths.{paths_of}
 use Rattle.everyday_sources.specs.Installed.{Gives}
 use Rattle.everyday_sources.specs.declared.problem.Cause.{Cause}
 use Rattle.everyday_sources.specs.declared.problem.Cause.TheVariants.{NoRoom}

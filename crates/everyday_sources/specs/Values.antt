@@ -12,9 +12,9 @@ use Rattle.base_meaning.specs.Expansion as profile
 use Rattle.base_meaning.specs.Owner.{readings}
 use Rattle.tools_devices.specs.Searching.{file_bytes_max}
 use Rattle.tools_devices.specs.Tree.{FileAt, Files}
-use Rattle.everyday_directories.specs.Finding.{Finds}
-use Rattle.everyday_directories.specs.Paths.{paths_of}
-use Rattle.everyday_directories.specs.Reading.{Opens}
+use Rattle.tools_directories.specs.Finding.{Finds}
+use Rattle.tools_directories.specs.Paths.{paths_of}
+use Rattle.tools_directories.specs.Reading.{Opens}
 use Rattle.user_items.specs.Verdicts.{imports}
 use Rattle.user_extension.specs.Reading.{said}
 use Rattle.user_extension.specs.View.{read_rows}

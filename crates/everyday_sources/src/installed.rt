@@ -7,11 +7,11 @@ ghost use Rattle.everyday_sources.specs.inside.Listed.{given};
 
 use crate::problem::Cause;
 use crate::selection::is_among;
-use everyday_directories::read;
 use std::alloc::{AllocError, Global};
 use ti_layout::View;
 use ti_list::{Layout, Order};
 use ti_source::lookup_names;
+use tools_directories::read;
 use user_extension::Extension;
 use user_listing::ExtendedEntry;
 

@@ -18,8 +18,8 @@ pub fn sources_come_first()
 pub fn used_entries_are_determined()
     ensures { UsedEntriesAreDetermined }
 {
-    everyday_directories::laws::finds_the_first();
-    everyday_directories::laws::files_have_one_reading();
+    tools_directories::laws::finds_the_first();
+    tools_directories::laws::files_have_one_reading();
     ti_source::laws::headers_have_one_reading();
 }
 

@@ -5,20 +5,20 @@ ghost use Rattle.std.specs.Option.{option_map, option_to_list};
 ghost use Rattle.std.specs.Rc.{rc_slice_items};
 ghost use Rattle.std.specs.String.{string_bytes};
 ghost use Rattle.base_meaning.specs.Faults.{fault_seen};
-ghost use Rattle.everyday_directories.specs.Finding.{file_of};
+ghost use Rattle.tools_directories.specs.Finding.{file_of};
 ghost use Rattle.everyday_sources.specs.Used as spec;
 ghost use Rattle.everyday_sources.specs.Used.{KeepsFaults, LooksUp, PutsIn, TakesFound, TakesName, TakesUsed, problem_seen};
 ghost use Rattle.everyday_sources.specs.inside.Listed.{problems_of};
 
 use crate::installed::{Listed, installed};
 use crate::problem::{Cause, Problem};
-use everyday_directories::{Found, find};
 use std::alloc::{AllocError, Global};
 use std::rc::RcSlice;
 use std::str;
 use ti_base::{Database, EditError, Fault};
 use ti_source::{Code, is_lookup_name};
 use tools_devices::{ToolError, Tree};
+use tools_directories::{Found, find};
 
 /// What was found of a source while the installed entries that it uses were taken.
 #[derive(Debug, Drop)]

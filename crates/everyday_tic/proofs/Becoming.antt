@@ -16,7 +16,7 @@ use Rattle.user_compiling.specs.declared.compiled.Compiled.{Compiled}
 use Rattle.tools_devices.specs.Tree.{Files}
 use Rattle.tools_sources.specs.Sources.{AreTaken, first_line, source_texts}
 use Rattle.everyday_sources.proofs.Finding.{left}
-use Rattle.lsp_plain.specs.Reading.{plain_source}
+use Rattle.source_plain.specs.Reading.{plain_source}
 use Rattle.everyday_sources.specs.Used.{KeepsFaults, ProblemSeen, TakesUsed, problem_seen}
 use Rattle.everyday_sources.specs.declared.problem.Problem.{Problem}
 use Rattle.everyday_tic.specs.Outcomes.{Asked, Comes, ComesOf, ComesOfBlocks, ComesOfPlain, made_of, termcap_refusal}

@@ -7,7 +7,7 @@ use Rattle.user_base.specs.Kept.{StatesAreDetermined}
 use Rattle.user_items.specs.Parsing.{user_reading_of_text}
 use Rattle.user_values.specs.Limit.{IsOverLimitAt, distinct_after, name_count, name_limit, names_in, names_of}
 use Rattle.user_values.proofs.Naming.{distinct_after-append, distinct_after-longer}
-use Rattle.lsp_plain.specs.Reading.{plain_source}
+use Rattle.source_plain.specs.Reading.{plain_source}
 use Rattle.everyday_sources.specs.Used.{ProblemSeen, UsedEntriesAreDetermined}
 use Rattle.everyday_tic.specs.Entries.{AreStatesBy}
 use Rattle.everyday_tic.specs.Laws.{OutcomesAreDetermined}

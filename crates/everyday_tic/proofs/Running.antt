@@ -5,7 +5,7 @@ use Rattle.tools_devices.specs.Tree.{Files}
 use Rattle.everyday_tic.specs.Outcomes.{Asked, ComesOfPlain, Made}
 use Rattle.everyday_tic.specs.Writing.{Runs, WritesOut, says_summary}
 use Rattle.everyday_tic.specs.declared.writing.TicStop.{TicStop}
-use Rattle.lsp_plain.specs.Reading.{plain_source}
+use Rattle.source_plain.specs.Reading.{plain_source}
 
 pub ran : (asked : Asked) (summarizes says : Bool) (directories : List (List ℕ)) (file source : List ℕ) (before mid after : Option Files) (failures between : ℕ)
     (said now : Observed) (result : Result ℕ TicStop) (made : Made) → says ≡ says_summary asked summarizes → mid ≡ before

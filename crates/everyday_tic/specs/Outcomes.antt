@@ -17,8 +17,8 @@ use Rattle.everyday_tic.specs.Messages.{problem_line, unknown_lines}
 use Rattle.everyday_tic.specs.Termcap.{IsFirstTermcap, termcap_source}
 use Rattle.everyday_report.specs.Report.{fault_lines, has_error, said}
 use Rattle.everyday_report.specs.Sentences.{too_many_names}
-use Rattle.lsp_spans.specs.Sentences.{block_too_long, too_many_blocks}
-use Rattle.lsp_plain.specs.Reading.{plain_source}
+use Rattle.source_spans.specs.Sentences.{block_too_long, too_many_blocks}
+use Rattle.source_plain.specs.Reading.{plain_source}
 use Rattle.everyday_sources.specs.Used.{ProblemSeen, TakesUsed}
 use Rattle.everyday_tic.specs.declared.options.TicOptions.{TicOptions}
 use Rattle.everyday_tic.specs.declared.options.TicOutcome.{TicOutcome}

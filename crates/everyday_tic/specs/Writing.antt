@@ -7,7 +7,7 @@ use Rattle.tools_devices.specs.Counted.{Observed}
 use Rattle.tools_devices.specs.Tree.{Files, Writes, WritesUpTo}
 use Rattle.tools_devices.specs.Writing.{TakesAll, TakesFront}
 use Rattle.everyday_tic.specs.Outcomes.{Asked, ComesOfPlain, Made}
-use Rattle.lsp_plain.specs.Reading.{plain_source}
+use Rattle.source_plain.specs.Reading.{plain_source}
 use Rattle.everyday_tic.specs.declared.writing.TicStop.{TicStop}
 use Rattle.everyday_tic.specs.declared.writing.TicStop.TheVariants.{Report, File, Memory}
 

@@ -32,7 +32,7 @@ use everyday_report::{
     BLOCK_TOO_LONG, Place, TOO_MANY_BLOCKS, TOO_MANY_NAMES, write_faults, write_said,
 };
 use everyday_sources::{UsedEntries, chosen_names, take_used};
-use lsp_plain::plain;
+use source_plain::plain;
 use std::alloc::{AllocError, Global};
 use std::rc::RcSlice;
 use ti_base::{Database, Fault};

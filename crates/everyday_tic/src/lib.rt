@@ -16,7 +16,7 @@
 //! - `termcap`: termcap source, which is not compiled
 //! - `writing`: what is written of it (`write`), and the line of `-s` (`summary`); `run` does both
 //!
-//! The crate `lsp_plain` has the source as it is read, without what other systems put into it;
+//! The crate `source_plain` has the source as it is read, without what other systems put into it;
 //! `everyday_sources` has it with the installed entries that it uses, and `everyday_report` what is
 //! reported about its faults.
 #![tactic(auto)]

@@ -8,8 +8,8 @@ use Rattle.serde_json.specs.Find.{as_array, as_bool, as_null, as_number, as_str,
 use Rattle.lsp_messages.specs.declared.asking.Topic.{Topic}
 use Rattle.lsp_messages.specs.declared.asking.Topic.TheVariants as asks
 use Rattle.lsp_messages.specs.declared.clients.Client.{Client}
-use Rattle.lsp_types.specs.declared.places.Position.{Position}
-use Rattle.lsp_types.specs.declared.places.Range.{Range}
+use Rattle.source_types.specs.declared.places.Position.{Position}
+use Rattle.source_types.specs.declared.places.Range.{Range}
 
 -- "TextDocumentContentChangeEvent": a new text of a range, or of the whole document
 pub record Edit : Type 0 where

@@ -4,8 +4,8 @@ ghost use Rattle.serde_json.specs.Find.{get};
 ghost use Rattle.serde_json.specs.View.{view};
 ghost use Rattle.lsp_messages.specs.Messages.{number_at, position_of, range_of, text_at};
 
-use lsp_types::{Position, Range};
 use serde_json::Value;
+use source_types::{Position, Range};
 
 /// A member that is a string.
 pub(crate) fn text_at<'a>(value: &'a Value, key: &str) -> Option<&'a str>

@@ -1,7 +1,7 @@
 //! What a client asks for or reports. The strings are those of the value that was read.
 use crate::clients::Client;
-use lsp_types::{Position, Range};
 use serde_json::Value;
+use source_types::{Position, Range};
 
 /// A new text of a part of a document ("TextDocumentContentChangeEvent").
 #[derive(Clone, Copy, Drop)]

@@ -9,8 +9,8 @@ use crate::asking::{read_asked, topic_of};
 use crate::clients::read_client;
 use crate::members::{number_at, read_range, text_at};
 use crate::messages::{Call, Change, Message, Notice};
-use lsp_types::Range;
 use serde_json::Value;
+use source_types::Range;
 use std::alloc::{AllocError, Global};
 
 // The range of a change, which may be left out or `null`.

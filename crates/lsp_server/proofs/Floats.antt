@@ -10,8 +10,8 @@ use Rattle.lsp_messages.specs.Messages.{Asked, initialize, shutdown, about, sear
 use Rattle.lsp_messages.specs.Messages.{Told, exited, opened, changed, closed, unreadable, nothing, id_in, id_of, message_of, meaning_by, method_meaning, request_of}
 use Rattle.lsp_messages.specs.Messages.{told_of}
 use Rattle.lsp_values.specs.Shapes.{Said, said_answer, said_refusal, action_options_data, publish_data, refusal_data, rename_options_data, reply_data}
-use Rattle.lsp_types.specs.declared.failures.Failure.{Failure}
-use Rattle.lsp_types.specs.declared.failures.Failure.TheVariants.{BadParameters, NoJson, NoMethod, NoRequest, NotInitialized}
+use Rattle.source_types.specs.declared.failures.Failure.{Failure}
+use Rattle.source_types.specs.declared.failures.Failure.TheVariants.{BadParameters, NoJson, NoMethod, NoRequest, NotInitialized}
 use Rattle.lsp_server.specs.Answers.{answer_data, found_among, found_in}
 use Rattle.lsp_server.specs.Sayings.{HasNoFloats, SaidHasNoFloat, Sayings}
 use Rattle.lsp_server.specs.Steps.{Answer, ready, done, refused, answered, searched, shown, cleared, warned, Open, Places, State, answered_of, current_of, open_at}

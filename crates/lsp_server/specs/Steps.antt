@@ -8,11 +8,11 @@ use Rattle.std.specs.Str.{bytes_eq}
 use Rattle.serde_json.specs.Data.{Data}
 use Rattle.lsp_messages.specs.Messages.{Asked, initialize, shutdown, about, search, unreadable, unknown, Edit, Meaning, message_of, Query, request, notification}
 use Rattle.lsp_messages.specs.Messages.{response, faulty, Told, exited, opened, changed, closed, unreadable, nothing}
-use Rattle.lsp_types.specs.declared.failures.Failure.{Failure}
-use Rattle.lsp_types.specs.declared.failures.Failure.TheVariants.{BadParameters, NoJson, NoMethod, NoRequest, NotInitialized}
+use Rattle.source_types.specs.declared.failures.Failure.{Failure}
+use Rattle.source_types.specs.declared.failures.Failure.TheVariants.{BadParameters, NoJson, NoMethod, NoRequest, NotInitialized}
 use Rattle.lsp_messages.specs.declared.clients.Client.{Client}
-use Rattle.lsp_types.specs.declared.places.Position.{Position}
-use Rattle.lsp_types.specs.declared.places.Range.{Range}
+use Rattle.source_types.specs.declared.places.Position.{Position}
+use Rattle.source_types.specs.declared.places.Range.{Range}
 use Rattle.lsp_server.specs.declared.phase.Phase.{Phase}
 use Rattle.lsp_server.specs.declared.phase.Phase.TheVariants.{Fresh, Running, Finished, Ended}
 

@@ -5,7 +5,7 @@ ghost use Rattle.lsp_server.specs.Steps.{edited, send_whole, with_part, with_ran
 
 use crate::source::HeldText;
 use lsp_messages::Change;
-use lsp_types::Range;
+use source_types::Range;
 use std::alloc::{AllocError, Global};
 
 // A text whose bytes from `start` to before `end` are exchanged. An end before the start is the

@@ -12,9 +12,9 @@ use crate::documents::{self, Opened};
 use crate::phase::Phase;
 use crate::source::HeldText;
 use lsp_messages::{Call, Client, Question};
-use lsp_types::Failure;
 use lsp_values::writing::{initialized_value, refusal_value, reply_value, response_value};
 use serde_json::Value;
+use source_types::Failure;
 use std::alloc::{AllocError, Global};
 
 /// The version of the server.

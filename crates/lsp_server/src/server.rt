@@ -14,9 +14,9 @@ use crate::requests;
 pub use crate::requests::VERSION;
 use crate::source::HeldText;
 use lsp_messages::{Client, Message, Notice, read_message};
-use lsp_types::Failure;
 use lsp_values::writing::refusal_value;
 use serde_json::Value;
+use source_types::Failure;
 use std::alloc::{AllocError, Global};
 
 /// A language server for sources: how far it has come, and the documents that are open.

@@ -1,8 +1,8 @@
 //! What a text has to offer that is open in an editor.
 use lsp_messages::{Client, Question};
-use lsp_types::Position;
 use lsp_values::Reply;
 use serde_json::Value;
+use source_types::Position;
 use std::alloc::{AllocError, Global};
 
 /// A text with what is wrong with it, and with answers to questions about it.
@@ -11,7 +11,7 @@ pub trait HeldText {
     ghost use Rattle.serde_json.specs.View.{items_view, view};
     ghost use Rattle.lsp_messages.specs.Views.{question_view};
     ghost use Rattle.lsp_values.specs.Views.{reply_view};
-    ghost use Rattle.lsp_types.specs.declared.places.Position.{Position};
+    ghost use Rattle.source_types.specs.declared.places.Position.{Position};
     ghost use Rattle.lsp_server.specs.Sayings.{HasNoFloats, Sayings};
 
     // The text.

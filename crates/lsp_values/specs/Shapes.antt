@@ -2,14 +2,14 @@
 -- the order of their keys.
 use Rattle.std.specs.Prelude.{ℕ, ◌++◌, List, Bool, codes, true, false, Option, None, Some, unwrap_or}
 use Rattle.serde_json.specs.Data.{Data, null, boolean, number, negative, unsigned, string, array, object, Items, Members, item, no_items, no_members, member}
-use Rattle.lsp_types.specs.Failures.{code_of, sentence_of}
-use Rattle.lsp_types.specs.Numbers.{item_number, severity_number}
-use Rattle.lsp_types.specs.declared.items.ItemKind.{ItemKind}
+use Rattle.source_types.specs.Failures.{code_of, sentence_of}
+use Rattle.source_types.specs.Numbers.{item_number, severity_number}
+use Rattle.source_types.specs.declared.items.ItemKind.{ItemKind}
 use Rattle.lsp_messages.specs.declared.clients.Client.{Client}
-use Rattle.lsp_types.specs.declared.failures.Failure.{Failure}
-use Rattle.lsp_types.specs.declared.places.Position.{Position}
-use Rattle.lsp_types.specs.declared.places.Range.{Range}
-use Rattle.lsp_types.specs.declared.severities.Severity.{Severity}
+use Rattle.source_types.specs.declared.failures.Failure.{Failure}
+use Rattle.source_types.specs.declared.places.Position.{Position}
+use Rattle.source_types.specs.declared.places.Range.{Range}
+use Rattle.source_types.specs.declared.severities.Severity.{Severity}
 
 -- a natural number
 abbrev pub natural : ℕ → Data

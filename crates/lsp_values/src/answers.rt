@@ -6,8 +6,8 @@ ghost use Rattle.lsp_values.specs.Shapes.{action_data, folding_data, highlight_d
 
 use crate::objects::{with_number, with_text, with_value};
 use crate::writing::range_value;
-use lsp_types::{ItemKind, Range};
 use serde_json::{Map, Value, json};
+use source_types::{ItemKind, Range};
 use std::alloc::{AllocError, Global};
 
 /// A place in a document ("Location").

@@ -1,6 +1,6 @@
 //! What comes of a question about a document.
-use lsp_types::Failure;
 use serde_json::Value;
+use source_types::Failure;
 
 /// What comes of a question about a document.
 #[derive(Drop)]

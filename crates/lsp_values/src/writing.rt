@@ -10,8 +10,8 @@ ghost use Rattle.lsp_values.specs.Shapes.{diagnostic_data, failure_data, unreada
 use crate::objects::{with_number, with_text, with_value};
 use crate::replies::Reply;
 use lsp_messages::Client;
-use lsp_types::{Failure, Position, Range, Severity};
 use serde_json::{Map, Value, json};
+use source_types::{Failure, Position, Range, Severity};
 use std::alloc::{AllocError, Global};
 
 /// A position ("Position").

@@ -1,8 +1,8 @@
 //! The language server over an input and an output that end in each byte of a session.
 use crate::{Drip, End, Narrow};
-use lsp_answers::Terminfo;
+use server_answers::Terminfo;
 use lsp_frames::{Buffered, FrameError, write_frame};
-use lsp_installed::Installed;
+use source_installed::Installed;
 use lsp_server::{Server, serve};
 use std::alloc::{AllocError, Global};
 use std::collections::BTreeSet;

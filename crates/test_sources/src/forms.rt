@@ -1,7 +1,7 @@
 //! Calls of `everyday_forms`: things as they are told in each form, and how many there are.
 use crate::places::place_of;
 use everyday_forms::{Form, Told, arrays_are_json, has_bad, push_summary, push_told, whole};
-use lsp_types::{Range, Severity};
+use source_types::{Range, Severity};
 use test_rows::RowError::Bad;
 use test_rows::{NO_CALL, Row, RowResult, count_of, text_of};
 

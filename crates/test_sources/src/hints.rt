@@ -1,6 +1,6 @@
-//! Calls of `lsp_block_hints` and `lsp_hints`: the parameters of strings, and hints by their offsets.
-use lsp_block_hints::{Hint, HintKind, hints_after_uses, hints_of_block};
-use lsp_hints::{file_hints, merged};
+//! Calls of `source_block_hints` and `source_hints`: the parameters of strings, and hints by their offsets.
+use source_block_hints::{Hint, HintKind, hints_after_uses, hints_of_block};
+use source_hints::{file_hints, merged};
 use std::alloc::{AllocError, Global};
 use test_rows::RowError::Bad;
 use test_rows::{NO_CALL, Row, RowResult, count_of};
@@ -92,7 +92,7 @@ fn say_merged(row: &mut Row<'_>) -> RowResult {
 
 /// Makes a call of these libraries.
 pub fn call(name: &str, row: &mut Row<'_>) -> RowResult {
-    lsp_block_hints::laws::each_string_has_a_count();
+    source_block_hints::laws::each_string_has_a_count();
     let text = row.bytes(0)?;
     match name {
         "parameters" => say_parameters(row),

@@ -1,5 +1,5 @@
-//! Calls of `tools_sources` and `lsp_document`: sources before they are read, and texts exchanged.
-use lsp_document::Document;
+//! Calls of `tools_sources` and `source_document`: sources before they are read, and texts exchanged.
+use source_document::Document;
 use test_rows::RowError::{Bad, Memory};
 use test_rows::{NO_CALL, Row, RowResult};
 use ti_base::{Database, EditError};

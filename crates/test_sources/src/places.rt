@@ -1,6 +1,6 @@
-//! Calls of `lsp_places`: offsets and places of a text, its lines, and parts of it exchanged.
-use lsp_places::{PlaceWalk, first_of, indent, line_of, offset_of, position_of, spliced, width};
-use lsp_types::Position;
+//! Calls of `source_places`: offsets and places of a text, its lines, and parts of it exchanged.
+use source_places::{PlaceWalk, first_of, indent, line_of, offset_of, position_of, spliced, width};
+use source_types::Position;
 use test_rows::RowError::Bad;
 use test_rows::{NO_CALL, Row, RowResult, count_of, text_of};
 

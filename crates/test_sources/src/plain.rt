@@ -1,5 +1,5 @@
-//! Calls of `lsp_plain`: sources as they are read, and texts that are written in their place.
-use lsp_plain::{laws, plain, written_like};
+//! Calls of `source_plain`: sources as they are read, and texts that are written in their place.
+use source_plain::{laws, plain, written_like};
 use test_rows::{NO_CALL, Row, RowResult};
 
 // What a source is read as, or `same` if it is read as it is.

@@ -1,5 +1,5 @@
-//! Calls of `lsp_spans`: the parts of blocks, what their offsets are on, and where their faults are.
-use lsp_spans::{
+//! Calls of `source_spans`: the parts of blocks, what their offsets are on, and where their faults are.
+use source_spans::{
     FaultFinder, Item, Part, Subject, Touched, field_len, folded, head_of, item_in, item_parts,
     name_parts, ordinal_in, own_spans, span_of, subject_at, subject_in, uses_of, word_before,
 };

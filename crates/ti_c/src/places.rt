@@ -1,6 +1,6 @@
 //! The directories of entries, and the file of a name below one.
 ghost use Rattle.std.specs.Prelude.{◌≡◌, ◌≢◌, ◌⊎◌, IfOk, false, is_some, slice_get, unwrap_or};
-ghost use Rattle.everyday_directories.specs.Directories.{system_directories};
+ghost use Rattle.tools_directories.specs.Directories.{system_directories};
 ghost use Rattle.ti_source.specs.Header.{IsLookupName};
 ghost use Rattle.ti_c.specs.Places.{directory_at, path_bytes, IsPathWritten, IsTooLong};
 

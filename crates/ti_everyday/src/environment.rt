@@ -2,7 +2,7 @@
 ghost use Rattle.std.specs.Prelude.{◌≤◌, IfOk, IfSome, length};
 
 use crate::stopping::Stop;
-use everyday_directories::{Environment, entry_directories};
+use tools_directories::{Environment, entry_directories};
 use everyday_tput::Sources;
 use std::alloc::{AllocError, Global};
 use std::env::{self, FillError, VarError};

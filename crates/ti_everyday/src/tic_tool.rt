@@ -2,7 +2,7 @@
 use crate::environment::Variables;
 use crate::output::print_bytes;
 use crate::stopping::Stop;
-use everyday_directories::{
+use tools_directories::{
     Environment, SYSTEM_OUTPUT, entry_directories, named_output, unnamed_output,
 };
 use everyday_entries::Failure;

@@ -1,7 +1,7 @@
 //! The names of the entries that are installed, by the environment.
-use everyday_directories::{Environment, entry_directories};
-use lsp_blocks::can_be_given;
-use lsp_installed::{Installed, is_directory_of};
+use tools_directories::{Environment, entry_directories};
+use source_blocks::can_be_given;
+use source_installed::{Installed, is_directory_of};
 use std::alloc::{AllocError, Global};
 use std::collections::BTreeSet;
 use std::env::{self, VarError};

@@ -9,7 +9,7 @@ mod environment;
 
 use crate::command::{Task, asked};
 use crate::environment::installed_names;
-use lsp_answers::Terminfo;
+use server_answers::Terminfo;
 use lsp_frames::{Buffered, FrameError};
 use lsp_server::{Server, serve};
 use std::process::ExitCode;

@@ -6,7 +6,7 @@ import re
 HERE = os.path.dirname(os.path.abspath(__file__))
 TOP = os.path.dirname(os.path.dirname(os.path.dirname(HERE)))
 NAMES = os.path.join(TOP, "crates", "ti_caps", "specs", "Names.antt")
-DESCRIPTIONS = os.path.join(TOP, "crates", "lsp_descriptions", "src", "descriptions.rt")
+DESCRIPTIONS = os.path.join(TOP, "crates", "source_descriptions", "src", "descriptions.rt")
 
 FLAG, NUMBER, TEXT = "flag", "number", "text"
 KINDS = (FLAG, NUMBER, TEXT)

@@ -1,7 +1,7 @@
 -- the file is refused for what its entry is refused for
 use Rattle.std.proofs.Common.{inr, Err}
 use Rattle.tools_devices.specs.Searching.{file_bytes_max}
-use Rattle.everyday_directories.specs.Reading.{Opens}
+use Rattle.tools_directories.specs.Reading.{Opens}
 use Rattle.everyday_infocmp.proofs.entries.extended_of.Goals as goal
 
 pub returns-in-Err-clause-err : goal.returns-in-Err-clause-err

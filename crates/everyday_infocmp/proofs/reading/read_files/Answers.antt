@@ -3,7 +3,7 @@ use Rattle.std.proofs.Common.{Bor, ◌∙◌, ◌++◌, [], ◌∷◌, List, Opt
 use Rattle.std.specs.Prelude.{option_map, Err, Ok}
 use Rattle.std.specs.String.{string_bytes}
 use Rattle.tools_devices.specs.Tree.{Files}
-use Rattle.everyday_directories.specs.declared.finding.Found.{Found}
+use Rattle.tools_directories.specs.declared.finding.Found.{Found}
 use Rattle.everyday_entries.specs.Failures.{out_of_memory}
 use Rattle.everyday_infocmp.specs.Reading.{GivesFiles, GivesSought, Sought, directories_for, sought_names}
 use Rattle.everyday_infocmp.proofs.Files.{GivesFiles-missed, GivesFiles-none, GivesFiles-read, kept-items, memory-sought, names-at, names-end, pushed-items}

@@ -1,7 +1,7 @@
 use Rattle.std.proofs.Common.{◌≡◌, ◌++◌, List, ℕ, Option, drop, map}
 use Rattle.std.specs.Prelude.{option_map}
 use Rattle.std.specs.String.{string_bytes}
-use Rattle.everyday_directories.specs.declared.finding.Found.{Found}
+use Rattle.tools_directories.specs.declared.finding.Found.{Found}
 use Rattle.everyday_entries.specs.declared.failure.Failure.{Failure}
 use Rattle.everyday_infocmp.specs.Reading.{GivesFiles, sought_names}
 use Rattle.everyday_infocmp.proofs.reading.read_files.Given as goal

@@ -2,7 +2,7 @@
 use Rattle.std.proofs.Common.{Bor, ◌≡◌, ◌≤◌, List, ℕ, Some, length, map, subst, sym}
 use Rattle.std.specs.Prelude.{option_map}
 use Rattle.std.specs.String.{string_bytes}
-use Rattle.everyday_directories.specs.declared.finding.Found.{Found}
+use Rattle.tools_directories.specs.declared.finding.Found.{Found}
 use Rattle.everyday_infocmp.specs.Names.{all_names, least_names}
 use Rattle.everyday_infocmp.proofs.Files.{enough-files}
 use Rattle.everyday_infocmp.proofs.tool.infocmp.Goals as goal

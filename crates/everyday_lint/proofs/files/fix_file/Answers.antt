@@ -1,8 +1,8 @@
 -- the source with the fixes made is what is written, and what is told of
 use Rattle.std.proofs.Common.{◌≡◌, ◌∙◌, List, ap, arith, map, subst, ℕ}
 use Rattle.tools_devices.specs.Tree.{Sets}
-use Rattle.lsp_plain.specs.Reading.{without_mark}
-use Rattle.lsp_plain.specs.Writing.{marked_like}
+use Rattle.source_plain.specs.Reading.{without_mark}
+use Rattle.source_plain.specs.Writing.{marked_like}
 use Rattle.everyday_lint.specs.Checking.{IsLintedSource}
 use Rattle.everyday_lint.specs.Fates.{fixed_source}
 use Rattle.everyday_lint.specs.Fixing.{fix_lines, fixed_text}

@@ -1,7 +1,7 @@
 -- fixes are made only if that is asked for
 use Rattle.std.proofs.Common.{◌≢◌, ◌∙◌, [], map, sym}
 use Rattle.std.proofs.lemmas.Result.{IfOk-weaker}
-use Rattle.lsp_plain.specs.Reading.{without_mark}
+use Rattle.source_plain.specs.Reading.{without_mark}
 use Rattle.everyday_fmt.specs.Fates.{held}
 use Rattle.everyday_lint.specs.Checking.{made_in}
 use Rattle.everyday_lint.specs.Offers.{made_seen}

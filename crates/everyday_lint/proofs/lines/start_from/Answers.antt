@@ -1,6 +1,6 @@
 use Rattle.std.proofs.Common.{◌≡◌, ◌∙◌, ◌+◌, ◌-◌, ℕ, List, ap, arith, drop, sym}
 use Rattle.std.proofs.lemmas.List.{take_rest}
-use Rattle.lsp_places.specs.Position.{line_start}
+use Rattle.source_places.specs.Position.{line_start}
 use Rattle.everyday_lint.proofs.Walking.{start-later}
 use Rattle.everyday_lint.proofs.lines.start_from.Goals as goal
 

@@ -1,9 +1,9 @@
 use Rattle.std.proofs.Common.{◌≡◌, ◌+◌, ◌-◌, List, ℕ, None, Some, suc, drop, ap, subst, ◌∙◌, arith}
 use Rattle.std.proofs.lemmas.List.{drop-drop, length-drop, take_rest}
 use Rattle.memchr.specs.Find.{IsFirstByte, is_byte}
-use Rattle.lsp_places.specs.Position as spec
-use Rattle.lsp_places.proofs.LineStarts.{start-found, start-none}
-use Rattle.lsp_places.proofs.Places.{line_start-zero}
+use Rattle.source_places.specs.Position as spec
+use Rattle.source_places.proofs.LineStarts.{start-found, start-none}
+use Rattle.source_places.proofs.Places.{line_start-zero}
 use Rattle.everyday_lint.proofs.lines.start_of.Goals as goal
 
 pub returns-in-None-clause-start : goal.returns-in-None-clause-start

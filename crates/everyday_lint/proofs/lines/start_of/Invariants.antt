@@ -1,5 +1,5 @@
 use Rattle.std.proofs.Common.{◌≡◌, ◌+◌, ◌-◌, ◌≤◌, drop, length}
-use Rattle.lsp_places.specs.Position.{line_start}
+use Rattle.source_places.specs.Position.{line_start}
 use Rattle.everyday_lint.proofs.lines.start_of.Given as goal
 
 -- what is left of the lines begins so much later

@@ -1,5 +1,5 @@
 use Rattle.std.proofs.Common.{◌≡◌, map, take}
-use Rattle.lsp_document.specs.Diagnostics.{diagnostic_seen}
+use Rattle.source_document.specs.Diagnostics.{diagnostic_seen}
 use Rattle.everyday_lint.specs.Offers as spec
 use Rattle.everyday_lint.specs.Offers.{offer_seen}
 use Rattle.everyday_lint.proofs.offers.offers_of.Given as goal

@@ -1,5 +1,5 @@
 use Rattle.std.proofs.Common.{◌≡◌, ◌++◌, map}
-use Rattle.lsp_fixes.specs.Fixes.{fix_seen}
+use Rattle.source_fixes.specs.Fixes.{fix_seen}
 use Rattle.everyday_lint.specs.Offers.{certain, offer_seen}
 use Rattle.everyday_lint.proofs.offers.push_certain.Given as goal
 

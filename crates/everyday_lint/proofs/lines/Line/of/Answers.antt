@@ -1,5 +1,5 @@
 use Rattle.std.proofs.Common.{◌∙◌, ap, sym}
-use Rattle.lsp_places.specs.LineTexts.{until_end}
+use Rattle.source_places.specs.LineTexts.{until_end}
 use Rattle.everyday_lint.proofs.Walking.{line_of_line}
 use Rattle.everyday_lint.proofs.lines.Line.of.Goals as goal
 

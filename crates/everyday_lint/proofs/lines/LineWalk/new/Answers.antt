@@ -1,5 +1,5 @@
 use Rattle.std.proofs.Common.{arith, sym}
-use Rattle.lsp_places.proofs.Places.{line_start-zero}
+use Rattle.source_places.proofs.Places.{line_start-zero}
 use Rattle.everyday_lint.proofs.lines.LineWalk.new.Goals as goal
 
 pub invariant_of-result : goal.invariant_of-result

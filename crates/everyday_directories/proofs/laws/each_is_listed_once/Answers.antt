@@ -1,5 +1,0 @@
-use Rattle.everyday_directories.proofs.Once.{each_is_listed_once}
-use Rattle.everyday_directories.proofs.laws.each_is_listed_once.Goals as goal
-
-pub returns : goal.returns
-returns c = each_is_listed_once

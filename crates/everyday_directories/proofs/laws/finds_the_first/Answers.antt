@@ -1,5 +1,0 @@
-use Rattle.everyday_directories.proofs.Searches.{finds_the_first}
-use Rattle.everyday_directories.proofs.laws.finds_the_first.Goals as goal
-
-pub returns : goal.returns
-returns c = finds_the_first

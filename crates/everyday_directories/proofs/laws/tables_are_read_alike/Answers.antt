@@ -1,6 +1,0 @@
-use Rattle.tools_devices.specs.Searching.{file_bytes_max}
-use Rattle.everyday_directories.proofs.Alike.{tables_alike}
-use Rattle.everyday_directories.proofs.laws.tables_are_read_alike.Goals as goal
-
-pub returns : goal.returns
-returns c = tables_alike c.one_reading.ensures file_bytes_max

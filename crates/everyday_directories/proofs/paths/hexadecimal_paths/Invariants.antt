@@ -1,8 +1,0 @@
-use Rattle.std.proofs.Common.{◌≡◌, take, map}
-use Rattle.std.specs.String.{string_bytes}
-use Rattle.everyday_directories.specs.Paths.{hexadecimal_paths_of}
-use Rattle.everyday_directories.proofs.paths.hexadecimal_paths.Given as goal
-
--- the files below the directories before
-abbrev pub invariant-loop-directory : goal.invariant-loop-directory
-invariant-loop-directory l = map string_bytes l.paths.items ≡ hexadecimal_paths_of l.name (map string_bytes (take l.directory-index l.directories))

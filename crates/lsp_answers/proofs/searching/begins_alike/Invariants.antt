@@ -1,6 +1,0 @@
-use Rattle.std.proofs.Common.{◌≡◌, drop}
-use Rattle.lsp_answers.specs.Searching.{begins_alike}
-use Rattle.lsp_answers.proofs.searching.begins_alike.Given as goal
-
-abbrev pub invariant-loop-at : goal.invariant-loop-at
-invariant-loop-at l = begins_alike (drop l.at l.held) (drop l.at l.text) ≡ begins_alike l.held l.text

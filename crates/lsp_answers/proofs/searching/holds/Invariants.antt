@@ -1,6 +1,0 @@
-use Rattle.std.proofs.Common.{◌≡◌, drop}
-use Rattle.lsp_answers.specs.Searching.{holds}
-use Rattle.lsp_answers.proofs.searching.holds.Given as goal
-
-abbrev pub invariant-loop-at : goal.invariant-loop-at
-invariant-loop-at l = holds l.held (drop l.at l.name) ≡ holds l.held l.name

@@ -1,6 +1,0 @@
-use Rattle.std.proofs.Common.{◌∙◌}
-use Rattle.lsp_block_hints.proofs.Reading.{same_stop}
-use Rattle.lsp_block_hints.proofs.formats.stop_of.Goals as goal
-
-pub returns : goal.returns
-returns c = c.end.ensures.place ∙ same_stop c.args.format.now _ c.new-lexer.ensures.reading

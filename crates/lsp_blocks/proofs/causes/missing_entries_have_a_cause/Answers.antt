@@ -1,5 +1,0 @@
-use Rattle.lsp_blocks.proofs.CausesFound.{missing_entries_have_a_cause}
-use Rattle.lsp_blocks.proofs.causes.missing_entries_have_a_cause.Goals as goal
-
-pub returns : goal.returns
-returns c = missing_entries_have_a_cause c.unresolved_blocks_have_a_cause.ensures

@@ -1,5 +1,0 @@
-use Rattle.lsp_blocks.proofs.SaidAlong.{says_it}
-use Rattle.lsp_blocks.proofs.deciding.deciders_say_it.Goals as goal
-
-pub returns : goal.returns
-returns c = says_it

@@ -1,5 +1,0 @@
-use Rattle.lsp_blocks.proofs.Deciders.{one_decides}
-use Rattle.lsp_blocks.proofs.deciding.one_block_decides.Goals as goal
-
-pub returns : goal.returns
-returns c = one_decides

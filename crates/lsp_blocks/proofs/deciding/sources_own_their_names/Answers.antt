@@ -1,5 +1,0 @@
-use Rattle.lsp_blocks.proofs.Sources.{own_their_names}
-use Rattle.lsp_blocks.proofs.deciding.sources_own_their_names.Goals as goal
-
-pub returns : goal.returns
-returns c = own_their_names

@@ -1,5 +1,0 @@
-use Rattle.lsp_blocks.proofs.Selections.{selections_inside}
-use Rattle.lsp_blocks.proofs.symbols.selections_are_inside.Goals as goal
-
-pub returns : goal.returns
-returns c = selections_inside c.held_blocks_fit.ensures

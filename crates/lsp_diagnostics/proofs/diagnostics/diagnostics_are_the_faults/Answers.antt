@@ -1,5 +1,0 @@
-use Rattle.lsp_diagnostics.proofs.PublishedFaults.{published}
-use Rattle.lsp_diagnostics.proofs.diagnostics.diagnostics_are_the_faults.Goals as goal
-
-pub returns : goal.returns
-returns c = published

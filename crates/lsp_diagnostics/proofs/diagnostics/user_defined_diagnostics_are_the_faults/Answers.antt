@@ -1,5 +1,0 @@
-use Rattle.lsp_diagnostics.proofs.PublishedFaults.{published_extended}
-use Rattle.lsp_diagnostics.proofs.diagnostics.user_defined_diagnostics_are_the_faults.Goals as goal
-
-pub returns : goal.returns
-returns c = published_extended

@@ -1,9 +1,0 @@
-use Rattle.std.proofs.Common.{◌≡◌, ◌+◌, ◌++◌, drop, take}
-use Rattle.lsp_document.specs.Exchanges.{EditsLead}
-use Rattle.lsp_document.proofs.exchanging.remove_each.Given as goal
-
-abbrev pub invariant-loop-k : goal.invariant-loop-k
-invariant-loop-k l = record {
-  made : l.database ≡ take l.at l.fn.database ++ drop (l.at + l._k) l.fn.database;
-  lead : EditsLead l._k l.fn.database l.database;
-}

@@ -1,9 +1,0 @@
-use Rattle.std.proofs.Common.{◌≡◌, ◌+◌, ◌++◌, drop, map, take}
-use Rattle.lsp_document.specs.Exchanges.{EditsLead}
-use Rattle.lsp_document.proofs.exchanging.replace_each.Given as goal
-
-abbrev pub invariant-loop-k : goal.invariant-loop-k
-invariant-loop-k l = record {
-  made : l.database ≡ take l.at l.fn.database ++ map (λ text. text.now) (take l.k l.texts) ++ drop (l.at + l.k) l.fn.database;
-  lead : EditsLead l.k l.fn.database l.database;
-}

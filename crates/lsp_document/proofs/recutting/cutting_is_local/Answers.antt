@@ -1,5 +1,0 @@
-use Rattle.lsp_document.proofs.LocalCuts.{cutting_local}
-use Rattle.lsp_document.proofs.recutting.cutting_is_local.Goals as goal
-
-pub returns : goal.returns
-returns c = cutting_local

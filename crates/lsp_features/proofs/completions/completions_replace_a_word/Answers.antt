@@ -1,5 +1,0 @@
-use Rattle.lsp_features.proofs.WordReplaced.{words_replaced}
-use Rattle.lsp_features.proofs.completions.completions_replace_a_word.Goals as goal
-
-pub returns : goal.returns
-returns c = words_replaced c.held_blocks_fit.ensures

@@ -1,5 +1,0 @@
-use Rattle.lsp_features.proofs.OnceNamed.{names_once}
-use Rattle.lsp_features.proofs.completions.names_are_offered_once.Goals as goal
-
-pub returns : goal.returns
-returns c = names_once c.names_are_distinct.ensures

@@ -1,5 +1,0 @@
-use Rattle.lsp_fixes.proofs.CaretsHeal.{carets_heal}
-use Rattle.lsp_fixes.proofs.laws.carets_heal.Goals as goal
-
-pub returns : goal.returns
-returns c = carets_heal

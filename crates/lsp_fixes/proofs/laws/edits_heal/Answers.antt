@@ -1,5 +1,0 @@
-use Rattle.lsp_fixes.proofs.EditsMend.{edits_mend}
-use Rattle.lsp_fixes.proofs.laws.edits_heal.Goals as goal
-
-pub returns : goal.returns
-returns c = edits_mend c.one_outcome.ensures.values c.written_spells.ensures c.each_is_well_read.ensures

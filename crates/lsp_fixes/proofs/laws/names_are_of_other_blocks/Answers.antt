@@ -1,5 +1,0 @@
-use Rattle.lsp_fixes.proofs.OthersOwn.{others_own}
-use Rattle.lsp_fixes.proofs.laws.names_are_of_other_blocks.Goals as goal
-
-pub returns : goal.returns
-returns c = others_own c.each_is_well_read.ensures

@@ -1,7 +1,0 @@
-use Rattle.std.proofs.Common.{◌≡◌, ◌++◌, drop}
-use Rattle.std.specs.String.{string_bytes}
-use Rattle.lsp_hovers.specs.Hovers.{later_names}
-use Rattle.lsp_hovers.proofs.hovering.push_later_names.Given as goal
-
-abbrev pub invariant-loop-capability : goal.invariant-loop-capability
-invariant-loop-capability l = string_bytes l.text ++ later_names (drop l.capability-index l.capabilities) ≡ string_bytes l.fn.text ++ later_names l.capabilities

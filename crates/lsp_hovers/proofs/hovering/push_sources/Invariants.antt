@@ -1,9 +1,0 @@
-use Rattle.std.proofs.Common.{◌≡◌, ◌++◌, drop, map}
-use Rattle.std.specs.String.{string_bytes}
-use Rattle.lsp_blocks.specs.Deciding.{source_seen}
-use Rattle.lsp_hovers.specs.Hovers.{source_lines}
-use Rattle.lsp_hovers.proofs.hovering.push_sources.Given as goal
-
-abbrev pub invariant-loop-source : goal.invariant-loop-source
-invariant-loop-source l = string_bytes l.text ++ source_lines (map source_seen (drop l.source-index l.sources)) ≡ string_bytes l.fn.text
-    ++ source_lines (map source_seen l.sources)

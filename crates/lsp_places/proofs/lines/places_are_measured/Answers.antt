@@ -1,5 +1,0 @@
-use Rattle.lsp_places.proofs.Measuring.{places_measured}
-use Rattle.lsp_places.proofs.lines.places_are_measured.Goals as goal
-
-pub returns : goal.returns
-returns c = places_measured

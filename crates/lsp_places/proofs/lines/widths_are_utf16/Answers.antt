@@ -1,5 +1,0 @@
-use Rattle.lsp_places.proofs.Columns.{widths}
-use Rattle.lsp_places.proofs.lines.widths_are_utf16.Goals as goal
-
-pub returns : goal.returns
-returns c = widths

@@ -1,6 +1,0 @@
-use Rattle.std.proofs.Common.{sym, arith}
-use Rattle.lsp_places.proofs.Onward.{place_first}
-use Rattle.lsp_places.proofs.walking.PlaceWalk.new.Goals as goal
-
-pub invariant_of-result : goal.invariant_of-result
-invariant_of-result c = (sym (place_first (record { line = 0; column = 0 }) c.args.text.now), omega arith, omega arith)

@@ -1,5 +1,0 @@
-use Rattle.lsp_plain.proofs.Written.{ends_stay}
-use Rattle.lsp_plain.proofs.laws.line_ends_stay.Goals as goal
-
-pub returns : goal.returns
-returns c = ends_stay

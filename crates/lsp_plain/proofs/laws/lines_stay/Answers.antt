@@ -1,5 +1,0 @@
-use Rattle.lsp_plain.proofs.Lines.{lines_stay}
-use Rattle.lsp_plain.proofs.laws.lines_stay.Goals as goal
-
-pub returns : goal.returns
-returns c = lines_stay

@@ -1,5 +1,0 @@
-use Rattle.lsp_plain.proofs.Written.{read_back}
-use Rattle.lsp_plain.proofs.laws.writing_is_read_back.Goals as goal
-
-pub returns : goal.returns
-returns c = read_back

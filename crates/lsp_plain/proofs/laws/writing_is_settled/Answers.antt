@@ -1,5 +1,0 @@
-use Rattle.lsp_plain.proofs.Written.{settled}
-use Rattle.lsp_plain.proofs.laws.writing_is_settled.Goals as goal
-
-pub returns : goal.returns
-returns c = settled

@@ -1,7 +1,0 @@
-use Rattle.std.proofs.Common.{◌≡◌, drop}
-use Rattle.lsp_plain.specs.Writing.{first_returns}
-use Rattle.lsp_plain.proofs.writing.first_returns.Given as goal
-
--- the rest decides
-abbrev pub invariant-loop-at : goal.invariant-loop-at
-invariant-loop-at l = first_returns (drop l.at l.text) ≡ first_returns l.text

@@ -1,5 +1,0 @@
-use Rattle.lsp_remarks.proofs.Ordered.{are_in_order}
-use Rattle.lsp_remarks.proofs.laws.remarks_are_in_order.Goals as goal
-
-pub returns : goal.returns
-returns c = are_in_order

@@ -1,7 +1,0 @@
-use Rattle.std.proofs.Common.{◌≡◌, map, take}
-use Rattle.lsp_diagnostics.specs.Diagnostics.{diagnostic_seen}
-use Rattle.lsp_remarks.specs.Remarks.{remark_seen, seen_fault}
-use Rattle.lsp_remarks.proofs.remarks.faults_of.Given as goal
-
-abbrev pub invariant-loop-fault : goal.invariant-loop-fault
-invariant-loop-fault l = map remark_seen l.all.items ≡ map seen_fault (map diagnostic_seen (take l.fault-index l.faults))

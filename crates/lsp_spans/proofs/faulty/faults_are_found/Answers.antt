@@ -1,5 +1,0 @@
-use Rattle.lsp_spans.proofs.Finding.{faults_found}
-use Rattle.lsp_spans.proofs.faulty.faults_are_found.Goals as goal
-
-pub returns : goal.returns
-returns c = faults_found

@@ -1,6 +1,0 @@
-use Rattle.std.proofs.Common.{◌≡◌, drop}
-use Rattle.lsp_spans.specs.Subjects.{begins_with}
-use Rattle.lsp_spans.proofs.items.begins_with.Given as goal
-
-abbrev pub invariant-loop-at : goal.invariant-loop-at
-invariant-loop-at l = begins_with (drop l.at l.word) (drop l.at l.text) ≡ begins_with l.word l.text

@@ -1,5 +1,0 @@
-use Rattle.lsp_spans.proofs.Plain.{plain_replace}
-use Rattle.lsp_spans.proofs.replacing.plain_texts_replace.Goals as goal
-
-pub returns : goal.returns
-returns c = plain_replace

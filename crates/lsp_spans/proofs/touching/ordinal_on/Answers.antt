@@ -1,8 +1,0 @@
-use Rattle.std.proofs.Common.{map, sym}
-use Rattle.std.proofs.lemmas.Iterator.Adapters.{position_from-zero}
-use Rattle.lsp_spans.specs.Parts.{part_of}
-use Rattle.lsp_spans.specs.Subjects.{is_on}
-use Rattle.lsp_spans.proofs.touching.ordinal_on.Goals as goal
-
-pub loop-at-init : goal.loop-at-init
-loop-at-init c = sym (position_from-zero (is_on c.args.offset) (map (part_of c.args.text.now) c.args.parts.now))

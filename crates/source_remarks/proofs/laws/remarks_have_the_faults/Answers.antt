@@ -1,0 +1,5 @@
+use Rattle.source_remarks.proofs.Remarked.{have_the_faults}
+use Rattle.source_remarks.proofs.laws.remarks_have_the_faults.Goals as goal
+
+pub returns : goal.returns
+returns c = have_the_faults

@@ -1,0 +1,154 @@
+//! The hints on a source.
+ghost use Rattle.std.specs.Prelude.{◌≡◌, ◌+◌, ◌-◌, ◌<◌, ◌≤◌, ◌^◌, ◌++◌, IfOk, OnOk, length, map, slice_get, Some};
+ghost use Rattle.base_meaning.specs.Report.{lines_before};
+ghost use Rattle.ti_text.specs.Limits.{block_bytes_max};
+ghost use Rattle.tools_sources.specs.Sources.{first_line};
+ghost use Rattle.source_diagnostics.specs.Marking.{text_at};
+ghost use Rattle.source_hints.specs.FileForms.{file_hints};
+ghost use Rattle.source_document.specs.Documents.{held};
+ghost use Rattle.source_remarks.specs.Hints as spec;
+ghost use Rattle.source_remarks.specs.Hints.{block_marks, has_user_defined, hint_seen, hints_at, hints_before, hints_on, hints_seen, shown_after, shown_in_file, text_hints};
+
+use crate::kept::{KeptHints, taken_or_found};
+use crate::shown::{ShownHint, shown_after, shown_in_file};
+use source_diagnostics::Capabilities;
+use source_document::Document;
+use source_hints::file_hints;
+use std::alloc::{AllocError, Global};
+use tools_sources::first_line;
+
+/// The hints on a source.
+#[derive(Debug, Drop)]
+pub struct SourceHints {
+    /// Those on its blocks, in their order.
+    pub blocks: Vec<ShownHint>,
+    /// Those on the whole file, in the order in which they begin.
+    pub file: Vec<ShownHint>,
+}
+
+// Adds the hints on a block that so many lines are before.
+fn push_block(
+    alloc: Global,
+    all: &mut Vec<ShownHint>,
+    lines: usize,
+    text: &[u8],
+    kept: &KeptHints,
+) -> Result<(), AllocError>
+    requires kept { kept.now.1 ≡ text.now }
+    requires lines { lines ≤ 2 ^ 63 + 2 ^ 37 }
+    requires short { length text.now ≤ block_bytes_max }
+    ensures { OnOk result (map hint_seen all.new.items ≡ map hint_seen all.old.items ++ map (shown_after lines text.now) (block_marks kept.now.0 text.now)) }
+{
+    let marks = kept.marks();
+    for mark in marks {
+        all.push(shown_after(alloc, lines, text, *mark)?)?;
+    }
+    Ok(())
+}
+
+// The number of the line on which a block begins, counted from 0, if so many lines are before it in
+// its list, and the first block begins on the line `first`, counted from 1.
+fn lines_before(first: usize, before: u64) -> usize
+    requires first { 1 ≤ first }
+    requires room { first ≤ 2 ^ 63 }
+    requires before { before ≤ 68719476736 }
+    ensures lines { result ≡ first - 1 + before }
+    ensures few { result ≤ 2 ^ 63 + 2 ^ 37 }
+{
+    first - 1 + before as usize
+}
+
+// The hints on the blocks of a document, and what is kept of each.
+fn block_hints(
+    alloc: Global,
+    user_defined: bool,
+    document: &Document,
+    kept: &mut Vec<KeptHints>,
+) -> Result<(Vec<ShownHint>, Vec<KeptHints>), AllocError>
+    ensures { IfOk result (λ r. map hint_seen r.0.items
+        ≡ hints_before user_defined (held document.now) (first_line document.now) (length (held document.now))) }
+{
+    // A law, with no code: the blocks are not long.
+    source_document::laws::held_blocks_fit();
+    let database = document.database();
+    let first = first_line(document.text());
+    let starts = database.line_starts()?;
+    kept.reverse();
+    let mut all = Vec::new(alloc);
+    let mut found = Vec::with_capacity(alloc, database.len())?;
+    for at in 0..database.len() {
+        let text = database.text(at);
+        let hints = taken_or_found(alloc, kept, user_defined, text)?;
+        push_block(
+            alloc,
+            &mut all,
+            lines_before(first, starts[at]),
+            text,
+            &hints,
+        )?;
+        found.push(hints)?;
+    }
+    Ok((all, found))
+}
+
+// The hints on a whole source, of which a text is read.
+fn shown_on_file(alloc: Global, source: &[u8], text: &[u8]) -> Result<Vec<ShownHint>, AllocError>
+    ensures { IfOk result (λ all. map hint_seen all.items ≡ map (shown_in_file source.now text.now) (file_hints source.now)) }
+{
+    let hints = file_hints(alloc, source)?;
+    let mut all = Vec::with_capacity(alloc, hints.len())?;
+    for hint in &hints {
+        all.push(shown_in_file(alloc, source, text, *hint)?)?;
+    }
+    Ok(all)
+}
+
+// Whether a source may have user-defined capabilities.
+fn has_user_defined(capabilities: Capabilities) -> bool
+    ensures { result ≡ has_user_defined capabilities }
+{
+    match capabilities {
+        Capabilities::Profile => false,
+        Capabilities::UserDefined => true,
+    }
+}
+
+/// The hints on a source of which the text of a document is read, by which capabilities it may have.
+/// Those on its blocks are kept, and are taken again for the same text.
+///
+/// # Errors
+/// Out of memory.
+pub fn source_hints_in(
+    alloc: Global,
+    capabilities: Capabilities,
+    source: &[u8],
+    document: &Document,
+    kept: &mut Vec<KeptHints>,
+) -> Result<SourceHints, AllocError>
+    ensures { IfOk result (λ hints. hints_seen hints ≡ hints_on capabilities source.now document.now) }
+{
+    let user_defined = has_user_defined(capabilities);
+    let (blocks, found) = block_hints(alloc, user_defined, document, kept)?;
+    *kept = found;
+    Ok(SourceHints {
+        blocks,
+        file: shown_on_file(alloc, source, document.text())?,
+    })
+}
+
+/// The hints on a document, by which capabilities it may have, as it is. Those on its blocks are kept,
+/// and are taken again for the same text. No clause says so: only the time of the next call depends
+/// on it.
+///
+/// # Errors
+/// Out of memory.
+pub fn hints_in(
+    alloc: Global,
+    capabilities: Capabilities,
+    document: &Document,
+    kept: &mut Vec<KeptHints>,
+) -> Result<SourceHints, AllocError>
+    ensures { IfOk result (λ hints. hints_seen hints ≡ text_hints capabilities document.now) }
+{
+    source_hints_in(alloc, capabilities, document.text(), document, kept)
+}
