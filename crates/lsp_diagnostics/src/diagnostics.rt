@@ -346,7 +346,9 @@ fn held_diagnostics(
 /// What is wrong with a source, by which capabilities it may have, in the order of its report, or
 /// the one refusal of the whole source. The database has its blocks, unless it is refused, and
 /// `refusal` is the cause. What is shown for the faults of a block is kept, and taken again for the
-/// same text with the same faults.
+/// same text with the same faults. A source of more than 1,024 distinct user-defined names has the
+/// diagnostics of the profile. What is marked is the part that `FaultFinder` finds, as far as it is
+/// on the line of the fault, or else the whole line.
 ///
 /// # Errors
 /// Out of memory.

@@ -205,7 +205,9 @@ impl Document {
     }
 
     /// Exchanges the text, and gives the number of edits of the database: one for each block that
-    /// differs, or none if these are more than 64, when it is loaded anew.
+    /// differs, or none if these are more than 64, when it is loaded anew. The blocks that both
+    /// texts have in common at their ends stay. No clause says that no more edits are made than are
+    /// counted: to a contract a database is the list of its texts.
     ///
     /// # Errors
     /// Out of memory: the document is then empty.

@@ -4,6 +4,8 @@
 //! - `splicing`: a text with a part of it exchanged
 //! - `lines`: a line of a text, and laws of lines and columns
 //! - `walking`: the places of offsets, one after another
+//!
+//! Only `spliced` takes memory.
 #![tactic(auto)]
 
 pub mod laws;

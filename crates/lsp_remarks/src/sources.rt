@@ -113,8 +113,9 @@ fn has_user_defined(capabilities: Capabilities) -> bool
     }
 }
 
-/// The hints on a source of which the text of a document is read, by which capabilities it may have.
-/// Those on its blocks are kept, and are taken again for the same text.
+/// The hints on a source of which the text of a document is read, by which capabilities it may
+/// have. Those on its blocks are kept, and are taken again for the same text. A source that is
+/// refused has those on the form of its file alone.
 ///
 /// # Errors
 /// Out of memory.

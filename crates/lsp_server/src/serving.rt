@@ -79,7 +79,8 @@ fn serve_frame<D: HeldText + Drop, I: Input, W: Write>(
 
 /// Replies to frames until `exit` comes, each before more is read, by what else is known. Faults of
 /// documents that changed are published once no whole frame waits in what was read, or before a
-/// message that asks for that. The answer is the status of the process: 0 if `shutdown` came before,
+/// message that asks for that. A frame waits if it was whole in what the reads had brought when the
+/// frame before it was used. The answer is the status of the process: 0 if `shutdown` came before,
 /// else 1.
 ///
 /// # Errors

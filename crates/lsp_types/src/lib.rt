@@ -5,6 +5,8 @@
 //! - `severities`: how grave a diagnostic is
 //! - `items`: what an item of a completion stands for
 //! - `failures`: why a request is refused
+//!
+//! No call takes memory.
 #![tactic(auto)]
 
 pub mod failures;

@@ -10,7 +10,7 @@ use crate::reader::read_code;
 use std::marker::Model;
 
 /// The tokens of a format that are left, up to the first `%` that begins no code which may come
-/// there.
+/// there. Its calls take no memory.
 #[derive(Drop)]
 pub struct Lexer<'a> {
     // The length of the whole format.

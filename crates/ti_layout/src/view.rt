@@ -19,7 +19,8 @@ use ti_caps::{Cap, Kind};
 
 /// A compiled entry of term(5), in the legacy storage format or the extended number format, read
 /// where it is. It holds slices of the bytes that it was read from, so it takes no memory.
-/// Contracts see its names and what each capability has.
+/// Contracts see its names and what each capability has. The names and strings that it returns live
+/// as long as those bytes, and not only as long as the view.
 #[derive(Clone, Copy)]
 pub struct View<'a> {
     format: Format,

@@ -8,7 +8,7 @@ pub fn one_outcome()
     ensures values { ValuesAreSound }
 {}
 
-/// The text that is written spells the value.
+/// What is written for bytes without a NUL is read back as these bytes.
 pub fn written_spells()
     ensures { WrittenSpells }
 {}

@@ -3,6 +3,9 @@
 //!
 //! - `reading_back`: what is laid out as a listing is read as the user-defined items that it lists,
 //!   and so are the listings and the relative sources of entries
+//!
+//! They speak of names fields that can be listed, of values of the tables that a source can give,
+//! and of user-defined names whose values can be written.
 #![tactic(auto)]
 
 mod reading_back;
