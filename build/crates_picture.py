@@ -1,9 +1,11 @@
 #!/usr/bin/env python3
-"""The crates of crates.txt as a Mermaid picture: a box for each group, the group `ti_` in parts.
+"""The crates of crates.txt as a Mermaid picture, a box for each group, the group `ti_` in parts; and
+as a table: the names, and what each holds by the head of its root file, up to the first `:`, `,`,
+`.` or bracket. Crates of tests and for development are not in the table.
 
-    build/crates_picture.py            prints the picture
-    build/crates_picture.py --write    puts it into docs/ARCHITECTURE.md
-    build/crates_picture.py --check    fails unless the picture of that page is this one
+    build/crates_picture.py            prints the picture and the table
+    build/crates_picture.py --write    puts them into docs/ARCHITECTURE.md
+    build/crates_picture.py --check    fails unless that page has these
 
 An arrow leads from a box to one that a crate of it depends on. An arrow that follows from others is
 left out, and so are the libraries of the toolchain.
@@ -13,11 +15,12 @@ import os
 import re
 import sys
 
-from crates import all_below, read_crates
+from crates import all_below, head_of, read_crates
 from repository import TOP
 
 PAGE = os.path.join(TOP, "docs", "ARCHITECTURE.md")
 PICTURE = re.compile(r"```mermaid\n.*?```\n", re.S)
+TABLE = re.compile(r"^\| Crate \| Holds \|\n(?:\|.*\n)*", re.M)
 # The parts of the group `ti_`; a crate that is in none of them is a box of its own.
 PARTS = {
     "sources": ("ti_text", "ti_caps", "ti_names", "ti_spelling", "ti_source"),
@@ -71,21 +74,33 @@ def picture():
     return "\n".join([*lines, "```"]) + "\n"
 
 
+def held(name):
+    """What a crate holds, in a few words."""
+    return re.split(r"[:;,.](?:\s|$)| \(", " ".join(head_of(name)))[0]
+
+
+def table():
+    rows = [f"| `{name}` | {held(name)} |" for name, crate in read_crates().items() if crate.group not in ("test_", "dev_")]
+    return "\n".join(["| Crate | Holds |", "|---|---|", *rows]) + "\n"
+
+
 def main():
-    wanted = picture()
+    wanted = {PICTURE: picture(), TABLE: table()}
     if sys.argv[1:] == []:
-        print(wanted, end="")
+        print("\n".join(wanted.values()), end="")
         return 0
     with open(PAGE, encoding="utf-8") as file:
         page = file.read()
     if sys.argv[1:] == ["--write"]:
+        for part, text in wanted.items():
+            page = part.sub(lambda _: text, page, count=1)
         with open(PAGE, "w", encoding="utf-8") as file:
-            file.write(PICTURE.sub(lambda _: wanted, page, count=1))
+            file.write(page)
         return 0
     if sys.argv[1:] == ["--check"]:
-        if PICTURE.findall(page) == [wanted]:
+        if all(part.findall(page) == [text] for part, text in wanted.items()):
             return 0
-        print("docs/ARCHITECTURE.md has another picture; build/crates_picture.py --write renews it")
+        print("docs/ARCHITECTURE.md is out of date: run build/crates_picture.py --write")
         return 1
     print(__doc__)
     return 2

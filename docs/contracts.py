@@ -16,8 +16,8 @@ import sys
 import mistakes
 from common import Tally
 from definitions import DIRECTORY, exported, lines_of
-from crates import read_crates
-from repository import TOP, files_below
+from crates import head_of, read_crates, root_of
+from repository import files_below
 
 PAGE = "CONTRACTS.md"
 HEAD = """# Contracts
@@ -126,26 +126,14 @@ def modules_of(source, root):
     return sorted((path for path in every if first(path) in order), key=lambda path: order[first(path)])
 
 
-def head_of(text):
-    """The `//!` comment at the top of a file."""
-    rows = []
-    for line in text.split("\n"):
-        if not line.startswith("//!"):
-            break
-        rows.append(line[3:].removeprefix(" "))
-    return rows
-
-
 def section(crate):
     """What the page says of a crate, and the items that have no comment."""
-    source = os.path.join(TOP, "crates", crate, "src")
-    root = next(path for path in ("lib.rt", "main.rt") if os.path.isfile(os.path.join(source, path)))
-    text = "\n".join(lines_of(os.path.join(source, root)))
-    out, silent = [f"## {crate}", "", *head_of(text), ""], []
-    if root == "main.rt":
+    out, silent = [f"## {crate}", "", *head_of(crate), ""], []
+    root = root_of(crate)
+    if root.endswith("main.rt"):
         return out, silent
-    public = exported(crate)
-    for path in modules_of(source, text):
+    public, source = exported(crate), os.path.dirname(root)
+    for path in modules_of(source, "\n".join(lines_of(root))):
         for item in items_of(os.path.join(source, path), public):
             out += [f"### `{item.name}`", "", *item.comment, "", "```rust", *item.lines, "```", ""]
             silent += [] if item.comment else [f"{crate}: `{item.name}` has no comment"]

@@ -1,4 +1,4 @@
-//! Places in a text as the Language Server Protocol counts them, by lines and UTF-16 columns.
+//! Places in a text, as the Language Server Protocol counts them: by lines and UTF-16 columns.
 //!
 //! - `position`: places in a text by lines and UTF-16 columns
 //! - `splicing`: a text with a part of it exchanged
