@@ -62,7 +62,7 @@ fn checked_input(alloc: Global, width: usize, source: &[u8]) -> Result<FmtOutcom
 }
 
 /// What comes of standard input: the source in its layout, or, with `check`, the name `<stdin>` if
-/// it has another layout.
+/// it has another layout. The status is then 1.
 ///
 /// # Errors
 /// Out of memory.

@@ -35,9 +35,10 @@ fn outcome_of(alloc: Global, options: LintOptions, done: &[Done]) -> Result<Lint
     })
 }
 
-/// Finds out what is wrong with each of these files, in order, and makes the fixes that are certain,
-/// if fixes are made. A file is read whole before anything is written, and is not written if there
-/// is no such fix. A file that cannot be read or written is reported, and the others are still done.
+/// Finds out what is wrong with each of these files, in order, and makes the fixes that are
+/// certain, if fixes are made. A file is read whole before anything is written, and is not written
+/// if there is no such fix. A byte order mark and line ends stay. A file that cannot be read or
+/// written is reported, and the others are still done.
 ///
 /// What is printed are the remarks of `lsp_remarks` on the source once the fixes are made. Each fix
 /// is a line on standard error, and so is each file that failed; the line that counts comes last.

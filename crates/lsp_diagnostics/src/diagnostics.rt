@@ -37,7 +37,8 @@ const BAD_VALUE: &str =
 const MISSING_USE: &str =
     "No block has this name. Correct it, or add the block: only ti-tic takes an installed entry.";
 
-/// What a fault means in a source that may have these capabilities, and a hint.
+/// What a fault means in a source that may have these capabilities, and a hint. It is that of the
+/// profile, but for E6 with user-defined capabilities.
 pub fn sentence_by(capabilities: Capabilities, code: Code) -> &'static str
     ensures { result.now ≡ spec.sentence_by capabilities code }
 {

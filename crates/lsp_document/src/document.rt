@@ -248,7 +248,7 @@ impl Document {
     }
 
     /// What is wrong with the source in the profile, in the order of its report, or the one refusal
-    /// of the whole source.
+    /// of the whole source. Nothing is kept.
     ///
     /// # Errors
     /// Out of memory.

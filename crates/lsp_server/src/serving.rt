@@ -85,7 +85,8 @@ fn serve_frame<D: HeldText + Drop, I: Input, W: Write>(
 ///
 /// # Errors
 /// `Broken` if the input fails or ends, if it has no frame, if the output fails, and after
-/// 18,446,744,073,709,551,615 frames; `Memory`. The answers to the frames before remain written.
+/// 18,446,744,073,709,551,615 frames; `Memory`. The answers to the frames before remain written,
+/// and a front of the last one if the output fails; nothing is read after that.
 pub fn serve<D: HeldText + Drop, I: Input, W: Write>(
     alloc: Global,
     surroundings: &D::Surroundings,

@@ -213,7 +213,7 @@ fn job_of_program(alloc: Global, words: &[String]) -> Result<Job, Refusal>
 }
 
 /// What the words of a command line ask for, or why they ask for nothing, with the message. The
-/// first word is the program's name.
+/// first word is the program's name. What clap says is only tested.
 ///
 /// # Errors
 /// `Usage` if the words are not a command line of the program, and `Help` if they ask for help;
