@@ -233,7 +233,7 @@ impl Document {
         }
     }
 
-    /// The text.
+    /// The text, as it was given.
     pub fn text(&self) -> &[u8]
         ensures { result.now ≡ self.now }
     {

@@ -169,7 +169,7 @@ fn span_at(text: &[(u8, usize)], parts: &[Part], at: usize) -> Option<Part>
 }
 
 impl<'a> FaultFinder<'a> {
-    /// Before the first fault of a block.
+    /// A finder for the faults of a block, of which none is found yet.
     ///
     /// # Errors
     /// Out of memory.

@@ -108,7 +108,7 @@ impl Image {
         let _ = &self.bytes;
     }
 
-    /// A copy of the entry.
+    /// A copy of the entry, with the same names and values.
     ///
     /// # Errors
     /// `AllocError` if memory ran out.

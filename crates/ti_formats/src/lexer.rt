@@ -35,7 +35,7 @@ impl<'a> Model for Lexer<'a> {
 }
 
 impl<'a> Lexer<'a> {
-    /// At the start of a format.
+    /// The tokens of a format, from its start.
     pub fn new(format: &'a [u8]) -> Self
         ensures reading { IsReadingOf format.now (left_of result) }
         ensures bound { length (left_of result).tokens < 2 ^ 64 }

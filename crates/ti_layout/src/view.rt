@@ -159,7 +159,7 @@ impl<'a> View<'a> {
         }
     }
 
-    /// The entry as its sections.
+    /// The entry as its sections, for a caller that holds it in another struct.
     pub fn parts(&self) -> ViewParts<'a>
         ensures names { result.names.now ≡ names_of self.now }
         ensures contents { parts_contents result ≡ view_contents self.now }
@@ -174,7 +174,7 @@ impl<'a> View<'a> {
         }
     }
 
-    /// The entry with such sections.
+    /// The entry with such sections. Nothing is looked through again.
     pub fn of_parts(parts: ViewParts<'a>) -> View<'a>
         ensures names { names_of result ≡ parts.entry.names.now }
         ensures contents { view_contents result ≡ parts_contents parts.entry }

@@ -23,7 +23,7 @@ pub fn each_number_is_read()
     ensures { EachTextIsRead }
 {}
 
-/// A text has no other reading.
+/// A text has at most one of these readings.
 pub fn numbers_have_one_reading()
     ensures { NumbersHaveOneReading }
 {}

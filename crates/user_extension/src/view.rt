@@ -143,7 +143,7 @@ impl<'a> Extension<'a> {
         self.get_between(name, third, self.len())
     }
 
-    /// The extension as its sections.
+    /// The extension as its sections, for a caller that holds it in another struct.
     pub fn parts(&self) -> ExtensionParts<'a>
         ensures { parts_rows result ≡ read_rows self.now }
     {
@@ -158,7 +158,7 @@ impl<'a> Extension<'a> {
         }
     }
 
-    /// The extension with such sections.
+    /// The extension with such sections. Nothing is looked through again.
     pub fn of_parts(parts: ExtensionParts<'a>) -> Extension<'a>
         ensures { read_rows result ≡ parts_rows parts.entry }
     {
