@@ -29,9 +29,10 @@ What each crate promises: the head of its root file, and its public items with t
   function without code: its `ensures` holds of the definitions.
 - A name before a clause is its label. Words in a clause are definitions: DEFINITIONS.md has the
   file, the meaning and the section of the manual of each.
-- "Out of memory", an `AllocError` or a variant `Memory`, is the last of all refusals, and leaves
-  what the call changes as it was, unless its comment says what else holds. That it is returned only
-  if a growth of memory was refused is so by the code, and in no clause.
+- "Out of memory", an `AllocError` or a variant `Memory`, is the last of all refusals. It leaves a
+  table, an image, variables and a database as they were; of other values only what a clause or a
+  comment says is known then. That it is returned only if a growth of memory was refused is so by
+  the code, and in no clause.
 - The kinds `Kind::Flag`, `Kind::Number` and `Kind::Text` are booleans, numbers and strings.
 """
 ITEM = re.compile(
