@@ -136,7 +136,8 @@ def section(crate):
     public, source = exported(crate), os.path.dirname(root)
     for path in modules_of(source, "\n".join(lines_of(root))):
         for item in items_of(os.path.join(source, path), public):
-            out += [f"### `{item.name}`", "", *item.comment, "", "```rust", *item.lines, "```", ""]
+            comment = [re.sub(r"^# (\w+)$", r"**\1**\n", row) for row in item.comment]
+            out += [f"### `{item.name}`", "", *comment, "", "```rust", *item.lines, "```", ""]
             silent += [] if item.comment else [f"{crate}: `{item.name}` has no comment"]
     return out, silent
 
