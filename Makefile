@@ -4,6 +4,7 @@
 ##   make            builds the programs ti, ti-everyday (ti-tic, ti-infocmp, ti-tput, ti-fmt and
 ##                   ti-lint) and ti-lsp, proving every crate that they depend on
 ##   make help       prints this list
+##   make docs       lists the contracts of all crates and their definitions, in out/docs/
 ##   make check      checks a change without proofs
 ##   make test       runs every proof and test, as CI does
 ##   make cli        runs only the black-box cases, on the built program
@@ -60,6 +61,8 @@ EXAMPLES = $(wildcard examples/*)
 # pages that are installed with their pictures, as they are here. Of their links those to editors
 # lead to the examples, and those to what is not below DOCDIR become their words
 DOCS = README.md SECURITY.md $(wildcard docs/*.md docs/*.svg)
+# pages that `make docs` makes, which are installed if they are there
+MADE = CONTRACTS.md DEFINITIONS.md
 LINKS = -e 's!\]\((\.\./)?editors/!](\1examples/editors/!g' \
 	-e 's!\[([^]]*)\]\((\.\./)?(man|include|bindings|CHANGELOG|CONTRIBUTING|LICENSE)[^)]*\)!\1!g' \
 	-e 's!/usr/share/doc/ti\>!$(DOCDIR)!g' -e 's!/usr/share/ti-lsp\>!$(LSPDIR)!g'
@@ -91,7 +94,7 @@ TINFO = $(LIBRARY)/ti/libtinfo.so.6
 TINFO_FILES = $(TINFODIR)/libtinfo.so.6 $(TINFODIR)/ti-run.so $(BINDIR)/ti-run $(MANDIR)/man1/ti-run.1
 PC_VALUES = -e 's|@PREFIX@|$(PREFIX)|' -e 's|@LIBDIR@|$(LIBDIR)|' -e 's|@INCLUDEDIR@|$(INCLUDEDIR)|'
 
-.PHONY: all help check test cli editor integration package hostile audit library tinfo lsp
+.PHONY: all help docs check test cli editor integration package hostile audit library tinfo lsp
 .PHONY: program everyday bench newcomers
 .PHONY: install install-built install-program install-everyday install-lsp install-editors install-docs
 .PHONY: install-library install-python install-tinfo
@@ -105,6 +108,10 @@ program:
 
 help:
 	@sed -n 's/^##  //p' Makefile
+
+docs:
+	python3 -B docs/definitions.py out/docs
+	python3 -B docs/contracts.py out/docs
 
 check:
 	tests/check
@@ -203,6 +210,10 @@ install-docs:
 		sed -E $(OF_SOURCES) $(LINKS) "$$file" >"$(DESTDIR)$(DOCDIR)/$$file" && \
 		chmod 644 "$(DESTDIR)$(DOCDIR)/$$file" || exit 1; \
 	done
+	for page in $(MADE); do \
+		test ! -f "out/docs/$$page" || \
+		install -m 644 "out/docs/$$page" "$(DESTDIR)$(DOCDIR)/docs/$$page" || exit 1; \
+	done
 
 install-library:
 	test -f $(LIBRARY)/libti.a || $(MAKE) library
@@ -248,7 +259,7 @@ uninstall: uninstall-library uninstall-python uninstall-tinfo
 	rmdir "$(DESTDIR)$(EXAMPLESDIR)/editors" 2>/dev/null || true
 	for file in $(VIM_FILES); do rm -f "$(DESTDIR)$(VIMDIR)/$$file" "$(DESTDIR)$(NVIMDIR)/$$file"; done
 	rm -f "$(DESTDIR)$(EMACSDIR)/terminfo-mode.el"
-	for file in $(DOCS); do rm -f "$(DESTDIR)$(DOCDIR)/$$file"; done
+	for file in $(DOCS) $(MADE:%=docs/%); do rm -f "$(DESTDIR)$(DOCDIR)/$$file"; done
 	rmdir "$(DESTDIR)$(EXAMPLESDIR)" "$(DESTDIR)$(DOCDIR)/docs" "$(DESTDIR)$(DOCDIR)" \
 		2>/dev/null || true
 	rm -f "$(DESTDIR)$(BINDIR)/ti-everyday"

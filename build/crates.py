@@ -87,6 +87,23 @@ def files_of(name, top=TOP):
     return sorted(found)
 
 
+def root_of(name, top=TOP):
+    """The root file of a crate: of a library, or of a program."""
+    paths = [os.path.join(top, "crates", name, "src", file) for file in ("lib.rt", "main.rt")]
+    return next(path for path in paths if os.path.isfile(path))
+
+
+def head_of(name, top=TOP):
+    """The lines of the `//!` comment at the top of a crate's root file."""
+    found = []
+    with open(root_of(name, top), encoding="utf-8") as file:
+        for line in file:
+            if not line.startswith("//!"):
+                break
+            found.append(line[3:].removeprefix(" ").rstrip())
+    return found
+
+
 if __name__ == "__main__":
     for crate in read_crates().values():
         kind = " (static library)" if crate.is_static else ""

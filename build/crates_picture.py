@@ -1,11 +1,13 @@
 #!/usr/bin/env python3
-"""The crates of crates.txt as a Mermaid picture: a box for each group, the group `ti_` in parts.
+"""The crates of crates.txt as a Mermaid picture, a box for each layer; and as a table: the names, and
+what each holds by the head of its root file, up to the first `:`, `,`, `.` or bracket. Programs,
+and crates of tests and for development, are not in the table.
 
-    build/crates_picture.py            prints the picture
-    build/crates_picture.py --write    puts it into docs/ARCHITECTURE.md
-    build/crates_picture.py --check    fails unless the picture of that page is this one
+    build/crates_picture.py            prints the picture and the table
+    build/crates_picture.py --write    puts them into docs/ARCHITECTURE.md
+    build/crates_picture.py --check    fails unless that page has these
 
-An arrow leads from a box to one that a crate of it depends on. An arrow that follows from others is
+An arrow leads from a layer to one that a crate of it depends on. An arrow that follows from others is
 left out, and so are the libraries of the toolchain.
 """
 
@@ -13,79 +15,84 @@ import os
 import re
 import sys
 
-from crates import all_below, read_crates
+from crates import all_below, head_of, read_crates
 from repository import TOP
 
 PAGE = os.path.join(TOP, "docs", "ARCHITECTURE.md")
 PICTURE = re.compile(r"```mermaid\n.*?```\n", re.S)
-# The parts of the group `ti_`; a crate that is in none of them is a box of its own.
-PARTS = {
-    "sources": ("ti_text", "ti_caps", "ti_names", "ti_spelling", "ti_source"),
-    "entries": ("ti_layout", "ti_compiled"),
-    "formats": ("ti_printing", "ti_formats", "ti_param"),
-    "base_": ("ti_base",),
-    "tools_": ("ti_list", "ti_tools"),
-}
-BOX_OF = {crate: box for box, members in PARTS.items() for crate in members}
+TABLE = re.compile(r"^\| Crate \| Holds \|\n(?:\|.*\n)*", re.M)
+# the layers whose crates are not in the table
+UNLISTED = ("programs", "tests", "development")
 
 
-def box_of(crate):
-    """The name of the box that a crate is in."""
-    if crate.group != "ti_":
-        return crate.group
-    return BOX_OF.get(crate.name, crate.name)
-
-
-def boxes_of(crates):
-    """The boxes in the order of crates.txt, each with the names of its crates."""
-    boxes = {}
+def layers_of(crates):
+    """The layers in the order of crates.txt, each with the names of its crates."""
+    layers = {}
     for crate in crates.values():
-        boxes.setdefault(box_of(crate), []).append(crate.name)
-    return boxes
+        layers.setdefault(crate.layer, []).append(crate.name)
+    return layers
 
 
-def arrows(crates, boxes):
-    """Pairs of boxes: the first needs the second, and none of the other boxes that it needs does."""
+def arrows(crates, layers):
+    """Pairs of layers: the first needs the second, and none of the others that it needs does."""
     needs = {
-        box: {box_of(crates[below]) for name in names for below in all_below(crates, name)} - {box}
-        for box, names in boxes.items()
+        layer: {crates[below].layer for name in names for below in all_below(crates, name)} - {layer}
+        for layer, names in layers.items()
     }
-    for box, below in needs.items():
-        for other in [name for name in boxes if name in below]:
+    for layer, below in needs.items():
+        for other in [name for name in layers if name in below]:
             if not any(other in needs[between] for between in below - {other}):
-                yield box, other
+                yield layer, other
 
 
-def label(box, names):
-    """A box's text: the prefix of its group, and the names of its other crates."""
-    prefix = [f"{box}*"] if box.endswith("_") else []
-    return ", ".join(prefix + [name for name in names if not (prefix and name.startswith(box))])
+def label(crates, names):
+    """The text of a box: its crates, and `PREFIX_*` for those of a prefix of which it has most."""
+    groups, parts = {}, []
+    for name in names:
+        groups.setdefault(crates[name].group, []).append(name)
+    for group, own in groups.items():
+        of_group = [crate for crate in crates.values() if crate.group == group]
+        parts += [f"{group}*"] if group != "ti_" and 2 * len(own) > len(of_group) > 1 else own
+    return ", ".join(parts)
 
 
 def picture():
     crates = read_crates()
-    boxes = boxes_of(crates)
+    layers = layers_of(crates)
+    boxes = {layer: layer.replace("-", "_") for layer in layers}
     lines = ["```mermaid", "flowchart TD"]
-    lines += [f'    {box.strip("_")}["{label(box, names)}"]' for box, names in boxes.items()]
-    lines += [f'    {box.strip("_")} --> {other.strip("_")}' for box, other in arrows(crates, boxes)]
+    lines += [f'    {boxes[layer]}["{layer}: {label(crates, names)}"]' for layer, names in layers.items()]
+    lines += [f"    {boxes[layer]} --> {boxes[other]}" for layer, other in arrows(crates, layers)]
     return "\n".join([*lines, "```"]) + "\n"
 
 
+def held(name):
+    """What a crate holds, in a few words."""
+    return re.split(r"[:;,.](?:\s|$)| \(", " ".join(head_of(name)))[0]
+
+
+def table():
+    rows = [f"| `{name}` | {held(name)} |" for name, crate in read_crates().items() if crate.layer not in UNLISTED]
+    return "\n".join(["| Crate | Holds |", "|---|---|", *rows]) + "\n"
+
+
 def main():
-    wanted = picture()
+    wanted = {PICTURE: picture(), TABLE: table()}
     if sys.argv[1:] == []:
-        print(wanted, end="")
+        print("\n".join(wanted.values()), end="")
         return 0
     with open(PAGE, encoding="utf-8") as file:
         page = file.read()
     if sys.argv[1:] == ["--write"]:
+        for part, text in wanted.items():
+            page = part.sub(lambda _: text, page, count=1)
         with open(PAGE, "w", encoding="utf-8") as file:
-            file.write(PICTURE.sub(lambda _: wanted, page, count=1))
+            file.write(page)
         return 0
     if sys.argv[1:] == ["--check"]:
-        if PICTURE.findall(page) == [wanted]:
+        if all(part.findall(page) == [text] for part, text in wanted.items()):
             return 0
-        print("docs/ARCHITECTURE.md has another picture; build/crates_picture.py --write renews it")
+        print("docs/ARCHITECTURE.md is out of date: run build/crates_picture.py --write")
         return 1
     print(__doc__)
     return 2

@@ -52,7 +52,8 @@ def epoch():
 
 
 def install(stage, *words):
-    """Installs below a directory what `make install` installs."""
+    """Installs below a directory what `make install` installs, with the pages of `make docs`."""
+    output("make", "-s", "docs", cwd=TOP)
     output("make", "-s", "install", f"DESTDIR={stage}", *words, cwd=TOP)
 
 

@@ -1,16 +1,17 @@
 #!/usr/bin/env python3
-"""Compares docs/CLAIMS.md with the code: what it names is there, and a program uses it.
+"""Compares docs/CLAIMS.md with the code: what it names is there, and the program uses it.
 
     docs/claims.py [--check] [PAGE]     PAGE in its place; nothing is written either way
 
-Each row of the tables of "What is proved" names in its last column calls and laws. Of these:
+Each row of the table of "What is proved" has a promise, the calls and laws that carry it, and the
+programs that use it. Of each name in the second column:
 
-- each is a public function, type or method of the row's crates; in a row without crates, of any
-  crate that is no test;
-- each call is reached from a program (`main`) or from an export of the C library, by the names that
-  functions use of their own crate and of those that it depends on, and by the methods of traits. A
-  type counts if a method of it is reached;
-- a law speaks of a definition that the contract of a reached call names: of what programs do.
+- it is a public function, type or method: of the crate that is written before it, as in
+  `ti_list::list`, or of any crate that is no test;
+- a call is reached from each program of the row, by the names that functions use of their own crate
+  and of those that it depends on, and by the methods of traits. A type counts if a method of it is
+  reached;
+- a law speaks of a definition that the contract of a reached call names: of what the program does.
 
 The reading is by names, so it reaches too much rather than too little. The status is 1 if a row
 names something of which this is not so. The last line counts the names.
@@ -25,8 +26,13 @@ from common import TOP, Tally, files_below, text_of  # noqa: E402
 from crates import all_below, read_crates  # noqa: E402
 
 PAGE = os.path.join("docs", "CLAIMS.md")
-ROOTS = ("ti", "ti_everyday", "ti_lsp", "ti_c")
-ROW = re.compile(r"^\| (.*?) \| .* \| (.*?) \|$", re.M)
+# the crate of each program; an export of the C library counts as one
+ROOT_OF = {
+    "ti": "ti", "ti-tic": "ti_everyday", "ti-infocmp": "ti_everyday", "ti-tput": "ti_everyday",
+    "ti-fmt": "ti_everyday", "ti-lint": "ti_everyday", "ti-lsp": "ti_lsp", "libti": "ti_c",
+}
+ROW = re.compile(r"^\| ([^|]*) \| ([^|]*) \| ([^|]*) \|$", re.M)
+PROGRAM = re.compile(r"`([\w-]+)`")
 QUOTED = re.compile(r"`([A-Za-z_][\w:]*)`")
 FUNCTION = re.compile(r"^( *)((?:pub(?:\(\w+\))? )?(?:const )?(?:unsafe )?(?:extern \"C?\" )?)fn (\w+)", re.M)
 TYPE = re.compile(r"^ *pub (?:struct|enum|trait|type) (\w+)", re.M)
@@ -69,9 +75,9 @@ def functions_of(crate):
     return functions, types
 
 
-def reached(crates, functions):
+def reached(crates, functions, root):
     """The functions that a program or an export of the library leads to."""
-    found, todo = set(), [function for name in ROOTS for function in functions[name]]
+    found, todo = set(), list(functions[root])
     by_name, of_traits = {}, {}
     for crate, own in functions.items():
         for function in own:
@@ -116,9 +122,10 @@ def definitions_of(law, told, cited):
     return seen
 
 
-def candidates(functions, types, crates, name):
-    """The functions of crates that a name of the page means; a type means its methods."""
+def candidates(functions, types, name):
+    """The functions that a name of the page means; a type means its methods."""
     *before, last = name.split("::")
+    crates = [before.pop(0)] if before and before[0] in functions else list(functions)
     of = [function for crate in crates for function in functions[crate] if function.is_public or function.owner]
     if last[0].isupper():
         return [function for function in of if function.owner == last and last in types[function.crate]]
@@ -131,27 +138,31 @@ def faults_of_page(page):
     crates = {name: crate for name, crate in read_crates().items() if crate.group not in ("test_", "dev_")}
     read = {name: functions_of(name) for name in crates}
     functions, types = {name: it[0] for name, it in read.items()}, {name: it[1] for name, it in read.items()}
-    is_reached = reached(crates, functions)
     told = {name: words for crate in crates for name, words in statements(crate).items()}
-    laws = [function for own in functions.values() for function in own if function.is_law]
-    cited = {word for function in is_reached if not function.is_law for word in function.contract if word in told}
+    ways = {root: reached(crates, functions, root) for root in set(ROOT_OF.values())}
+    cited = {
+        root: {word for function in way if not function.is_law for word in function.contract if word in told}
+        for root, way in ways.items()
+    }
     faults, count = [], 0
     part = page.split("\n## What is proved\n")[1].split("\n## ")[0]
-    for first, last in ROW.findall(part):
-        of = [name for name in QUOTED.findall(first) if name in crates] or list(crates)
-        of = [name for name in QUOTED.findall(last) if name in crates] + of
-        for name in QUOTED.findall(last):
-            if name in crates:
-                continue
+    for promise, by, programs in ROW.findall(part)[1:]:
+        users = PROGRAM.findall(programs)
+        if not users or not ROOT_OF.keys() >= set(users):
+            faults.append(f"the row {promise}: {programs} are not programs")
+            continue
+        for name in QUOTED.findall(by):
             count += 1
-            means = candidates(functions, types, of, name)
+            means = candidates(functions, types, name)
             if not means:
-                faults.append(f"`{name}` of the row {first}: no public function or type of this name")
-            elif not any(function in is_reached for function in means):
-                named = [law for law in means if law.is_law]
-                if not any(definitions_of(law, told, cited) & cited for law in named):
-                    faults.append(f"`{name}` of the row {first}: no program reaches it")
-    if not laws or not count:
+                faults.append(f"`{name}`: no public function or type of this name")
+            for user in users:
+                root = ROOT_OF[user]
+                laws = [law for law in means if law.is_law]
+                is_used = any(function in ways[root] for function in means)
+                if means and not is_used and not any(definitions_of(law, told, cited[root]) & cited[root] for law in laws):
+                    faults.append(f"`{name}`: {user} does not reach it")
+    if not count:
         faults.append("nothing was compared")
     return faults, count
 

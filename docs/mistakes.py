@@ -1,24 +1,34 @@
 #!/usr/bin/env python3
-"""Writes the table of named mistakes in docs/CONTRACTS.md from the edits that make them.
+"""The table of named mistakes, from the edits that make them.
+
+    docs/mistakes.py            prints the table, as docs/contracts.py puts it into CONTRACTS.md
+    docs/mistakes.py --check    fails if an edit of must-fail/, or one with a line `# clause:`, lacks
+                                one of the lines that tests/edits.py names
 
 An edit of crates/*/must-fail, wrong-bodies or wrong-definitions is in the table if it has a line
-`# clause:`. With --check nothing is written, and the status is 1 if the page is out of date. It is
-1 also if an edit of must-fail/ or one with such a line lacks one of the lines that tests/edits.py
-names.
+`# clause:`.
 """
 
 import os
-import re
 import sys
 
 sys.path.append(os.path.join(os.path.dirname(os.path.dirname(os.path.abspath(__file__))), "tests"))
-from common import TOP, Tally, text_of  # noqa: E402
+from common import Tally  # noqa: E402
 from crates import read_crates  # noqa: E402
 from edits import CLAUSE, GATE, NOTES, edit_paths, read_edit  # noqa: E402
 
-PAGE = os.path.join("docs", "CONTRACTS.md")
-HEAD = "| Mistake | What refuses it | Edit | Row that it breaks |\n|---|---|---|---|\n"
-TABLE = re.compile(r"^\| Mistake \| .*\n(?:\|.*\n)*", re.M)
+HEAD_OF_TABLE = """Each edit makes one mistake in the code or in a definition, and the prover refuses it at the clause
+that is named. Each run of the gate tries those in `must-fail/`, and `make audit` all of them. The
+last column has an input, what the edited program does with it, and what is right. Blocks are written
+without their newlines.
+"""
+COLUMNS = "| Mistake | What refuses it | Edit | Row that it breaks |\n|---|---|---|---|\n"
+
+
+def edits_in_order():
+    """All edits, in the order of their crates."""
+    order = list(read_crates())
+    return sorted((read_edit(path) for path in edit_paths()), key=lambda edit: order.index(edit.crate))
 
 
 def row_of(edit):
@@ -35,21 +45,23 @@ def lacking(edit):
     return [name for name in (*NOTES, CLAUSE) if has_to and name not in edit.notes]
 
 
+def table():
+    """The table of the edits with a line `# clause:`."""
+    return COLUMNS + "".join(row_of(edit) for edit in edits_in_order() if CLAUSE in edit.notes and not lacking(edit))
+
+
 def main():
-    order = list(read_crates())
-    edits = sorted((read_edit(path) for path in edit_paths()), key=lambda edit: order.index(edit.crate))
-    faults = [f"{edit.path}: it has no line `# {name}:`" for edit in edits for name in lacking(edit)]
-    page = text_of(PAGE)
-    table = HEAD + "".join(row_of(edit) for edit in edits if CLAUSE in edit.notes and not lacking(edit))
-    made = TABLE.sub(lambda _: table, page, count=1)
     if "--check" not in sys.argv[1:]:
-        with open(os.path.join(TOP, PAGE), "w", encoding="utf-8") as file:
-            file.write(made)
-    elif made != page:
-        faults.append(f"{PAGE} is out of date: run docs/mistakes.py")
+        print(table(), end="")
+        return 0
+    edits = edits_in_order()
+    faults = [f"{edit.path}: it has no line `# {name}:`" for edit in edits for name in lacking(edit)]
+    if not any(CLAUSE in edit.notes for edit in edits):
+        faults.append("no edit has a line `# clause:`")
     tally = Tally("mistakes")
-    tally.add(PAGE, faults)
+    tally.add("edits", faults)
     return tally.close()
 
 
-sys.exit(main())
+if __name__ == "__main__":
+    sys.exit(main())

@@ -10,8 +10,9 @@ from shared import TOP, text_of
 PAGE = os.path.join("docs", "CLAIMS.md")
 # a row, what is put into the place of its call, and what is said of that
 CLAIMS = (
-    ("`count_lines`", "`count_words`", "`count_words` of the row `ti_text`: no public function or type of this name"),
-    ("`make_frame`", "`write_frame`", "`write_frame` of the row `lsp_frames`: no program reaches it"),
+    ("`ti_caps::find`", "`ti_caps::seek`", "`ti_caps::seek`: no public function or type of this name"),
+    ("`frames_have_one_reading`", "`write_frame`", "`write_frame`: ti-lsp does not reach it"),
+    ("infocmp` | `ti-infocmp`", "infocmp` | `ti`", "`everyday_infocmp::infocmp`: ti does not reach it"),
 )
 
 

@@ -42,6 +42,8 @@ OF_LIBRARY = (
 )
 # the packages of debian/control, sorted
 PACKAGES = ["libti-dev", "libti-tinfo", "libti2", "python3-ti", "ti", "ti-doc", "ti-lsp"]
+# the pages that `make docs` makes, which are of ti-doc
+MADE = ("docs/CONTRACTS.md", "docs/DEFINITIONS.md")
 # how many kilobytes the package for users may have installed
 KILOBYTES_OF_TI = 2000
 LIBRARY = os.path.join(TOP, "crates", "ti_c", "out", "lib")
@@ -144,12 +146,13 @@ def check_links():
     installed with them. Any program takes the place of ti: the pages do not depend on it."""
     need("make")
     with tempfile.TemporaryDirectory(prefix="ti-package-") as directory:
-        said = output(["make", "-s", "install", "PROGRAM=/bin/true", f"DESTDIR={directory}", "PREFIX="], cwd=TOP)
+        words = ["PROGRAM=/bin/true", f"DESTDIR={directory}", "PREFIX="]
+        said = output(["make", "-s", "docs"], cwd=TOP) + output(["make", "-s", "install", *words], cwd=TOP)
         if said:
             yield f"make install says {said!r}"
         doc = os.path.join(directory, "share", "doc", "ti")
         pages = [name for name in os.listdir(os.path.join(TOP, "docs")) if name.endswith(".md")]
-        for name in ["README.md", "SECURITY.md", *(os.path.join("docs", page) for page in pages)]:
+        for name in ["README.md", "SECURITY.md", *(os.path.join("docs", page) for page in pages), *MADE]:
             if not os.path.exists(os.path.join(doc, name)):
                 yield f"make install puts no {name}"
         yield from dead_links(doc)
@@ -278,6 +281,10 @@ def check_deb():
                 output(["dpkg-deb", "-x", os.path.join(made, name), os.path.join(room, "all")])
             if name.startswith("ti_"):
                 yield from faults_of_ti(os.path.join(made, name), unpacked)
+            for page in MADE:
+                is_there = os.path.exists(os.path.join(unpacked, "usr", "share", "doc", "ti", page))
+                if is_there != name.startswith("ti-doc_"):
+                    yield f"{name} has {'a' if is_there else 'no'} page {page}"
         # ti, ti-lsp and ti-doc together: a script of all programs, and links between their pages
         yield from program_faults("the packages", os.path.join(room, "all"), os.path.join(room, "all", "usr", "bin"))
         yield from dead_links(os.path.join(room, "all", "usr", "share", "doc", "ti"))

@@ -36,15 +36,13 @@ IDIOMS = re.compile(
 )
 # what every tool calls an error or a warning, but for the messages of ours, and the words of the promise
 FAULT = re.compile(r"(?<!read )(?<!write )\bfault(?:s|y)?\b(?! report)", re.I)
-# of this page the faults are those of the code
-OF_CODE = os.path.join("docs", "CONTRACTS.md")
+# pages that `make docs` makes: no link of the repository leads to them
+MADE = {"CONTRACTS.md", "DEFINITIONS.md"}
 # what is read for these, apart from pages
 PLAIN = (
     "debian/control", "debian/ti.README.Debian", "editors/vscode/README.md", "editors/vscode/package.json",
     "include/ti.h", "include/ti.hpp", "include/ti_names.h", "include/ti.c", "python/ti/__init__.py",
 )
-# its rows quote the comments of definitions, and are written by docs/definitions.py
-GENERATED = os.path.join("docs", "DEFINITIONS.md")
 # files with comments, and how a line of a comment alone begins
 COMMENTED = (".bash", ".c", ".fish", ".h", ".py", ".sh", ".ti", ".lua", ".vim", ".el", ".js", "Makefile", "_ti", "/run")
 # what is spelled, apart from pages at the top and doc comments; and the words that are right here
@@ -101,7 +99,7 @@ def link_faults(page):
             yield f"{page}: the link {link} leads nowhere"
     named = set(re.findall(r"\b[A-Z]+\.md\b", text))
     named |= {f"{name}.{section}" for name, section in re.findall(r"\b(ti(?:-\w+)?)\((\d)\)", text)}
-    for name in sorted(named - {os.path.basename(link) for link in [*links, page]}):
+    for name in sorted(named - MADE - {os.path.basename(link) for link in [*links, page]}):
         yield f"{page} names {name} and has no link to it"
 
 
@@ -118,7 +116,7 @@ def idiom_faults(path):
     text = text_of(path)
     if path.endswith(".md"):
         text = re.sub(r"^```.*?^```|`[^`]*`", lambda code: "\n" * code[0].count("\n"), text, flags=re.M | re.S)
-    for words in (IDIOMS, FAULT) if path != OF_CODE else (IDIOMS,):
+    for words in (IDIOMS, FAULT):
         for found in words.finditer(text):
             yield f"{path}:{text.count(chr(10), 0, found.start()) + 1}: the words {' '.join(found[0].split())}"
 
@@ -128,9 +126,8 @@ def check_markdown():
     but for rows of tables and reports; words are plain; the pictures are drawn from what they show."""
     for page in markdown_pages():
         yield from link_faults(page)
-        if page != GENERATED:
-            yield from line_faults(page, FREE.match)
-            yield from idiom_faults(page)
+        yield from line_faults(page, FREE.match)
+        yield from idiom_faults(page)
     for path in PLAIN:
         yield from idiom_faults(path)
     for script in ("build/crates_picture.py", "bench/picture.py"):

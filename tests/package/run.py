@@ -12,8 +12,8 @@ bash, fish, zsh
              the shell gives the candidates that are wanted
 pages        the pages are clean under `mandoc -T lint`, and each says what a page is to say
 markdown     pages link to the pages that they name, links lead to files, lines keep to the width,
-             words are plain, and the pictures of crates and of speed are those of crates.txt and of
-             docs/PERFORMANCE.md
+             words are plain, the picture and the table of crates are those of crates.txt, and the
+             picture of speed is that of docs/PERFORMANCE.md
 scripts      comments of scripts, of the header and of examples keep to the width, in plain words
 spelling     codespell knows the words of pages, scripts and doc comments, or words.txt has them
 grammar      the grammar of VS Code gives the scopes that are wanted, and shows no fault of spelling

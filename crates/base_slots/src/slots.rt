@@ -192,7 +192,8 @@ impl Slots {
         self.names.users(name)
     }
 
-    /// Exchanges what was found out about a block.
+    /// Puts what was found out about a block in the place of what is stored. All else stays. What
+    /// was stored is handed back, of which no clause says anything.
     pub fn exchange_settled(&mut self, id: u32, settled: &mut Settled)
         requires { Has (ids_of self.old) id }
         ensures { self.new ≡ settled_in self.old id settled.old }

@@ -59,7 +59,8 @@ pub fn named_file<T: Tree>(
 }
 
 /// The file of a name: if it has a slash, the file at that path, else that of the terminal's entry
-/// in these directories. Of a file over 65,536 bytes it gives the first 65,537.
+/// in these directories. Of a file over 65,536 bytes it gives the first 65,537. The tree counts
+/// each failure, and its files stay.
 ///
 /// # Errors
 /// `Absent` if there is no file at the path, and `Unreadable` if the tree fails to read it; of other

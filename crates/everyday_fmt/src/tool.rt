@@ -17,7 +17,9 @@ use std::alloc::{AllocError, Global};
 
 /// Gives each of these files its layout, in order, or, with `check`, finds out whether it has it. A
 /// file is read whole before anything is written, and is not written if it has its layout. A file
-/// that cannot be read or written is reported, and the others are still done.
+/// that cannot be read or written is reported, and the others are still done. Standard output has
+/// the name of each file that would change, with `check`; standard error a line for each file that
+/// failed, with its reason. The status is 1 if there is one of either, else 0.
 ///
 /// # Errors
 /// Out of memory: the files up to some have their layouts, and of the others at most the next one
@@ -60,7 +62,7 @@ fn checked_input(alloc: Global, width: usize, source: &[u8]) -> Result<FmtOutcom
 }
 
 /// What comes of standard input: the source in its layout, or, with `check`, the name `<stdin>` if
-/// it has another layout.
+/// it has another layout. The status is then 1.
 ///
 /// # Errors
 /// Out of memory.

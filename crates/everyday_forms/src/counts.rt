@@ -131,7 +131,7 @@ fn is_bad(strict: bool, severity: Severity) -> bool
     }
 }
 
-/// Whether one of them is bad: an error, or, with `strict`, a warning.
+/// Whether one of them is bad: an error, or, with `strict`, a warning. It takes no memory.
 pub fn has_bad(strict: bool, severities: &[Severity]) -> bool
     ensures { result ≡ list_any (is_bad strict) severities.now }
 {

@@ -11,6 +11,14 @@ use std::alloc::{AllocError, Global};
 
 /// Adds what is told in a form.
 ///
+/// A line of compilers is `FILE:LINE:COLUMN: error: SENTENCE [TITLE]`, both counted from 1 and the
+/// column in bytes. Below it is the line of the source, of one over 160 bytes what is from the
+/// fault on, with `?` for each byte that does not print; and below that `^` under the first byte at
+/// fault and `~` under the others. A workflow command has `%`, CR and LF escaped, and in its
+/// properties `:` and `,` too. An object in JSON is a diagnostic of the Language Server Protocol
+/// with the name of its file. Information and hints are notes of compilers and notices of GitHub
+/// Actions.
+///
 /// # Errors
 /// Out of memory.
 pub fn push_told(

@@ -1,4 +1,5 @@
-//! What is told of a source, in the forms in which compilers, GitHub Actions and editors read it.
+//! What is reported of a source, in the forms in which compilers, GitHub Actions and editors read
+//! it.
 //!
 //! ```text
 //! let told = Told { file: "mine.ti", number: 4, column: 9, .. };

@@ -8,7 +8,9 @@ pub fn fixes_change_nothing_else()
 {}
 
 /// Of the fixes of a text that are certain, each is made unless it is not within a line of items or
-/// begins before one that is made ends; those that are made do not overlap.
+/// begins before one that is made ends; those that are made do not overlap. That an item has no
+/// certain fix once one of it is made is a law on blocks (`certain_edits_are_made` of `source_fixes`),
+/// and none says it of a text.
 pub fn certain_fixes_are_made()
     ensures { FixesAreMade }
 {}

@@ -35,9 +35,14 @@ fn outcome_of(alloc: Global, options: LintOptions, done: &[Done]) -> Result<Lint
     })
 }
 
-/// Finds out what is wrong with each of these files, in order, and makes the fixes that are certain,
-/// if fixes are made. A file is read whole before anything is written, and is not written if there
-/// is no such fix. A file that cannot be read or written is reported, and the others are still done.
+/// Finds out what is wrong with each of these files, in order, and makes the fixes that are
+/// certain, if fixes are made. A file is read whole before anything is written, and is not written
+/// if there is no such fix. A byte order mark and line ends stay. A file that cannot be read or
+/// written is reported, and the others are still done.
+///
+/// What is printed are the remarks of `source_remarks` on the source once the fixes are made. Each fix
+/// is a line on standard error, and so is each file that failed; the line that counts comes last.
+/// The status is 1 if a remark is bad, or a file was not checked, else 0.
 ///
 /// # Errors
 /// Out of memory: the files up to some are done, and of the others at most the next one has changed.

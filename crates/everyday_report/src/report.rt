@@ -217,7 +217,10 @@ fn write_next<'a>(
 
 /// Appends a line for each of these faults of the first blocks, `count` of them, if the first line
 /// of the first block has the number `first_line`. The time is linear in the blocks and in the
-/// lines, if the faults of each block come one after another in their order.
+/// lines, if the faults of each block come one after another in their order. A line has the name of
+/// the file, the line, and the column of what the fault is of, in bytes from 1; it is 1 if that is
+/// not found (`source_spans`). Then come error or warning, the subject as a report shows it, the
+/// sentence of the code, and in brackets the code and its name.
 ///
 /// # Errors
 /// Out of memory.

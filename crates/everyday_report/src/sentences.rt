@@ -5,7 +5,8 @@ ghost use Rattle.everyday_report.specs.Sentences as spec;
 
 use ti_source::Code;
 
-/// What is reported about an error or a warning of the profile.
+/// What is reported about an error or a warning of the profile. It is that of `source_spans`, but for
+/// E6.
 pub fn sentence(code: Code) -> &'static str
     ensures { result.now ≡ spec.sentence code }
 {

@@ -298,7 +298,7 @@ pub fn holds_frame(alloc: Global, bytes: &[u8]) -> Result<bool, AllocError>
     }
 }
 
-/// The frame of a body.
+/// The frame of a body: a header with the length of the body, and the body.
 ///
 /// # Errors
 /// `AllocError` if memory ran out.

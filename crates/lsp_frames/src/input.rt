@@ -115,7 +115,7 @@ impl<R: Read> Input for Buffered<R> {
     }
 }
 
-/// Bytes that are all there.
+/// An input of bytes that are all there, so that nothing is read.
 #[derive(Drop)]
 pub struct Held<'a> {
     bytes: &'a [u8],

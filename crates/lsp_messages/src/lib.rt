@@ -1,4 +1,4 @@
-//! The messages of a client of the Language Server Protocol, version 3.17, read from JSON.
+//! The messages of a client, read from JSON (Language Server Protocol, version 3.17).
 //!
 //! - `bodies`: which value a body is
 //! - `messages`: what a client asks for or reports; `reading` reads it from values, with `members`

@@ -236,6 +236,10 @@ fn read_called<'a>(alloc: Global, method: &str, value: &'a Value) -> Result<Mess
 /// What a value is as a message. `jsonrpc`, the language of a document and `rangeLength` are not
 /// read.
 ///
+/// The version of a text is known if it is a number below 2^31. A range that is `null` is absent. A
+/// notification about a document with other parameters than its method has is `Unreadable`, with
+/// the URI if that can be read; a request is `Faulty`.
+///
 /// # Errors
 /// `AllocError` if memory ran out.
 pub fn read_message(alloc: Global, value: &Value) -> Result<Message<'_>, AllocError>

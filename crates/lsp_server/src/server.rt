@@ -209,6 +209,11 @@ impl<D: HeldText + Drop> Server<D> {
     /// Takes a message, after what is due, if the message asks for that. The result is what is to
     /// be sent, in order. Faults may be due then.
     ///
+    /// Faults are due of a document that was opened or changed. They are published before a
+    /// request, `exit` and a message that could not be read. A document of which a message could
+    /// not be read is out of date until it is opened, or sent as a whole: no change of a part is
+    /// made in it, requests about it are refused, and a search leaves it out.
+    ///
     /// # Errors
     /// Out of memory. Nothing is known of the server after that.
     pub fn take(

@@ -79,12 +79,14 @@ fn serve_frame<D: HeldText + Drop, I: Input, W: Write>(
 
 /// Replies to frames until `exit` comes, each before more is read, by what else is known. Faults of
 /// documents that changed are published once no whole frame waits in what was read, or before a
-/// message that asks for that. The answer is the status of the process: 0 if `shutdown` came before,
+/// message that asks for that. A frame waits if it was whole in what the reads had brought when the
+/// frame before it was used. The answer is the status of the process: 0 if `shutdown` came before,
 /// else 1.
 ///
 /// # Errors
 /// `Broken` if the input fails or ends, if it has no frame, if the output fails, and after
-/// 18,446,744,073,709,551,615 frames; `Memory`. The answers to the frames before remain written.
+/// 18,446,744,073,709,551,615 frames; `Memory`. The answers to the frames before remain written,
+/// and a front of the last one if the output fails; nothing is read after that.
 pub fn serve<D: HeldText + Drop, I: Input, W: Write>(
     alloc: Global,
     surroundings: &D::Surroundings,

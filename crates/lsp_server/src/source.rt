@@ -5,7 +5,8 @@ use serde_json::Value;
 use source_types::Position;
 use std::alloc::{AllocError, Global};
 
-/// A text with what is wrong with it, and with answers to questions about it.
+/// A text with what is wrong with it, and with answers to questions about it. No value that it
+/// gives has a float, so that the text of each is known.
 pub trait HeldText {
     ghost use Rattle.std.specs.Prelude.{◌≡◌, ◌++◌, ◌≤◌, ℕ, List, IfOk, OnOk, length, map};
     ghost use Rattle.serde_json.specs.View.{items_view, view};

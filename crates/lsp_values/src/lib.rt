@@ -1,4 +1,4 @@
-//! The values of JSON that a server of the Language Server Protocol, version 3.17, sends.
+//! What a server sends, as values of JSON (Language Server Protocol, version 3.17).
 //!
 //! - `writing`: the responses and the notifications, and what the server can do
 //! - `answers`: the values that answer questions about a document

@@ -276,7 +276,8 @@ fn server_value(alloc: Global, version: &str) -> Result<Value, AllocError>
     json!(in alloc; {"name": "ti-lsp", "version": version})
 }
 
-/// The answer to `initialize` of a client ("InitializeResult"), with the version of the server.
+/// The answer to `initialize` of a client ("InitializeResult"), with the version of the server. It
+/// offers no more than the client supports.
 ///
 /// # Errors
 /// `AllocError` if memory ran out.

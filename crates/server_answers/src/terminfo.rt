@@ -22,7 +22,23 @@ use source_remarks::{KeptHints, hints_in};
 use source_types::Position;
 use std::alloc::{AllocError, Global};
 
-/// A terminfo source.
+/// A terminfo source as the server holds it: `HeldText` of `lsp_server`.
+///
+/// - Published are the errors and warnings, in the order of the report: with user-defined
+///   capabilities those of `source_findings` of `source_installed`, in the profile those of
+///   `source_document`. If the client wants hints, those of `source_remarks` are among them, and one for
+///   each use of an installed entry comes last. In the profile there are no installed names.
+/// - The outline is that of `source_blocks`, as a hierarchy if the client supports one, else as a
+///   list. A search has the entries whose names in it hold a text, whatever the case of its
+///   letters.
+/// - Definitions, references, renames, hovers, signatures and the layout are those of
+///   `source_features`, folds those of `source_format`.
+/// - A completion has an item for each capability, obsolete ones tagged, and then for each known
+///   user-defined one, if the client wants these. After `use=` it has the names of the source, and
+///   then the installed names that no block has and that begin as what is typed, whatever the case
+///   of its letters.
+/// - The fixes are those of `source_fixes`, each with the published diagnostics that it resolves;
+///   those that are certain are preferred.
 #[derive(Drop)]
 pub struct Terminfo {
     document: Document,

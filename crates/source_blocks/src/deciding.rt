@@ -292,7 +292,7 @@ fn sources_of(
 
 /// The blocks that decide what the entry of the owner of a name inherits, in the order of the
 /// source, each with the capabilities in the order of the compiled entry; none if there is no such
-/// entry.
+/// entry. Each is named by the first of its lookup names that it owns.
 ///
 /// # Errors
 /// Out of memory.
@@ -315,14 +315,16 @@ pub fn one_block_decides()
 {}
 
 /// A law, with no code: a capability that a block says something of once its uses are expanded is
-/// decided by some block, and that is the block that is looked for.
+/// decided by some block, and that is the block that is looked for. It speaks of blocks in which
+/// the leftmost mention decides, as in those of a source.
 pub fn deciders_are_found()
     ensures found { spec.DecidersAreFound }
     ensures some { spec.SomeBlockDecides }
 {}
 
 /// A law, with no code: what a block says of a capability once its uses are expanded is what the
-/// block says that decides it.
+/// block says that decides it. It speaks of blocks in which the leftmost mention decides, as in
+/// those of a source.
 pub fn deciders_say_it()
     ensures { spec.DecidersSayIt }
 {}

@@ -110,7 +110,7 @@ fn entry_at(alloc: Global, document: &Document, at: usize) -> Result<Entry, Allo
     }
 }
 
-/// What became of a name.
+/// What the entry of the owner of a name holds, or why there is none.
 ///
 /// # Errors
 /// Out of memory.

@@ -5,6 +5,8 @@
 //! - `user_rows`: a row for each user-defined capability that is known, and keys with modifiers
 //! - `user_words`: the text that an editor shows of these
 //! - `known_names`: whether a user-defined name is known
+//!
+//! The rows are data: marks of `tests/editor` have each with the name of its capability.
 #![tactic(auto)]
 
 mod descriptions;

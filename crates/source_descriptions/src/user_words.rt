@@ -185,7 +185,9 @@ fn push_all_keys(alloc: Global, all: &mut Vec<UserDescription>) -> Result<(), Al
 }
 
 /// What is said about each user-defined capability that is known: those with a row of their own, by
-/// name, then the keys with modifiers, and then the function keys with Shift.
+/// name, then the keys with modifiers, and then the function keys with Shift. A key with modifiers
+/// is named by the key, and by one more than the number whose bits are the modifiers; a function
+/// key with Shift has `kF` in place of `kf`.
 ///
 /// # Errors
 /// Out of memory.

@@ -37,7 +37,8 @@ const BAD_VALUE: &str =
 const MISSING_USE: &str =
     "No block has this name. Correct it, or add the block: only ti-tic takes an installed entry.";
 
-/// What a fault means in a source that may have these capabilities, and a hint.
+/// What a fault means in a source that may have these capabilities, and a hint. It is that of the
+/// profile, but for E6 with user-defined capabilities.
 pub fn sentence_by(capabilities: Capabilities, code: Code) -> &'static str
     ensures { result.now ≡ spec.sentence_by capabilities code }
 {
@@ -346,7 +347,9 @@ fn held_diagnostics(
 /// What is wrong with a source, by which capabilities it may have, in the order of its report, or
 /// the one refusal of the whole source. The database has its blocks, unless it is refused, and
 /// `refusal` is the cause. What is shown for the faults of a block is kept, and taken again for the
-/// same text with the same faults.
+/// same text with the same faults. A source of more than 1,024 distinct user-defined names has the
+/// diagnostics of the profile. What is marked is the part that `FaultFinder` finds, as far as it is
+/// on the line of the fault, or else the whole line.
 ///
 /// # Errors
 /// Out of memory.

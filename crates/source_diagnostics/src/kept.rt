@@ -22,7 +22,8 @@ use ti_source::Code;
 use user_compiling::ExtendedFault;
 
 /// What is shown for the faults of a block, kept with the text of the block and its faults. While
-/// both stay the same, so does what is shown.
+/// both stay the same, so does what is shown. That it is right is an invariant; that it is kept is
+/// in no clause, since only the time of the next call depends on it.
 #[derive(Drop)]
 pub struct KeptMarks {
     text: Vec<u8>,

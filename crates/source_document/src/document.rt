@@ -207,7 +207,9 @@ impl Document {
     }
 
     /// Exchanges the text, and gives the number of edits of the database: one for each block that
-    /// differs, or none if these are more than 64, when it is loaded anew.
+    /// differs, or none if these are more than 64, when it is loaded anew. The blocks that both
+    /// texts have in common at their ends stay. No clause says that no more edits are made than are
+    /// counted: to a contract a database is the list of its texts.
     ///
     /// # Errors
     /// Out of memory: the document is then empty.
@@ -233,7 +235,7 @@ impl Document {
         }
     }
 
-    /// The text.
+    /// The text, as it was given.
     pub fn text(&self) -> &[u8]
         ensures { result.now ≡ self.now }
     {
@@ -248,7 +250,7 @@ impl Document {
     }
 
     /// What is wrong with the source in the profile, in the order of its report, or the one refusal
-    /// of the whole source.
+    /// of the whole source. Nothing is kept.
     ///
     /// # Errors
     /// Out of memory.

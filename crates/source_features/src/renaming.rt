@@ -217,7 +217,8 @@ fn renamed(alloc: Global, document: &Document, rename: Rename<'_>) -> Result<Ren
 /// another name in the head of the block that owns it, and in all items `use=` of that name. The
 /// new name is refused if a source cannot give it, if another block owns it, or if no block has it
 /// and an item uses it; and if it cannot be put in the place of the old one within lines, or an
-/// editor cannot exchange that.
+/// editor cannot exchange that. A name that goes on over lines gets the new name line by line: from
+/// the last line on as many bytes as each had, and the first line what is left.
 ///
 /// # Errors
 /// Out of memory.
@@ -291,7 +292,8 @@ pub fn renames_keep_user_values()
 
 /// A law, with no code, on blocks as they are read before and after a rename that is accepted: each
 /// use leads to the block that it led to, each block says what it said once its uses are expanded,
-/// and so its entry is what it was, but for its names field.
+/// and so its entry is what it was, but for its names field. No law says that the blocks which the
+/// client has then are read so: one whose names field gets too long has E2.
 pub fn renames_keep_entries()
     ensures uses { UsesLeadWhereTheyDid }
     ensures sayings { BlocksSayWhatTheyDid }

@@ -65,7 +65,8 @@ fn near<'a>(alloc: Global, name: &[u8], others: &[&'a [u8]]) -> Result<Vec<&'a [
 }
 
 /// Those of some names that are nearest to one that is not among them: the first three of those
-/// that one edit leads to, or if there are none of those that two edits lead to.
+/// that one edit leads to, or if there are none of those that two edits lead to. An edit inserts,
+/// deletes or replaces a byte, and fewer of them lead to the name than it has bytes.
 ///
 /// # Errors
 /// Out of memory.

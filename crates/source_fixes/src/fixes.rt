@@ -319,6 +319,15 @@ fn fixes_from(
 /// If the source may have user-defined capabilities, no name is offered in place of one that is
 /// known, and the nearest known ones in place of one that is not.
 ///
+/// What is offered:
+/// - for an unknown capability (W1), the nearest names of capabilities of the kind that the sign
+///   says;
+/// - for another kind (W2), the sign of the capability's kind, if the value is read with it;
+/// - for an unknown escape (W3), the string as it is spelled, but for a CR at its end;
+/// - for a string that cannot be read (E5), a backslash before the `^` at its end, if it is read
+///   then;
+/// - for a name that no block has (E6), the nearest names of other blocks that a source can give.
+///
 /// # Errors
 /// Out of memory.
 pub fn fixes_of(

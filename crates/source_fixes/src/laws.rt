@@ -68,7 +68,7 @@ pub fn certain_edits_are_made()
 /// or the unknown name of its item away, and has changed no other item, whether a newline ends the
 /// text or not. Each comment and each blank line is as it was, on the line that it was on. In ASCII
 /// with no CR each place is the start of a character, so that no edit is left out there for its
-/// places.
+/// places. That the text is not too long for a document then is in no clause.
 pub fn fixes_heal()
     ensures fixes { FixesHeal }
     ensures ascii { AsciiPlacesAreStarts }

@@ -1,4 +1,4 @@
-//! What an editor offers against the faults of a document's items: the code actions of the Language
+//! What an editor offers against what is wrong with an item: the code actions of the Language
 //! Server Protocol 3.17, "Code Action Request", of the kind `quickfix`.
 //!
 //! - `distances`: the names that are nearest to one that nothing has

@@ -102,7 +102,8 @@ fn of_fault<'a>(
 }
 
 /// Those of some diagnostics that a fix of a document resolves: of the diagnostics of the document
-/// that of the fault which it fixes.
+/// that of the fault which it fixes. It is shown from the start of the item on, and is of a problem
+/// that the advice is against.
 ///
 /// # Errors
 /// Out of memory.

@@ -128,8 +128,9 @@ fn push_folds_at(
     Ok(())
 }
 
-/// The lines of a source that an editor may fold, in the order of their first lines: each entry from
-/// its names field to its last item, and comments that follow one another.
+/// The lines of a source that an editor may fold, in the order of their first lines: each entry
+/// from its names field to its last item, and comments that follow one another. What takes one line
+/// alone is not folded.
 ///
 /// # Errors
 /// Out of memory.

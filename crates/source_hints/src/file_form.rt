@@ -145,8 +145,10 @@ fn mark_hints(alloc: Global, text: &[u8]) -> Result<Vec<Hint>, AllocError>
     hints_at(alloc, HintKind::ByteOrderMark, 3, at)
 }
 
-/// The hints on the form of a whole file, each at most once, in the order in which they begin (N6).
-/// Their places are in bytes of the text, and they quote nothing.
+/// The hints on the form of a whole file, each at most once, in the order in which they begin (N6):
+/// on a byte order mark in front, on the first comment sign that is after white space at the start
+/// of a line, and on the first CR LF. Their places are in bytes of the text, and they quote
+/// nothing.
 ///
 /// # Errors
 /// Out of memory.

@@ -1,5 +1,5 @@
-//! Hints: what no fault of the report says and yet is a mistake. Those on a block by its items and
-//! its head are of `source_block_hints`.
+//! The hints on names and on the form of a file: what no fault of the report says and yet is a
+//! mistake. Those on a block by its items and its head are of `source_block_hints`.
 //!
 //! - `unknown`: the hints on user-defined names that are not known
 //! - `file_form`: the hints on the form of a whole file

@@ -23,7 +23,7 @@ impl Model for Installed {
 }
 
 impl Installed {
-    /// The names of a set.
+    /// The names of a set, in its order.
     ///
     /// # Errors
     /// Out of memory.

@@ -62,7 +62,8 @@ fn goes_on_line(line: &[u8], text: &[u8]) -> bool
 }
 
 /// Whether a part of a text, and what takes its place, are within a line of items, so that the edit
-/// leaves each comment and each blank line as it is.
+/// leaves each comment and each blank line as it is. Neither has a newline, and the line up to the
+/// end of each is neither a comment nor blank. It takes no memory.
 pub fn stays_in_line(text: &[u8], start: usize, end: usize, new: &[u8]) -> bool
     requires forward { start ≤ end }
     requires within { end ≤ length text.now }

@@ -1,9 +1,11 @@
-//! Places in a text as the Language Server Protocol counts them, by lines and UTF-16 columns.
+//! Places in a text, as the Language Server Protocol counts them: by lines and UTF-16 columns.
 //!
 //! - `position`: places in a text by lines and UTF-16 columns
 //! - `splicing`: a text with a part of it exchanged
 //! - `lines`: a line of a text, and laws of lines and columns
 //! - `walking`: the places of offsets, one after another
+//!
+//! Only `spliced` takes memory.
 #![tactic(auto)]
 
 pub mod laws;

@@ -113,8 +113,11 @@ fn has_user_defined(capabilities: Capabilities) -> bool
     }
 }
 
-/// The hints on a source of which the text of a document is read, by which capabilities it may have.
-/// Those on its blocks are kept, and are taken again for the same text.
+/// The hints on a source of which the text of a document is read, by which capabilities it may
+/// have. Those on its blocks are kept, and are taken again for the same text. A source that is
+/// refused has those on the form of its file alone. A hint on a block is on its item, as far as
+/// that is on its first line; its message has the name of the hint, what it quotes, and its
+/// sentence.
 ///
 /// # Errors
 /// Out of memory.

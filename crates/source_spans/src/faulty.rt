@@ -169,7 +169,7 @@ fn span_at(text: &[(u8, usize)], parts: &[Part], at: usize) -> Option<Part>
 }
 
 impl<'a> FaultFinder<'a> {
-    /// Before the first fault of a block.
+    /// A finder for the faults of a block, of which none is found yet.
     ///
     /// # Errors
     /// Out of memory.
@@ -237,7 +237,8 @@ impl<'a> FaultFinder<'a> {
     /// such part after those that were found; then all is as before.
     ///
     /// A fault of an item of a user-defined name is found by the warning of an unknown capability
-    /// that the item has without them, whatever its code is.
+    /// that the item has without them, whatever its code is. It is the first item of that name on
+    /// that line that is not passed, even if that one is sound: no more is known of it.
     pub fn find(&mut self, line: usize, code: Code, detail: Option<&[u8]>) -> Option<Part>
         ensures { (result, self.new) ≡ find self.old line code (option_map (λ name. name.now) detail.entry) }
     {

@@ -1,4 +1,4 @@
-//! The parts of a block with the bytes at which they are: what a cursor in an editor is on.
+//! The parts of a block, with the bytes at which they are: what a cursor in an editor is on.
 //!
 //! - `folding`: the text of a block without its comments and line breaks
 //! - `parts`: the names field with its names and the items, as parts of that text

@@ -179,7 +179,8 @@ fn push_example_of(
 }
 
 /// Adds a line with what the string of a capability gives for example parameters, as a source
-/// spells it; nothing, if it is no format. The capability takes parameters with these names.
+/// spells it, or that the stack is full; nothing, if it is not a format. The capability takes
+/// parameters with these names.
 ///
 /// # Errors
 /// Out of memory.

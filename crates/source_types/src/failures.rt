@@ -22,7 +22,7 @@ pub enum Failure {
 }
 
 impl Failure {
-    /// The number of the refusal.
+    /// The number of the refusal in the protocol.
     pub fn code(self) -> i32
         ensures { result ≡ code_of self }
     {

@@ -12,7 +12,7 @@ pub enum ItemKind {
 }
 
 impl ItemKind {
-    /// The number of the kind.
+    /// The number of the kind in the protocol.
     pub fn number(self) -> u32
         ensures { result ≡ item_number self }
     {

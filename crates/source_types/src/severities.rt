@@ -16,7 +16,7 @@ pub enum Severity {
 }
 
 impl Severity {
-    /// The number of the severity.
+    /// The number of the severity in the protocol.
     pub fn number(self) -> u32
         ensures { result ≡ severity_number self }
     {

@@ -32,7 +32,8 @@ fn table_of(state: &State) -> Option<&Table>
 
 /// A source of terminal descriptions as a list of blocks, which edits change one by one. It knows
 /// the compiled entry of each block and all faults, which are those of the whole current source. An
-/// edit makes anew what it touches and leaves the rest.
+/// edit makes anew what it touches and leaves the rest. Only edits, `faults`, `report`, `report_of`
+/// and `line_starts` take memory.
 #[derive(Drop)]
 pub struct Database {
     alloc: Global,
@@ -247,6 +248,8 @@ impl Database {
     }
 
     /// Makes an edit: `insert`, `replace`, `remove` or `relocate`, with the refusals of that call.
+    /// An accepted edit returns the positions of exactly the blocks that depend on it: the block
+    /// put in, and each that reaches a name of that block or of the one taken out.
     pub fn apply(&mut self, edit: &Edit<'_>) -> Result<Edited, EditError>
         ensures step { EditStep self.old (change_of edit.now) (outcome_of result) self.new }
         ensures rebuilds { IfOk result (λ edited. Rebuilds self.old (change_of edit.now) edited.rebuilt.items edited.work) }
@@ -272,10 +275,11 @@ fn run_one_by_one(alloc: Global, edits: &[Edit<'_>], outcomes: &mut Vec<Outcome>
 }
 
 /// Makes the edits in order, beginning with no blocks, and says what came of each. A refused edit
-/// leaves the list, and the next one follows. Memory may run out for the outcomes, before the first
-/// edit. What there is to find out about the blocks is found once, after the last edit, in a time
-/// that is linear, up to a logarithm, in what the edits say and in the values of the last list.
-/// Only if memory was refused for that is each edit made by itself, as `apply` makes it.
+/// leaves the list, and the next one follows. If there is no memory for an edit, it is refused with
+/// `Memory`; for the outcomes, the whole call is, before the first edit. What there is to find out
+/// about the blocks is found once, after the last edit, in a time that is linear, up to a
+/// logarithm, in what the edits say and in the values of the last list. Only if memory was refused
+/// for that is each edit made by itself, as `apply` makes it.
 pub fn run(alloc: Global, edits: &[Edit<'_>]) -> Result<(Database, Vec<Outcome>), AllocError>
     ensures { IfOk result (λ r. EditRun [] (map change_of edits.now) r.1.items r.0) }
 {

@@ -1,6 +1,6 @@
-//! A source of terminal descriptions that can be edited block by block, and that knows the compiled
-//! entry of every block: at every time what the whole current source gives when it is taken afresh.
-//! What that is, `base_meaning` says, whose edits and faults are public here again.
+//! A source that is edited block by block, and that knows the compiled entry of every block: at
+//! every time what the whole current source gives when it is taken afresh. What that is,
+//! `base_meaning` says, whose edits and faults are public here again.
 //!
 //! An edit is an exchange: at most one block is taken out of the list, and at most one is put in.
 //! The blocks that depend on it are then settled in the closing order of the components of their

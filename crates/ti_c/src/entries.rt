@@ -160,9 +160,10 @@ fn copied(alloc: Global, bytes: &[u8]) -> Result<Box<Entry<'static>>, u32>
     }
 }
 
-/// Reads an entry of a copy of the bytes, which C frees with `ti_entry_free`. The answer is 0,
-/// the number of the first refusal that holds, or 9 if memory was refused; if it is not 0, `entry`
-/// is as it was.
+/// Reads an entry of a copy of the bytes, which C frees with `ti_entry_free`. The answer is 0, the
+/// number of the first refusal that holds, or 9 if memory was refused; if it is not 0, `entry` is
+/// as it was. What `entry` refers to after 0 is only tested, since no clause follows the pointer:
+/// the private function that makes it is proved to return an entry of a copy of all the bytes.
 #[unsafe(no_mangle)]
 pub extern "C" fn ti_entry_new(alloc: Global, bytes: &[u8], entry: &mut *mut Entry<'static>) -> u32
     ensures is { CopyAnswer bytes.now result }

@@ -21,7 +21,8 @@ use ti_caps::{Cap, Kind};
 use ti_layout::{Table, Value, WriteError, write};
 
 /// A compiled entry of term(5), within its limit. Contracts see its names and a finite map of what
-/// each capability has, a cancelled one being absent. The bytes are the layout of these.
+/// each capability has, a cancelled one being absent. The bytes are the layout of these. It keeps
+/// the allocator that it was made with.
 #[derive(Drop)]
 pub struct Image {
     bytes: Vec<u8>,
@@ -60,7 +61,7 @@ impl Image {
         Ok(Image { bytes })
     }
 
-    /// The bytes of the entry.
+    /// The bytes of the entry. It takes no memory.
     pub fn bytes(&self) -> &[u8]
         ensures image { result.now ≡ bytes_of self.now }
         ensures within { length result.now ≤ image_limit (held_by self.now) }
@@ -68,7 +69,7 @@ impl Image {
         self.bytes.as_slice()
     }
 
-    /// The names field of the entry.
+    /// The names field of the entry. It takes no memory.
     pub fn names(&self) -> &[u8]
         ensures { result.now ≡ self.now.names }
     {
@@ -77,7 +78,8 @@ impl Image {
 
     /// The entry with the values of another table: a copy in which first each value that changes is
     /// taken away and then the new ones are given. If a number of either table is over 32,767, the
-    /// new entry is over the limit, or the copy gets no memory, the entry is written anew.
+    /// new entry is over the limit, or the copy gets no memory, the entry is written anew. The
+    /// bytes are the same either way, so no clause says which it was.
     ///
     /// # Errors
     /// [`WriteError::TooLarge`] exactly if [`write`] returns it, and [`WriteError::Memory`].
@@ -106,7 +108,7 @@ impl Image {
         let _ = &self.bytes;
     }
 
-    /// A copy of the entry.
+    /// A copy of the entry, with the same names and values.
     ///
     /// # Errors
     /// `AllocError` if memory ran out.
@@ -180,9 +182,9 @@ impl Image {
         }
     }
 
-    /// Gives a capability a value, or takes away what it has; a cancelled value is absent. What
-    /// is after it in the entry is moved, and the rest is not touched. A refused change leaves the
-    /// image as it was.
+    /// Gives a capability a value, or takes away what it has; a cancelled value is absent. What is
+    /// after it in the entry is moved, and the rest is not touched. Numbers grow wider, or narrower
+    /// again, with the format. A refused change leaves the image as it was.
     ///
     /// # Errors
     /// [`WriteError::TooLarge`] exactly if [`write`] of the names and the new values returns it,

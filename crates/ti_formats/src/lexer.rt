@@ -10,7 +10,7 @@ use crate::reader::read_code;
 use std::marker::Model;
 
 /// The tokens of a format that are left, up to the first `%` that begins no code which may come
-/// there.
+/// there. Its calls take no memory.
 #[derive(Drop)]
 pub struct Lexer<'a> {
     // The length of the whole format.
@@ -35,7 +35,7 @@ impl<'a> Model for Lexer<'a> {
 }
 
 impl<'a> Lexer<'a> {
-    /// At the start of a format.
+    /// The tokens of a format, from its start.
     pub fn new(format: &'a [u8]) -> Self
         ensures reading { IsReadingOf format.now (left_of result) }
         ensures bound { length (left_of result).tokens < 2 ^ 64 }

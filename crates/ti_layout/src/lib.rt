@@ -1,4 +1,4 @@
-//! Compiled terminfo entries, as term(5) lays them out.
+//! The layout of compiled entries, by term(5): tables of values, written and read.
 //!
 //! - `values`: the values of an entry, a finite map from capabilities
 //! - `merging`: two such maps made one; the first decides

@@ -122,7 +122,8 @@ impl Model for Mentions {
 }
 
 impl Mentions {
-    /// None yet, with room for the given number.
+    /// None yet, with room for the given number. That it makes the room is in no clause: without it
+    /// the calls are right, and slower.
     ///
     /// # Errors
     /// `AllocError` if memory ran out.

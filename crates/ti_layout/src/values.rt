@@ -73,7 +73,7 @@ impl Table {
         Table { entries }
     }
 
-    /// The value of a capability, or `None` if it has none.
+    /// The value of a capability, or `None` if it has none. It takes no memory.
     pub fn get(&self, cap: Cap) -> Option<&Value>
         ensures found { option_map (λ v. content_of v.now) result ≡ contents self.now cap }
         ensures agrees { IfSome result (λ v. Agrees cap (content_of v.now)) }

@@ -19,7 +19,8 @@ use ti_caps::{Cap, Kind};
 
 /// A compiled entry of term(5), in the legacy storage format or the extended number format, read
 /// where it is. It holds slices of the bytes that it was read from, so it takes no memory.
-/// Contracts see its names and what each capability has.
+/// Contracts see its names and what each capability has. The names and strings that it returns live
+/// as long as those bytes, and not only as long as the view.
 #[derive(Clone, Copy)]
 pub struct View<'a> {
     format: Format,
@@ -158,7 +159,7 @@ impl<'a> View<'a> {
         }
     }
 
-    /// The entry as its sections.
+    /// The entry as its sections, for a caller that holds it in another struct.
     pub fn parts(&self) -> ViewParts<'a>
         ensures names { result.names.now ≡ names_of self.now }
         ensures contents { parts_contents result ≡ view_contents self.now }
@@ -173,7 +174,7 @@ impl<'a> View<'a> {
         }
     }
 
-    /// The entry with such sections.
+    /// The entry with such sections. Nothing is looked through again.
     pub fn of_parts(parts: ViewParts<'a>) -> View<'a>
         ensures names { names_of result ≡ parts.entry.names.now }
         ensures contents { view_contents result ≡ parts_contents parts.entry }

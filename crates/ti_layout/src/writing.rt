@@ -54,8 +54,8 @@ impl From<AllocError> for WriteError {
 /// sizes are known before memory is asked for.
 ///
 /// # Errors
-/// `NamesTooLong` for names over 127 bytes, then `TooLarge` for an entry over its limit, then
-/// `Memory`.
+/// `NamesTooLong` for names over 127 bytes, then `TooLarge` for an entry over its limit, which is
+/// 4,096 bytes, or 32,768 with numbers of 32 bits, then `Memory`.
 pub fn write(alloc: Global, names: &[u8], table: &Table) -> Result<Vec<u8>, WriteError>
     requires present { names.now ≢ [] }
     requires no_nul { HasNoNul names.now }

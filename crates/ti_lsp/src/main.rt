@@ -2,6 +2,10 @@
 //!
 //! - `command`: what the words of the command line ask for
 //! - `environment`: the names of the entries that are installed
+//!
+//! It is `serve` of `lsp_server` over `Terminfo` of `server_answers`. A command line is served exactly
+//! if clap finds no error in it. Which entries are installed is read once, at the start; that it is
+//! read right is only tested.
 #![tactic(auto)]
 
 mod command;

@@ -6,6 +6,9 @@
 //! - `variable_tables`, `code_tables`: the lists of both, and their indexes by key
 //! - `index`: looks up a word in a list by its key
 //! - `laws`: each variable leads to its capability, and so does each code but one
+//!
+//! The lists are literals in `specs/`, and the tables are proved equal to them. No call takes
+//! memory.
 #![tactic(auto)]
 
 mod code_tables;

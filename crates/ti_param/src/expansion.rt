@@ -26,6 +26,9 @@ use ti_text::limits::PARAMETERS_MAX;
 /// work is in proportion to the format, the parameters and the bytes, and only the bytes take
 /// memory.
 ///
+/// Each format has exactly one tree or exactly one place where it is stuck, so the format, the
+/// parameters and the variables determine the result, except for out of memory.
+///
 /// # Errors
 ///
 /// The first of these: `BadFormat` if a `%` begins no code that may come there, in parts that are

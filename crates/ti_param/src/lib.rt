@@ -1,4 +1,4 @@
-//! Parameter strings and padding of a terminal's capabilities, as terminfo(5) has them under
+//! The meaning of parameter strings, and their padding, as terminfo(5) has them under
 //! "Parameterized Strings" and "Delays and Padding".
 //!
 //! - `values`: what is given to a parameter string, and the static variables.

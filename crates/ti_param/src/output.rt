@@ -40,7 +40,8 @@ impl Output {
         }
     }
 
-    /// The bytes as a slice. Over 64 are moved to memory.
+    /// The bytes as a slice. Over 64 are moved to memory. No clause says what the output has after
+    /// that.
     ///
     /// # Errors
     ///

@@ -80,7 +80,7 @@ impl Model for Statics {
 }
 
 impl Statics {
-    /// All 26 are 0.
+    /// All 26 are 0. It takes no memory.
     pub fn new() -> Self
         ensures { result ≡ no_variables }
     {

@@ -16,7 +16,8 @@ pub struct DelayedText<'a> {
 }
 
 /// The string cut at its first delay `$<..>`, with the time that is due there if the string takes
-/// effect on `lines` lines; `None` if it has no delay. See "Delays and Padding" in terminfo(5).
+/// effect on `lines` lines; `None` if it has no delay. See "Delays and Padding" in terminfo(5). It
+/// takes no memory.
 pub fn first_delay<'a>(text: &'a [u8], lines: u32, line: &Line) -> Option<DelayedText<'a>>
     ensures { MatchOption result (HasNoDelay text.now) (λ found. IsCutAtFirst text.now lines line.now found.before.now found.tenths found.after.now) }
 {

@@ -1,5 +1,5 @@
-//! What is printed by counts, as terminfo(5) has it: a printf form of a parameter string
-//! ("Parameterized Strings"), and a string with its delays as pad bytes ("Delays and Padding").
+//! printf forms and padding, as terminfo(5) has them: a form of a parameter string ("Parameterized
+//! Strings"), and a string with its delays as pad bytes ("Delays and Padding").
 //!
 //! - `printf`: what one of the printf forms prints
 //! - `padding`: a string with its padding as pad bytes, at a line's speed

@@ -9,7 +9,7 @@ use crate::walk::Blocks;
 /// The preface and the blocks of `source`, as parts of it. A block is a line that is not empty and
 /// begins with neither white space nor `#`, with the lines after it up to the next such line
 /// (X/Open Curses Issue 7, "Terminfo Source Format"). A last line without a newline belongs to the
-/// last block, unchanged.
+/// last block, unchanged. It takes no memory.
 pub fn blocks(source: &[u8]) -> Blocks<'_>
     ensures cut { spec.Cut source.now result.preface result.blocks }
     ensures preface { result.preface ≡ spec.front_of ascii.newline source.now }
@@ -20,7 +20,8 @@ pub fn blocks(source: &[u8]) -> Blocks<'_>
     Blocks::new(preface, rest)
 }
 
-/// Whether `text` is one block, with nothing before it, and ends with a newline.
+/// Whether `text` is one block, with nothing before it, and ends with a newline. It takes no
+/// memory.
 pub fn is_block(text: &[u8]) -> bool
     ensures { IsTrue result ↔ spec.OneBlock text.now }
 {

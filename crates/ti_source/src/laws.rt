@@ -16,7 +16,7 @@ pub fn each_has_cut()
     ensures { EachHasCut }
 {}
 
-/// A source has only one cut.
+/// A source has only one cut, which [`blocks`](crate::blocks) returns.
 pub fn one_cut()
     ensures { IsOnlyCut }
 {}

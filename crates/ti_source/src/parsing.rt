@@ -89,7 +89,8 @@ pub struct Parsed {
 }
 
 /// What a block says: its names field, its lookup names, its accepted items and its own faults, by
-/// X/Open Curses Issue 7, "Terminfo Source Format", and terminfo(5). Other blocks play no part.
+/// X/Open Curses Issue 7, "Terminfo Source Format", and terminfo(5). Each item and fault has its
+/// ordinal among the items, and its line. Other blocks play no part.
 ///
 /// A description may be wrong in many ways, and each is a fault of the answer. The only error is
 /// `AllocError`: there was no memory for the answer.

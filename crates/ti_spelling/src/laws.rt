@@ -8,7 +8,7 @@ pub fn one_outcome()
     ensures values { ValuesAreSound }
 {}
 
-/// The text that is written spells the value.
+/// What is written for bytes without a NUL is read back as these bytes.
 pub fn written_spells()
     ensures { WrittenSpells }
 {}
@@ -23,7 +23,7 @@ pub fn each_number_is_read()
     ensures { EachTextIsRead }
 {}
 
-/// A text has no other reading.
+/// A text has at most one of these readings.
 pub fn numbers_have_one_reading()
     ensures { NumbersHaveOneReading }
 {}

@@ -1,5 +1,5 @@
-//! How terminfo source spells the bytes of a string and the value of a number, as terminfo(5) and
-//! X/Open Curses Issue 7 ("Terminfo Source Format") describe it.
+//! How a source spells a string or a number, as terminfo(5) and X/Open Curses Issue 7 ("Terminfo
+//! Source Format") describe it.
 //!
 //! - `spelling`: from the text of a string value to the bytes that it spells, or the reason that it
 //!   spells none

@@ -293,7 +293,8 @@ fn decode(bytes: &mut Vec<u8>, raw: &[u8]) -> Result<bool, UnescapeError>
 ///
 /// A `^` just after a `%` is literal, so that the operator `%^` stays as it is. A backslash before
 /// a byte that the manual does not name spells that byte; a backslash at the end of the text spells
-/// itself. In both cases the answer is `odd`.
+/// itself. In both cases the answer is `odd`. The bytes hold no NUL, and are no more than those of
+/// the text.
 ///
 /// # Errors
 ///

@@ -1,7 +1,7 @@
 //! Growth into room that was made before, so that nothing can fail midway.
 ghost use Rattle.std.specs.Prelude.{◌≡◌, ◌+◌, ◌≤◌, ◌++◌, length, replicate, vec_len, vec_capacity};
 
-/// Appends the bytes. The caller has made room for them.
+/// Appends the bytes, for which the caller has made room: it takes no memory.
 pub fn append_reserved(out: &mut Vec<u8>, bytes: &[u8])
     requires { vec_len out.old + length bytes.now ≤ vec_capacity out.old }
     ensures items { out.new.items ≡ out.old.items ++ bytes.now }
@@ -11,7 +11,7 @@ pub fn append_reserved(out: &mut Vec<u8>, bytes: &[u8])
     out.extend_from_slice(bytes).unwrap();
 }
 
-/// Appends the byte `count` times. The caller has made room for them.
+/// Appends the byte `count` times. The caller has made room, so it takes no memory.
 pub fn fill_reserved(out: &mut Vec<u8>, byte: u8, count: usize)
     requires { vec_len out.old + count ≤ vec_capacity out.old }
     ensures items { out.new.items ≡ out.old.items ++ replicate count byte }

@@ -1,4 +1,4 @@
-//! The tools over terminfo entries, over any files and streams: what a tool makes of its input.
+//! What `tic` and `infocmp` make of their input, over any files and streams.
 //!
 //! - `compiling`: what `tic` makes of a source: files, a report and a status. `entry_files` names
 //!   the files of the entries, and `sources` says why a source is refused; the crate `tools_sources`

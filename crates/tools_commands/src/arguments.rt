@@ -213,7 +213,7 @@ fn job_of_program(alloc: Global, words: &[String]) -> Result<Job, Refusal>
 }
 
 /// What the words of a command line ask for, or why they ask for nothing, with the message. The
-/// first word is the program's name.
+/// first word is the program's name. What clap says is only tested.
 ///
 /// # Errors
 /// `Usage` if the words are not a command line of the program, and `Help` if they ask for help;
@@ -232,6 +232,11 @@ pub fn job_or_refusal(alloc: Global, words: &[String]) -> Result<Job, Refusal>
 }
 
 /// What the words of a command line ask for. The first word is the program's name.
+///
+/// The job is that of the matches which clap defines for the words. clap holds the names of `-s` by
+/// a reference, whose place in memory a contract can see: the result is right for some such place
+/// (`OfProgram`), and there is a result if there is one for each (`OfEachProgram`). That clap does
+/// not look at the place follows from its definition, and is not proved.
 ///
 /// # Errors
 /// `Usage` if the words are not a command line of the program, and `Help` if they ask for help;

@@ -1,6 +1,6 @@
 //! The names of the program and of its tools.
 
-/// The program.
+/// The name of the program.
 pub const PROGRAM: &str = "ti";
 
 /// The tool that compiles a source.

@@ -15,6 +15,9 @@ use std::io::{Read, Result, Write};
 /// A call through it raises the count of failures by one exactly if the device returns a fault, or
 /// takes no byte of a piece that has some. Each read raises the count of reads by one, and each write
 /// that of writes, which a flush that does not fail sets to zero.
+///
+/// That it does not call its device again after a failure, and that `flush` flushes the device, is
+/// only tested: the contract of the standard library sees a device by its bytes alone.
 #[derive(Drop)]
 pub struct Counted<D> {
     device: D,

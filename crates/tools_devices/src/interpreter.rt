@@ -42,7 +42,8 @@ pub trait Interpreter {
 /// Reads an input to its end, and has each line taken, one of at most `limit` bytes without its
 /// newline.
 ///
-/// The call holds one line, and never the whole input.
+/// The call holds one line, and never the whole input; room for that line is made before the first
+/// read.
 ///
 /// # Errors
 /// `ReadFault` if the reader fails, and after 4,294,967,296 reads; `WriteFault` if the writer

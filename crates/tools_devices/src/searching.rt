@@ -45,7 +45,8 @@ fn search<T: Tree>(
 }
 
 /// The file of a terminal's entry: `D/c/n` in the first directory `D` that has it, if `n` is the
-/// name and `c` its first byte. Of a file over 65,536 bytes it gives the first 65,537.
+/// name and `c` its first byte. Of a file over 65,536 bytes it gives the first 65,537. The tree
+/// counts one failure at `ReadFault`, and none else.
 ///
 /// # Errors
 /// `NoTerminal` if the name is not a lookup name, or no directory has its file; `ReadFault` if the

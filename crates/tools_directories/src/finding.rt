@@ -70,9 +70,10 @@ fn search_all<T: Tree>(
     search(alloc, tree, others.as_slice())
 }
 
-/// The file of a terminal's entry: the first that there is at the paths of
-/// [`crate::letter_paths`], or else at those of [`crate::hexadecimal_paths`]. A path is passed over if there is no file, or if the tree fails to read it, as for a directory
-/// that may not be searched.
+/// The file of a terminal's entry: the first that there is at the paths of [`crate::letter_paths`],
+/// or else at those of [`crate::hexadecimal_paths`]. A path is skipped exactly if there is no file,
+/// or if the tree fails to read it, as for a directory that may not be searched. Of a file over
+/// 65,536 bytes it gives the first 65,537. The tree counts each failure, and its files stay.
 ///
 /// # Errors
 /// `NoTerminal` if the name is not a lookup name, and nothing is then read, or if there is no file;

@@ -26,6 +26,7 @@ pub fn named_output<'a>(given: Option<&'a str>, environment: &Environment<'a>) -
 
 /// The directory for entries if none is named: [`SYSTEM_OUTPUT`] if files can be put there, else
 /// `.terminfo` below `HOME` if that is set and not empty, else [`SYSTEM_OUTPUT`] all the same.
+/// Whether files can be put there is for the system to say, and no contract knows it.
 ///
 /// # Errors
 /// `AllocError` if memory ran out.

@@ -1,13 +1,17 @@
 //! The files of the system and standard error, as the devices of `tools_devices`, for programs.
 //!
 //! - `disk_tree`: the files of the system as a tree (`DiskTree`); `new_file` replaces a file whole
-//!   and says whether a directory takes files (`takes_files`), and `made_directories` knows the directories that a run has made
+//!   and says whether a directory takes files (`takes_files`), and `made_directories` knows the
+//!   directories that a run has made
 //! - `whole`: files and standard input read whole (`read_up_to`, `read_whole`,
 //!   `read_source`)
 //! - `error_stream`: standard error as a writer (`ErrorStream`)
 //! - `reasons`: what the system says of a failure, in its words (`reason`)
 //!
 //! What the system holds is not known to a contract; it sees failures, and the most that is read.
+//!
+//! `read_source`, `reason` and the writes of `ErrorStream` have no `ensures`, and `tests/cli` tries
+//! them.
 #![tactic(auto)]
 
 mod disk_tree;

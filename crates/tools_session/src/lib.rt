@@ -1,5 +1,4 @@
-//! The session: a script that edits a source and asks of it, over any reader and writer, and its
-//! replies.
+//! A script that edits a source and asks of it, over any reader and writer, and its replies.
 //!
 //! - `streaming`: the session. `editor` holds the source and the block that is open, `requests`
 //!   says what a line asks for, and `replies` writes what it is answered

@@ -16,6 +16,8 @@ const LINE_MAX: usize = 65_536;
 ///
 /// The call holds one line, one block and the source, and never the whole script.
 ///
+/// An edit for which no cause of a refusal holds, and a report, may get the reply `refused Memory`.
+///
 /// # Errors
 /// `ReadFault` if the reader fails, and after 4,294,967,296 reads; `WriteFault` if the writer
 /// fails; `LineTooLong` at a line of more than 65,536 bytes, without its newline; `Memory`, only

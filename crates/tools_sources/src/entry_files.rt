@@ -65,7 +65,8 @@ fn add_owned(
 }
 
 /// Adds the files of an entry of the block at a position, below a directory: one for each lookup
-/// name that the block owns, in the order of its names.
+/// name that the block owns, in the order of its names. Each file is in a directory named by the
+/// first byte of the name.
 ///
 /// # Errors
 /// `AllocError` if memory ran out.

@@ -1,5 +1,5 @@
-//! What is known about a whole source before any of it is compiled: its preface, the lines and
-//! texts of its blocks, and why it is refused; a database of its blocks; and the files of an entry.
+//! A whole source before any of it is compiled: its preface, the lines and texts of its blocks, and
+//! why it is refused; a database of its blocks; and the files of an entry.
 //!
 //! - `source_error`: why a source is refused
 //! - `checking`: whether a source is refused, and the line of its first block

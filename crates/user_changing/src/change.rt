@@ -109,7 +109,9 @@ fn fault_of(change: &Change<'_>) -> Option<ChangeFault>
     None
 }
 
-/// The place of the first change that cannot be made, and why; `None` if all can.
+/// The place of the first change that cannot be made, and why; `None` if all can. A change can be
+/// made if a capability of the tables has its name, or a user-defined one may, and its value is of
+/// that kind and can be written: a number of at most 2,147,483,647, or a string without a NUL.
 pub fn first_fault(changes: &[Change<'_>]) -> Option<(usize, ChangeFault)>
     ensures none { IfNone result (All CanBeMade (edits_of changes.now)) }
     ensures some { IfSome result (λ r. IsFirstFault (edits_of changes.now) r.0 r.1) }

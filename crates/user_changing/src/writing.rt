@@ -16,7 +16,8 @@ use user_extension::{Extension, write};
 
 /// The entry of a names field that holds what changes leave of an entry and its user-defined
 /// capabilities: the last change of a name decides, and what is not named is as before. A cancelled
-/// capability is absent.
+/// capability is absent. User-defined capabilities are in the order of kinds and names. The bytes
+/// are read as just that.
 ///
 /// # Errors
 /// `NamesTooLong` for names over 127 bytes, then `TooLarge` for an entry over its limit, and

@@ -12,10 +12,12 @@ use crate::fault::ExtensionError;
 use crate::view::Extension;
 use ti_layout::{Header, View};
 
-/// Reads an entry and its user-defined capabilities.
+/// Reads an entry and its user-defined capabilities. The extension is what follows the entry, from
+/// an even offset on; if that is less than ten bytes, there is none. It takes no memory.
 ///
 /// # Errors
-/// The refusal of the entry, or `BadExtension`.
+/// The refusal of the entry; then `BadExtension`, exactly if at least ten bytes follow the entry
+/// and are not an extension.
 pub fn read(bytes: &[u8]) -> Result<(View<'_>, Extension<'_>), ExtensionError>
     ensures entry { IfOk result (λ r. Reads bytes.now (names_of r.0) (view_contents r.0)) }
     ensures rows { IfOk result (λ r. read_rows r.1 ≡ rows_after bytes.now) }

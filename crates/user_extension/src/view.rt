@@ -107,7 +107,7 @@ impl<'a> Extension<'a> {
         self.names.len() / 2
     }
 
-    /// The name of the row at a place.
+    /// The name of the row at a place. The name is user-defined.
     pub fn name(&self, place: usize) -> &'a [u8]
         requires { place < length (read_rows self.now) }
         ensures name { Some result.now ≡ option_map (λ row. row.0) (slice_get (read_rows self.now) place) }
@@ -116,7 +116,8 @@ impl<'a> Extension<'a> {
         self.name_at(place)
     }
 
-    /// The value of the row at a place; `None` if it is absent or cancelled.
+    /// The value of the row at a place; `None` if it is absent or cancelled. A number is at most
+    /// 2,147,483,647, and a string holds no NUL.
     pub fn value(&self, place: usize) -> Option<Content<'a>>
         requires { place < length (read_rows self.now) }
         ensures value { Some (option_map content_seen result) ≡ option_map (λ row. row.1) (slice_get (read_rows self.now) place) }
@@ -125,8 +126,8 @@ impl<'a> Extension<'a> {
         self.value_at(place)
     }
 
-    /// The value of a name; `None` if no row of it is present. It takes a binary search for each
-    /// kind.
+    /// The value of a name, that of the first row of the name that is present; `None` if none is.
+    /// It takes a binary search for each kind.
     pub fn get(&self, name: &[u8]) -> Option<Content<'a>>
         ensures value { option_map content_seen result ≡ said (read_rows self.now) name.now }
         ensures sound { IfSome result (λ value. IsValue (content_seen value)) }
@@ -142,7 +143,7 @@ impl<'a> Extension<'a> {
         self.get_between(name, third, self.len())
     }
 
-    /// The extension as its sections.
+    /// The extension as its sections, for a caller that holds it in another struct.
     pub fn parts(&self) -> ExtensionParts<'a>
         ensures { parts_rows result ≡ read_rows self.now }
     {
@@ -157,7 +158,7 @@ impl<'a> Extension<'a> {
         }
     }
 
-    /// The extension with such sections.
+    /// The extension with such sections. Nothing is looked through again.
     pub fn of_parts(parts: ExtensionParts<'a>) -> Extension<'a>
         ensures { read_rows result ≡ parts_rows parts.entry }
     {

@@ -213,7 +213,9 @@ fn format_wanted(table: &Table, rows: &[UserDefined<'_>]) -> Format
 }
 
 /// The compiled entry of a names field, of a table and of user-defined capabilities, which are in
-/// the order of their kinds and names.
+/// the order of their kinds and names. The extension follows the image of the table; without
+/// user-defined capabilities there is none. Numbers take 32 bits if any number, of the table or
+/// user-defined, is over 32,767.
 ///
 /// # Errors
 /// `NamesTooLong` for names over 127 bytes, then `TooLarge` for an entry over its limit, then

@@ -23,7 +23,7 @@ fn is_unknown(code: Code) -> bool
 }
 
 /// Whether a fault with this code and detail is the warning (W1) of an unknown name that is
-/// user-defined.
+/// user-defined. It takes no memory.
 pub fn is_user_warning(code: Code, detail: &Option<RcSlice<u8>>) -> bool
     ensures { result ≡ is_warning_with code (option_map rc_slice_items detail.now) }
 {

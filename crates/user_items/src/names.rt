@@ -18,7 +18,8 @@ fn has_user_defined_bytes(text: &[u8]) -> bool
 }
 
 /// Whether a name is that of a user-defined capability: it is not empty, has only letters, digits
-/// and `%`, `&`, `*` and `!`, and is neither `use` nor the name of a capability of the tables.
+/// and `%`, `&`, `*` and `!`, and is neither `use` nor the name of a capability of the tables. It
+/// takes no memory.
 #[tactic(auto, unfolding(crate::specs::Names::is_user_defined_name))]
 pub fn is_user_defined_name(name: &[u8]) -> bool
     ensures { result ≡ spec.is_user_defined_name name.now }

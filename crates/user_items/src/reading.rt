@@ -65,7 +65,9 @@ pub struct UserItems {
 }
 
 /// The items of a block that speak of user-defined capabilities, and its uses, in order, with what
-/// is wrong with them (tic(1), user_caps(5)).
+/// is wrong with them (tic(1), user_caps(5)). A value that cannot be read is W5, and its item says
+/// nothing; an unknown escape is W3. The block is folded and cut into its names field and items as
+/// `ti_source` does it.
 ///
 /// # Errors
 /// Out of memory.

@@ -1,7 +1,7 @@
-//! Listings of compiled entries with their user-defined capabilities, as infocmp(1) prints them at
-//! `-x`: an entry as source text, two entries compared, and an entry as it differs from others.
-//! What an entry has by a name that is in none of the tables comes after what it has of the tables,
-//! kind by kind, in the order of the names.
+//! Listings with user-defined capabilities, as infocmp(1) prints them at `-x`: an entry as source
+//! text, two entries compared, and an entry as it differs from others. What an entry has by a name
+//! that is in none of the tables comes after what it has of the tables, kind by kind, in the order
+//! of the names.
 //!
 //! ```text
 //! mine,

@@ -1,8 +1,11 @@
-//! The laws of reading back what was listed with user-defined capabilities. They compute nothing:
-//! each is the contract of a function whose code only calls other laws.
+//! The laws of reading listings back, with user-defined capabilities. They compute nothing: each is
+//! the contract of a function whose code only calls other laws.
 //!
 //! - `reading_back`: what is laid out as a listing is read as the user-defined items that it lists,
 //!   and so are the listings and the relative sources of entries
+//!
+//! They speak of names fields that can be listed, of values of the tables that a source can give,
+//! and of user-defined names whose values can be written.
 #![tactic(auto)]
 
 mod reading_back;
