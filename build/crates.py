@@ -5,7 +5,7 @@
 
 A line is `NAME: DEPENDENCY ..`; between the name and the colon a line may have the word
 `staticlib` (a static library) and words `KEY=VALUE`. A comment line `# LAYER: WHAT IT HOLDS`
-begins a layer. A crate depends only on crates that stand above its line, so that a layer never
+begins a layer. A crate depends only on crates above its own line, so that a layer never
 leans on one below it: whoever reads the file refuses anything else.
 """
 
@@ -44,12 +44,12 @@ def read_lines(lines):
 
 
 def refuse_leaning(crates):
-    """Stops if a crate depends on one that does not stand above it."""
+    """Stops if a crate depends on one that is not above it."""
     above = set()
     for crate in crates.values():
         for need in crate.needs:
             if need in crates and need not in above:
-                raise SystemExit(f"crates.txt: {crate.name} depends on {need}, which does not stand above it")
+                raise SystemExit(f"crates.txt: {crate.name} depends on {need}, which is not above it")
         above.add(crate.name)
 
 

@@ -246,7 +246,7 @@ def leans(*lines):
     try:
         read_lines(lines)
     except SystemExit as refusal:
-        return "does not stand above it" in str(refusal)
+        return "is not above it" in str(refusal)
     return False
 
 
