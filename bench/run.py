@@ -4,7 +4,7 @@
     bench/run.py [PART..]      the parts named, or all but `glance`
 
 glance    the rows of the first table of docs/PERFORMANCE.md alone, some three minutes
-daily     the tools for daily use: `ti-tic`, `ti-lint`, `ti-infocmp` and `ti-tput`
+daily     the everyday tools: `ti-tic`, `ti-lint`, `ti-infocmp` and `ti-tput`
 entries   sources of many entries, compiled into files: 1,800 of 1.1 KB each with the same items;
           1,800 of which no two have a string in common; 1,800 of which 1,500 have a use; 2,000
           small ones; and 1,000 of which all but the first use one before them
@@ -119,7 +119,7 @@ def tools(room):
 
 def daily(room):
     if not os.access(EVERYDAY, os.X_OK):
-        NOTES.append("the tools for daily use: left out, since ti-everyday is not built: make everyday")
+        NOTES.append("the everyday tools: left out, since ti-everyday is not built: make everyday")
         return
     ours = lambda tool, *words: [EVERYDAY, f"ti-{tool}", *words]
     if MASTER:

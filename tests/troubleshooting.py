@@ -86,7 +86,7 @@ ROWS = {
     "bad usage: ..": (["ti infocmp -u dumb", "ti tput"], {"COMMAND": "infocmp"}, ""),
     "error: .., then several lines": (["ti no-such", "ti tput --no-such"], {"COMMAND": "tput"}, ""),
 }
-# the same for the table of the tools for daily use
+# the same for the table of the everyday tools
 TOOLS_ROWS = {
     "FILE:2:6: error: cols: .. [E3 BadNumber]": (["printf 'x,\\n\\tam, cols#8o,\\n' | ti-tic -c -"], {}, ""),
     ".. warning: Tc: .. [W1 UnknownCapability]": (

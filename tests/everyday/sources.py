@@ -17,7 +17,7 @@ SOURCES = {
     "xterm": ("xterm", "*/terminfo", {}),
     "ncurses": ("ncurses", "*/misc/terminfo.src", {}),
 }
-# how many hints of each code are on a source as this release has it: docs/EDITORS.md says on what
+# how many hints of each code are on a source as this release has it
 HINTS_RELEASE = "bookworm"
 HINTS = {
     "foot": {}, "dvtm": {"N4": 1}, "rxvt-unicode": {}, "kitty": {}, "xterm": {}, "ncurses": {"N2": 5, "N7": 7},
