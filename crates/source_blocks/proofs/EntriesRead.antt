@@ -59,14 +59,14 @@ items_fit of_name h (i ∷ is) ms k e =
     (both_fit p.front p.back (said_fits of_name h i.said p.front (All-head ItemSets i is k) p.front_is)
     (items_fit of_name h is p.back (All-tail ItemSets i is k) p.back_is))
 
+one_kept : (b : Bool) (m : Mention) (ms : List Mention) → Agrees m.0 m.1 → MentionsFit ms → MentionsFit (cond b (m ∷ ms) ms)
+one_kept true m ms fits others = (fits, others)
+one_kept false m ms fits others = others
+
 -- the mentions that are not cancelled are among the mentions
 kept_fit : (p : Mention → Bool) (ms : List Mention) → MentionsFit ms → MentionsFit (filter p ms)
 kept_fit p [] f = tt
-kept_fit p (m ∷ ms) f = one_kept (p m)
-  where
-    one_kept : (b : Bool) → MentionsFit (cond b (m ∷ filter p ms) (filter p ms))
-    one_kept true = (f.0, kept_fit p ms f.1)
-    one_kept false = kept_fit p ms f.1
+kept_fit p (m ∷ ms) f = one_kept (p m) m (filter p ms) f.0 (kept_fit p ms f.1)
 
 uncancelled_fit : (ms : List Mention) → MentionsFit ms → MentionsFit (uncancelled ms)
 unfolding uncancelled
