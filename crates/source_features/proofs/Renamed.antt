@@ -303,7 +303,9 @@ own_alike name new (item ∷ items) (other ∷ others) e =
     let first : other.said ≡ renamed_said name new item.said = cc in
     let more : SaidAlike name new items others = cc in
     let own = own_alike name new items others more in
-    rw (first, one_said name new item) (by_use (is_use item.said) own (alike_behind name new (own_items items) (own_items others) item other own first))
+    let same : is_use other.said ≡ is_use item.said = ap is_use first ∙ one_said name new item in
+    subst (λ (b : Bool). SaidAlike name new (own_items (item ∷ items)) (cond b (own_items others) (own_items others ++ other ∷ []))) (sym same)
+    (by_use (is_use item.said) own (alike_behind name new (own_items items) (own_items others) item other own first))
   where
     by_use : (b : Bool) → SaidAlike name new (own_items items) (own_items others)
         → SaidAlike name new (own_items items ++ item ∷ []) (own_items others ++ other ∷ [])
@@ -319,7 +321,9 @@ uses_alike name new (item ∷ items) (other ∷ others) e =
     let first : other.said ≡ renamed_said name new item.said = cc in
     let more : SaidAlike name new items others = cc in
     let later = uses_alike name new items others more in
-    rw (first, one_said name new item) (by_use (is_use item.said) later (ap (λ (ss : List Said). other.said ∷ ss) later
+    let same : is_use other.said ≡ is_use item.said = ap is_use first ∙ one_said name new item in
+    subst (λ (b : Bool). SaidAlike name new (use_items (item ∷ items)) (cond b (other ∷ use_items others) (use_items others))) (sym same)
+    (by_use (is_use item.said) later (ap (λ (ss : List Said). other.said ∷ ss) later
     ∙ ap (λ (s : Said). s ∷ map (λ (i : ReadItem). renamed_said name new i.said) (use_items items)) first))
   where
     by_use : (b : Bool) → SaidAlike name new (use_items items) (use_items others)
