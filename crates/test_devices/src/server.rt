@@ -1,9 +1,9 @@
 //! The language server over an input and an output that end in each byte of a session.
 use crate::{Drip, End, Narrow};
-use server_answers::Terminfo;
 use lsp_frames::{Buffered, FrameError, write_frame};
-use source_installed::Installed;
 use lsp_server::{Server, serve};
+use server_answers::Terminfo;
+use source_installed::Installed;
 use std::alloc::{AllocError, Global};
 use std::collections::BTreeSet;
 use std::process::Abort;

@@ -2,13 +2,13 @@
 ghost use Rattle.std.specs.Prelude.{◌≤◌, IfOk, IfSome, length};
 
 use crate::stopping::Stop;
-use tools_directories::{Environment, entry_directories};
 use everyday_tput::Sources;
 use std::alloc::{AllocError, Global};
 use std::env::{self, FillError, VarError};
 use std::fs;
 use std::rt::{Env, Files};
 use std::str::from_utf8;
+use tools_directories::{Environment, entry_directories};
 
 // How much room is made for a variable at first. Few are longer.
 const ROOM: usize = 512;

@@ -2,9 +2,6 @@
 use crate::environment::Variables;
 use crate::output::print_bytes;
 use crate::stopping::Stop;
-use tools_directories::{
-    Environment, SYSTEM_OUTPUT, entry_directories, named_output, unnamed_output,
-};
 use everyday_entries::Failure;
 use everyday_lint::{Capabilities, hint_lines};
 use everyday_tic::{TicOptions, TicStop};
@@ -13,6 +10,9 @@ use std::fs;
 use std::io::{self, Write};
 use std::rt::{Clock, Env, Files};
 use tools_devices::{Counted, ToolError};
+use tools_directories::{
+    Environment, SYSTEM_OUTPUT, entry_directories, named_output, unnamed_output,
+};
 use tools_disk::{DiskTree, ErrorStream, read_whole, reason, takes_files};
 
 // What is said of a directory for entries that takes no files.

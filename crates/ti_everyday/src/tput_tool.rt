@@ -4,7 +4,6 @@ use crate::infocmp_tool::stop_of;
 use crate::output::print_bytes;
 use crate::start_files::StartContent;
 use crate::stopping::Stop;
-use tools_directories::read;
 use everyday_entries::{Failure, Found, Tool, capability_line, named_file};
 use everyday_tput::{BAD_COMMAND, Entry, Target, modes_asked, needs_extension, tput, tput_lines};
 use everyday_words::TputRequest;
@@ -13,6 +12,7 @@ use std::io::{self, Write};
 use std::rt::{Clock, Env, Files};
 use ti_caps::{Kind, find};
 use tools_devices::{Counted, ToolError};
+use tools_directories::read;
 use tools_disk::{DiskTree, ErrorStream};
 use user_extension::ExtensionError;
 

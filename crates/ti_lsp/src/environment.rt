@@ -1,5 +1,4 @@
 //! The names of the entries that are installed, by the environment.
-use tools_directories::{Environment, entry_directories};
 use source_blocks::can_be_given;
 use source_installed::{Installed, is_directory_of};
 use std::alloc::{AllocError, Global};
@@ -7,6 +6,7 @@ use std::collections::BTreeSet;
 use std::env::{self, VarError};
 use std::fs;
 use std::rt::{Env, Files};
+use tools_directories::{Environment, entry_directories};
 
 // What a variable of the environment is set to. One that is not text is as if it were not set.
 fn variable<R: Env + AllocGlobal>(

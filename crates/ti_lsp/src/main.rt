@@ -13,9 +13,9 @@ mod environment;
 
 use crate::command::{Task, asked};
 use crate::environment::installed_names;
-use server_answers::Terminfo;
 use lsp_frames::{Buffered, FrameError};
 use lsp_server::{Server, serve};
+use server_answers::Terminfo;
 use std::process::ExitCode;
 use std::rt::{Env, Files};
 use std::{env, io};
