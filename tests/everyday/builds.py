@@ -18,7 +18,9 @@ LIMITS = "docs/COMPARED.md, under tic: names over 127 bytes are an error, and en
 LINKS = "ours are files, and links lead nowhere once Debian's rules have moved the entry"
 OPTION = "the option is refused by name"
 STOPS = "the build stops at an error"
+THROUGH = "tic writes the entry of rxvt-color through the link that was there, and so into the file of rxvt"
 VERSION = "run-tic.sh wants a date in the version of tic, as in 6.4.20221231"
+RXVT, RXVT_COLOR = (b"%s|rxvt terminal emulator (X Window System)\0" % name for name in (b"rxvt", b"rxvt-color"))
 # in what each build differs, with its cause
 DIFFERENCES = {
     "kitty, build-terminfo": {
@@ -34,6 +36,7 @@ DIFFERENCES = {
         "names over 127 bytes": LIMITS, "spelled otherwise": ENTRIES, "cancelled values": ENTRIES,
         "absent user-defined names": ENTRIES, "a cancel that comes by a use": ENTRIES,
         "a link that leads nowhere": LINKS,
+        f"debian/tmp/lib/terminfo/r/rxvt: names {RXVT!r} and {RXVT_COLOR!r}": THROUGH,
     },
     "ncurses, MKfallback.sh": {
         "status 1 in place of 0": LIMITS, "ncurses/fallback.c: other bytes": STOPS, "written by ti-tic alone": STOPS,
@@ -141,7 +144,7 @@ def difference(path, ours, theirs):
         return "a link that leads nowhere"
     if all(content is None or images.is_entry(content) for content in (ours, theirs)):
         cause = images.cause_of(path, ours, theirs)
-        return cause if cause in images.CAUSES or None in (ours, theirs) else f"{path}: {cause}"
+        return cause if not cause or cause in images.CAUSES or None in (ours, theirs) else f"{path}: {cause}"
     return f"{path}: {'missing' if ours is None else 'written by ours alone' if theirs is None else 'other bytes'}"
 
 
