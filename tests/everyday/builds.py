@@ -47,6 +47,10 @@ DIFFERENCES = {
         "status 1 in place of 0": VERSION, "other words on standard output": VERSION, "written by tic alone": VERSION,
         "over 4,096 bytes": VERSION,
     },
+    "xterm, tic -x": {
+        "status 1 in place of 0": LIMITS, "over 4,096 bytes": LIMITS, "spelled otherwise": ENTRIES,
+        "cancelled values": ENTRIES,
+    },
     "xterm, terminfo.out": {"status 2 in place of 0": OPTION, "terminfo.out: other bytes": OPTION},
     "xterm, termcap.out": {"status 2 in place of 0": OPTION, "termcap.out: other bytes": OPTION},
 }

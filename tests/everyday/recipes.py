@@ -131,10 +131,11 @@ def rxvt_unicode_commands(tree):
 
 
 def xterm_commands(tree):
-    """What installs the entries, and the translations of the sources."""
+    """What installs the entries, the same without the script, and the translations of the sources."""
     write(text_of(tree, "run-tic.in"), tree, "run-tic.sh")
     makefile = text_of(tree, "Makefile.in")
     yield "run-tic.sh", commands_of(makefile, "install-ti", VARIABLES)
+    yield "tic -x", "tic -x -o direct terminfo"
     yield "terminfo.out", commands_of(makefile, "terminfo.out", VARIABLES)
     yield "termcap.out", commands_of(makefile, "termcap.out", VARIABLES)
 
