@@ -34,8 +34,8 @@ VARIABLES = {
     "tabsetdir": "/usr/share/tabset", "tempdir": "$TREE/debian/tmp", "ticdir": "/etc/terminfo", "tinfo": "./tinfo",
     "top_srcdir": "..",
 }
-# a remote system, for the command of rxvt-unicode's page: another home, and TERMINFO as the page has it, since root's
-# entries are the system's
+# a remote system, for the command of rxvt-unicode's page: another home, and TERMINFO as the page
+# has it, since root's entries are the system's
 SSH = """#!/bin/sh
 HOME=$TREE/$1 TERMINFO=$TREE/$1/.terminfo
 export HOME TERMINFO

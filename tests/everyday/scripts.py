@@ -26,7 +26,7 @@ TWO = ("xterm-256color", "dumb")
 ENTER = os.path.join(os.path.dirname(os.path.dirname(os.path.abspath(__file__))), "newcomers", "enter")
 PATH = "/usr/games:/usr/sbin:/usr/bin:/sbin:/bin"
 EXAMPLES, PALETTES = "/usr/libexec/ncurses-examples", "/usr/share/ncurses-examples"
-# what the calls read: tests, a repository, a package to be built, and a tmux that says how it is called
+# what the calls read: tests, a repository, a package, and a tmux that says how it is called
 FILES = {
     "tests.bats": '@test "one" { true; }\n@test "two" { false; }\n@test "three" { skip "later"; }\n',
     "bin/tmux": '#!/bin/sh\ncase $1 in *-window) ;; *) echo "tmux $*, $BYOBU_TERM";; esac\n',
