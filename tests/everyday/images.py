@@ -113,3 +113,18 @@ def alone(theirs):
     if int.from_bytes(theirs[2:4], "little") > 128:
         return "names over 127 bytes"
     return "over 4,096 bytes" if len(theirs) > 4096 else "written by tic alone"
+
+
+def cause_of(file, ours, theirs):
+    """Why the entries of a file differ, None if they are alike."""
+    if theirs is None:
+        return "written by ti-tic alone"
+    if ours is None:
+        return alone(theirs)
+    cause = difference(ours, theirs)
+    return KNOWN.get("/".join(file.split("/")[-2:]), cause) if cause else None
+
+
+def is_entry(content):
+    """Whether a file is an entry of either format."""
+    return content[:2] in (b"\x1a\x01", b"\x1e\x02")

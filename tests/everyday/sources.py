@@ -72,8 +72,10 @@ def file_of(directory, package, pattern):
     return None
 
 
-def fetch(room):
-    """Puts the sources that can be had into a directory, by their names. Gives their paths."""
+def list_sources(room):
+    """Makes lists of source packages in a directory, which has the lists and the cache of apt then, if there are none."""
+    if os.path.exists(os.path.join(room, "parts")):
+        return
     uri, key = mirror()
     for part in ("parts", "lists/partial", "cache/archives/partial"):
         os.makedirs(os.path.join(room, part))
@@ -81,6 +83,11 @@ def fetch(room):
         file.write(f"Types: deb-src\nURIs: {uri}\nSuites: {release()}\nComponents: main\nSigned-By: {key}\n")
     if not apt(room, "update"):
         raise Skipped("Debian's source packages cannot be listed here")
+
+
+def fetch(room):
+    """Puts the sources that can be had into a directory, by their names. Gives their paths."""
+    list_sources(room)
     found = {}
     for name, (package, pattern, words) in SOURCES.items():
         apt(room, "source", "--download-only", "--tar-only", package)
