@@ -7,14 +7,17 @@ use Rattle.std.proofs.lemmas.List.{length-map, map-set}
 use Rattle.std.proofs.lemmas.List.Edits.{length-remove}
 use Rattle.std.proofs.lemmas.List.Elements.{All-from_recursion, All-contains}
 use Rattle.std.proofs.lemmas.Option.{same_Some, slice_get-map}
+use Rattle.ti_source.specs.declared.parsing.Rule.{Rule}
+use Rattle.ti_source.specs.declared.parsing.Rule.TheVariants.{Leftmost}
 use Rattle.ti_source.specs.Reading.{Reading}
-use Rattle.ti_source.specs.Parsing.{reading_of_text}
 use Rattle.ti_source.specs.Sound.{IsRising}
-use Rattle.base_meaning.specs.Owner.{is_among, owner, owner_block, readings}
+use Rattle.base_meaning.specs.Owner.{is_among, owner, owner_block}
+use Rattle.base_meaning.specs.Readings.{reading_by, readings_by}
 use Rattle.base_meaning.specs.Edits.{Change, insertion, replacement, removal, relocation, IsInPlace, list_after}
-use Rattle.base_meaning.specs.Exchange.{PlacedBlock, Exchange, IsExchange, with_block, HasPlace, new_list, block_from, exchange_of, LeadsOn, EditsAreExchanges}
+use Rattle.base_meaning.specs.Exchange.{PlacedBlock, Exchange, IsExchange, with_block, HasPlace, new_list, block_from, exchange_by, exchange_of, LeadsOn}
+use Rattle.base_meaning.specs.Exchange.{EditsAreExchanges}
 use Rattle.base_meaning.specs.Dependents.{lookup_names_of, touched_names, IsPutAt, IsDependent, DependentsAreDetermined, UsersOfDependentsDepend}
-use Rattle.base_meaning.specs.Dependents.{DependentsAreFound, RebuildsAreDetermined, work}
+use Rattle.base_meaning.specs.Dependents.{DependentsAreFound, Rebuilds, RebuildsAreDetermined, work}
 use Rattle.base_meaning.specs.Reaching.{Uses, IsUseWay}
 use Rattle.base_meaning.specs.UseLaws.{UsesBlock}
 use Rattle.base_meaning.proofs.UseLawProofs.{has_owner}
@@ -36,8 +39,8 @@ item_at [] at l = absurd (omega arith)
 item_at (x ∷ xs) zero l = (x, refl)
 item_at (x ∷ xs) (suc at) l = item_at xs at (omega arith)
 
-length-readings : (texts : List (List ℕ)) → length (readings texts) ≡ length texts
-length-readings texts = length-map texts reading_of_text
+length-readings : (rule : Rule) (texts : List (List ℕ)) → length (readings_by rule texts) ≡ length texts
+length-readings rule texts = length-map texts (reading_by rule)
 
 out_fits : (bs : List Reading) (at to : ℕ) → at < length bs → to < length bs → HasPlace (remove bs at) (block_from bs at to)
 out_fits bs at to l m =
@@ -48,44 +51,46 @@ out_fits bs at to l m =
 taken_back : (bs : List Reading) (at : ℕ) → at < length bs → with_block (remove bs at) (block_from bs at at) ≡ bs
 taken_back bs at l = let b = item_at bs at l in rw b.1 (insert-remove bs at b.0 b.1)
 
-moved : (texts : List (List ℕ)) (from to : ℕ) (t : List ℕ) → slice_get texts from ≡ Some t
-    → with_block (remove (readings texts) from) (block_from (readings texts) from to) ≡ readings (insert (remove texts from) to t)
-moved texts from to t e =
-    let r : slice_get (readings texts) from ≡ Some (reading_of_text t) = rw (slice_get-map reading_of_text texts from, e) refl in
-    rw (r, map-insert reading_of_text (remove texts from) to t, map-remove reading_of_text texts from) refl
+moved : (rule : Rule) (texts : List (List ℕ)) (from to : ℕ) (t : List ℕ) → slice_get texts from ≡ Some t
+    → with_block (remove (readings_by rule texts) from) (block_from (readings_by rule texts) from to) ≡ readings_by rule (insert (remove texts from) to t)
+moved rule texts from to t e =
+    let r : slice_get (readings_by rule texts) from ≡ Some (reading_by rule t) = rw (slice_get-map (reading_by rule) texts from, e) refl in
+    rw (r, map-insert (reading_by rule) (remove texts from) to t, map-remove (reading_by rule) texts from) refl
 
-pub exchanged : EditsAreExchanges
-exchanged = λ texts change h. by_case texts change h where
-  by_case : (texts : List (List ℕ)) (change : Change) → IsInPlace texts change → LeadsOn (exchange_of texts change) texts (list_after texts change)
-  by_case texts (insertion at text) h = record {
-    fits = record { out = tt; put = rw (length-readings texts) h };
-    old = refl;
-    new = sym (map-insert reading_of_text texts at text);
-  }
-  by_case texts (replacement at text) h =
-      let l : at < length (readings texts) = rw (length-readings texts) h in
-      let n = length-remove (readings texts) at l in
-      record {
-        fits = record { out = out_fits (readings texts) at at l l; put = (let k : at ≤ length (remove (readings texts) at) = omega arith in k) };
-        old = taken_back (readings texts) at l;
-        new = insert-set (readings texts) at (reading_of_text text) l ∙ sym (map-set reading_of_text texts at text);
-      }
-  by_case texts (removal at) h =
-      let l : at < length (readings texts) = rw (length-readings texts) h in
-      record {
-        fits = record { out = out_fits (readings texts) at at l l; put = tt };
-        old = taken_back (readings texts) at l;
-        new = sym (map-remove reading_of_text texts at);
-      }
-  by_case texts (relocation from to) h =
-      let l : from < length (readings texts) = rw (length-readings texts) h.0 in
-      let m : to < length (readings texts) = rw (length-readings texts) h.1 in
-      let t = item_at texts from h.0 in
-      record {
-        fits = record { out = out_fits (readings texts) from from l l; put = out_fits (readings texts) from to l m };
-        old = taken_back (readings texts) from l;
-        new = moved texts from to t.0 t.1 ∙ (rw t.1 refl);
-      }
+pub exchanged_by : EditsAreExchanges
+exchanged_by rule texts (insertion at text) h = record {
+  fits = record { out = tt; put = rw (length-readings rule texts) h };
+  old = refl;
+  new = sym (map-insert (reading_by rule) texts at text);
+}
+exchanged_by rule texts (replacement at text) h =
+    let l : at < length (readings_by rule texts) = rw (length-readings rule texts) h in
+    let n = length-remove (readings_by rule texts) at l in
+    record {
+      fits = record { out = out_fits (readings_by rule texts) at at l l; put = (let k : at ≤ length (remove (readings_by rule texts) at) = omega arith in k) };
+      old = taken_back (readings_by rule texts) at l;
+      new = insert-set (readings_by rule texts) at (reading_by rule text) l ∙ sym (map-set (reading_by rule) texts at text);
+    }
+exchanged_by rule texts (removal at) h =
+    let l : at < length (readings_by rule texts) = rw (length-readings rule texts) h in
+    record {
+      fits = record { out = out_fits (readings_by rule texts) at at l l; put = tt };
+      old = taken_back (readings_by rule texts) at l;
+      new = sym (map-remove (reading_by rule) texts at);
+    }
+exchanged_by rule texts (relocation from to) h =
+    let l : from < length (readings_by rule texts) = rw (length-readings rule texts) h.0 in
+    let m : to < length (readings_by rule texts) = rw (length-readings rule texts) h.1 in
+    let t = item_at texts from h.0 in
+    record {
+      fits = record { out = out_fits (readings_by rule texts) from from l l; put = out_fits (readings_by rule texts) from to l m };
+      old = taken_back (readings_by rule texts) from l;
+      new = moved rule texts from to t.0 t.1 ∙ (rw t.1 refl);
+    }
+
+pub exchanged : (texts : List (List ℕ)) (change : Change) → IsInPlace texts change
+    → LeadsOn Leftmost (exchange_of texts change) texts (list_after texts change)
+exchanged = exchanged_by Leftmost
 
 -- ---- dependents are determined
 
@@ -193,7 +198,11 @@ found_dependents = λ e found h at d. dependent_holds e (λ p. Contains found p)
 
 -- ---- what an edit rebuilds is determined
 
-pub one_rebuilt : RebuildsAreDetermined
-one_rebuilt = λ texts change ps qs m n h k.
-    let same : ps ≡ qs = one_answer (exchange_of texts change) ps qs h.dependents k.dependents in
-    (same, h.work ∙ (ap (λ xs. work (readings (list_after texts change)) xs) same ∙ sym k.work))
+pub one_rebuilt_by : RebuildsAreDetermined
+one_rebuilt_by = λ rule texts change ps qs m n h k.
+    let same : ps ≡ qs = one_answer (exchange_by rule texts change) ps qs h.dependents k.dependents in
+    (same, h.work ∙ (ap (λ xs. work (readings_by rule (list_after texts change)) xs) same ∙ sym k.work))
+
+pub one_rebuilt : (texts : List (List ℕ)) (change : Change) (one other : List ℕ) (steps others : ℕ) → Rebuilds texts change one steps
+    → Rebuilds texts change other others → (one ≡ other) × (steps ≡ others)
+one_rebuilt = one_rebuilt_by Leftmost

@@ -18,6 +18,7 @@ pub mod KeptFaults
 pub mod ExchangeLaws
 pub mod UseLawProofs
 pub mod RuleLaws
+pub mod RuledSources
 pub mod ItemLawProofs
 pub mod ReadOrder
 pub mod DistinctNames

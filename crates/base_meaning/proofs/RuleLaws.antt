@@ -18,7 +18,8 @@ use Rattle.base_meaning.specs.Expansion.{is_broken, mentions_of, expand_items, i
 use Rattle.base_meaning.specs.Owner.{is_among, owner_block}
 use Rattle.base_meaning.specs.Reaching.{used_name, Uses}
 use Rattle.base_meaning.specs.Rules.{said_itself, said_by_use, AreSilent, IsFirstSaid, IsLastSaid, SaysOwnFirst, says_itself, says_by_use, says_nothing}
-use Rattle.base_meaning.specs.Rules.{OwnMentionsComeFirst, SayNothingTwice, IsPlain, by_rule, all_by_rule, ArePlain, SaySame, RulesAgreeOnPlainBlocks}
+use Rattle.base_meaning.specs.Readings.{by_rule}
+use Rattle.base_meaning.specs.Rules.{OwnMentionsComeFirst, SayNothingTwice, IsPlain, all_by_rule, ArePlain, SaySame, RulesAgreeOnPlainBlocks}
 use Rattle.base_meaning.specs.ValueTables.{names_at}
 use Rattle.base_meaning.proofs.Owning.{owning, nobody, somebody}
 use Rattle.base_meaning.proofs.Depth.{joined_parts, names_at-le}

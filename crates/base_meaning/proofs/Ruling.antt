@@ -1,18 +1,20 @@
 -- What the rule of a block leaves as it is: which names its items use, and what holds of each of
 -- them; and which rule a block has that is read from a text.
 use Rattle.std.proofs.Common.{◌≡◌, ℕ, ◌⊎◌, inl, inr, Bool, true, false, cond, List, [], ◌∷◌, ◌++◌, Option, Some, None, is_some, option_map, zero, suc, refl, subst}
+use Rattle.std.proofs.Common.{◌∙◌, ap}
 use Rattle.std.specs.List.{All}
 use Rattle.std.proofs.lemmas.List.Elements.{All-nil, All-cons, All-head, All-tail, All-append, All-filter}
 use Rattle.std.proofs.lemmas.Option.{same_Some, none-some}
 use Rattle.ti_source.proofs.ReadingLaws.{rule_of_text}
 use Rattle.ti_source.specs.declared.parsing.Rule.{Rule}
-use Rattle.ti_source.specs.declared.parsing.Rule.TheVariants.{Leftmost}
+use Rattle.ti_source.specs.declared.parsing.Rule.TheVariants.{Leftmost, OwnFirst}
 use Rattle.ti_source.specs.Parsing.{reading_of_text}
 use Rattle.ti_source.specs.Reading.{Reading, ReadItem, Said, said_flag, said_number, said_text, said_cancel, said_import}
 use Rattle.ti_layout.specs.Values.{Mention}
 use Rattle.base_meaning.specs.Expansion.{block_mentions, expand_items, is_use, use_items, own_items, uncancelled, values}
 use Rattle.base_meaning.specs.Reaching.{used_name, Uses}
-use Rattle.base_meaning.specs.Rules.{ReadingsAreLeftmost}
+use Rattle.base_meaning.specs.Readings.{by_rule, reading_by, readings_by}
+use Rattle.base_meaning.specs.Rules.{ReadingsAreByRule, ReadingsAreLeftmost}
 
 uses-append : (xs ys : List ReadItem) (n : List ℕ) → Uses (xs ++ ys) n → Uses xs n ⊎ Uses ys n
 uses-append [] ys n u = inr u
@@ -105,3 +107,12 @@ readings_leftmost [] at block stands = absurd (none-some block stands)
 readings_leftmost (text ∷ texts) zero block stands =
     subst (λ (b : Reading). b.rule ≡ Leftmost) (same_Some (reading_of_text text) block stands) (rule_of_text text)
 readings_leftmost (text ∷ texts) (suc at) block stands = readings_leftmost texts at block stands
+
+pub read_by : (rule : Rule) (text : List ℕ) → reading_by rule text ≡ by_rule rule (reading_of_text text)
+read_by Leftmost text = ap (λ (r : Rule). by_rule r (reading_of_text text)) (rule_of_text text)
+read_by OwnFirst text = refl
+
+pub readings_are_by : ReadingsAreByRule
+readings_are_by rule [] = refl
+readings_are_by rule (text ∷ texts) =
+    ap (λ b. b ∷ readings_by rule texts) (read_by rule text) ∙ ap (λ bs. by_rule rule (reading_of_text text) ∷ bs) (readings_are_by rule texts)

@@ -2,9 +2,11 @@
 -- values that its expansion gives, for a block that resolves and whose image is within its limit:
 -- 32,768 bytes if a number is over 32,767, else 4,096.
 use Rattle.std.specs.Prelude.{ℕ, List, length, Option, Some, None, option_and_then, slice_get, Bool, nat_lt, if◌then◌else◌}
+use Rattle.ti_source.specs.declared.parsing.Rule.{Rule}
+use Rattle.ti_source.specs.declared.parsing.Rule.TheVariants.{Leftmost}
 use Rattle.ti_source.specs.Reading.{Reading}
 use Rattle.ti_layout.specs.Image.{image, image_limit}
-use Rattle.base_meaning.specs.Owner.{readings}
+use Rattle.base_meaning.specs.Readings.{readings_by}
 use Rattle.ti_layout.specs.Values.{Mention}
 use Rattle.base_meaning.specs.Expansion.{values, expansion}
 
@@ -39,6 +41,11 @@ state_with block (Some mentions) = if is_too_large block mentions then oversized
 abbrev pub state_of : List Reading → Reading → EntryState
 state_of blocks block = state_with block (expansion blocks block)
 
--- the entry of the block at that position of a source, given by the texts of its blocks
+-- the entry of the block at that position of a source that is read by a rule, given by the texts of
+-- its blocks
+abbrev pub compiled_by : Rule → List (List ℕ) → ℕ → Option (List ℕ)
+compiled_by rule texts at = option_and_then (entry (readings_by rule texts)) (slice_get (readings_by rule texts) at)
+
+-- the same of a source that is read by the rule `Leftmost`
 abbrev pub compiled : List (List ℕ) → ℕ → Option (List ℕ)
-compiled texts at = option_and_then (entry (readings texts)) (slice_get (readings texts) at)
+compiled texts at = compiled_by Leftmost texts at

@@ -1,13 +1,16 @@
 -- What an edit touches (own): the names of the blocks taken out and put in, the blocks that depend
 -- on them, which are rebuilt, and the work of that.
 use Rattle.std.specs.Prelude.{ℕ, ◌≡◌, ◌⊎◌, ◌↔◌, List, [], ◌++◌, length, Option, Some, None, IsTrue, slice_get, Contains, sum_by, if◌then◌else◌}
+use Rattle.ti_source.specs.declared.parsing.Rule.{Rule}
+use Rattle.ti_source.specs.declared.parsing.Rule.TheVariants.{Leftmost}
 use Rattle.ti_source.specs.Reading.{Reading}
 use Rattle.ti_source.specs.Sound.{IsRising}
-use Rattle.base_meaning.specs.Owner.{is_among, owner, owner_block, readings}
+use Rattle.base_meaning.specs.Readings.{readings_by}
+use Rattle.base_meaning.specs.Owner.{is_among, owner, owner_block}
 use Rattle.base_meaning.specs.Expansion.{resolves}
 use Rattle.base_meaning.specs.Reaching.{Uses, Reaches}
 use Rattle.base_meaning.specs.Edits.{Change, list_after}
-use Rattle.base_meaning.specs.Exchange.{PlacedBlock, Exchange, IsExchange, new_list, exchange_of}
+use Rattle.base_meaning.specs.Exchange.{PlacedBlock, Exchange, IsExchange, new_list, exchange_by}
 use Rattle.base_meaning.specs.UseLaws.{UsesBlock}
 
 -- the lookup names of a block, if there is one
@@ -76,14 +79,18 @@ DependentsAreFound = (exchange : Exchange) (found : List ℕ) → AreClosed exch
 
 -- ---- what an accepted edit rebuilds
 
--- an edit of a source, given by the texts of its blocks, rebuilds the blocks at these positions of
--- the new list, and this is its work
-pub record Rebuilds (texts : List (List ℕ)) (change : Change) (places : List ℕ) (steps : ℕ) : Type 0 where
-  pub dependents : AreDependents (exchange_of texts change) places
-  pub work : steps ≡ work (readings (list_after texts change)) places
+-- an edit of a source that is read by a rule, given by the texts of its blocks, rebuilds the blocks
+-- at these positions of the new list, and this is its work
+pub record RebuildsBy (rule : Rule) (texts : List (List ℕ)) (change : Change) (places : List ℕ) (steps : ℕ) : Type 0 where
+  pub dependents : AreDependents (exchange_by rule texts change) places
+  pub work : steps ≡ work (readings_by rule (list_after texts change)) places
 
--- an edit has one answer
+-- the same of a source that is read by the rule `Leftmost`
+abbrev pub Rebuilds : List (List ℕ) → Change → List ℕ → ℕ → Type 0
+Rebuilds texts change places steps = RebuildsBy Leftmost texts change places steps
+
+-- an edit has one answer, by whatever rule the source is read
 abbrev pub RebuildsAreDetermined : Type 0
 RebuildsAreDetermined =
-    (texts : List (List ℕ)) (change : Change) (one other : List ℕ) (steps others : ℕ)
-    → Rebuilds texts change one steps → Rebuilds texts change other others → (one ≡ other) × (steps ≡ others)
+    (rule : Rule) (texts : List (List ℕ)) (change : Change) (one other : List ℕ) (steps others : ℕ)
+    → RebuildsBy rule texts change one steps → RebuildsBy rule texts change other others → (one ≡ other) × (steps ≡ others)

@@ -2,9 +2,10 @@
 -- put in, and the others remain in their order. An insertion, a replacement, a removal and a move
 -- are cases of it.
 use Rattle.std.specs.Prelude.{ℕ, zero, suc, ◌≡◌, ◌≤◌, List, length, insert, remove, slice_get, Option, Some, None, option_map}
+use Rattle.ti_source.specs.declared.parsing.Rule.{Rule}
+use Rattle.ti_source.specs.declared.parsing.Rule.TheVariants.{Leftmost}
 use Rattle.ti_source.specs.Reading.{Reading}
-use Rattle.ti_source.specs.Parsing.{reading_of_text}
-use Rattle.base_meaning.specs.Owner.{readings}
+use Rattle.base_meaning.specs.Readings.{reading_by, readings_by}
 use Rattle.base_meaning.specs.Edits.{Change, insertion, replacement, removal, relocation, IsInPlace, list_after}
 
 -- a block and its position
@@ -58,22 +59,34 @@ shifted_position (Some placed) at = position_behind placed.at at
 abbrev pub block_from : List Reading → ℕ → ℕ → Option PlacedBlock
 block_from blocks from to = option_map (λ block. record { at = to; block = block }) (slice_get blocks from)
 
--- the exchange that an edit makes of the blocks of a source, given by their texts: a replacement
--- and a move take a block out and put one in
+-- the exchange that an edit makes of the blocks of a source that is read by a rule, given by their
+-- texts: a replacement and a move take a block out and put one in
+abbrev pub exchange_by : Rule → List (List ℕ) → Change → Exchange
+exchange_by rule texts (insertion at text) =
+    record { rest = readings_by rule texts; out = None; put = Some (record { at = at; block = reading_by rule text }) }
+exchange_by rule texts (replacement at text) = record {
+  rest = remove (readings_by rule texts) at;
+  out = block_from (readings_by rule texts) at at;
+  put = Some (record { at = at; block = reading_by rule text });
+}
+exchange_by rule texts (removal at) = record { rest = remove (readings_by rule texts) at; out = block_from (readings_by rule texts) at at; put = None }
+exchange_by rule texts (relocation from to) = record {
+  rest = remove (readings_by rule texts) from;
+  out = block_from (readings_by rule texts) from from;
+  put = block_from (readings_by rule texts) from to;
+}
+
+-- the same of a source that is read by the rule `Leftmost`
 abbrev pub exchange_of : List (List ℕ) → Change → Exchange
-exchange_of texts (insertion at text) = record { rest = readings texts; out = None; put = Some (record { at = at; block = reading_of_text text }) }
-exchange_of texts (replacement at text) =
-    record { rest = remove (readings texts) at; out = block_from (readings texts) at at; put = Some (record { at = at; block = reading_of_text text }) }
-exchange_of texts (removal at) = record { rest = remove (readings texts) at; out = block_from (readings texts) at at; put = None }
-exchange_of texts (relocation from to) =
-    record { rest = remove (readings texts) from; out = block_from (readings texts) from from; put = block_from (readings texts) from to }
+exchange_of texts change = exchange_by Leftmost texts change
 
 -- the exchange leads from the blocks of one source to those of the other
-pub record LeadsOn (exchange : Exchange) (texts next : List (List ℕ)) : Type 0 where
+pub record LeadsOn (rule : Rule) (exchange : Exchange) (texts next : List (List ℕ)) : Type 0 where
   pub fits : IsExchange exchange
-  pub old : old_list exchange ≡ readings texts
-  pub new : new_list exchange ≡ readings next
+  pub old : old_list exchange ≡ readings_by rule texts
+  pub new : new_list exchange ≡ readings_by rule next
 
--- each edit whose positions are there is an exchange
+-- each edit whose positions are there is an exchange, by whatever rule the source is read
 abbrev pub EditsAreExchanges : Type 0
-EditsAreExchanges = (texts : List (List ℕ)) (change : Change) → IsInPlace texts change → LeadsOn (exchange_of texts change) texts (list_after texts change)
+EditsAreExchanges = (rule : Rule) (texts : List (List ℕ)) (change : Change) → IsInPlace texts change
+    → LeadsOn rule (exchange_by rule texts change) texts (list_after texts change)

@@ -1,3 +1,4 @@
+pub mod Readings
 pub mod Owner
 pub mod Expansion
 pub mod Reaching

@@ -1,16 +1,17 @@
 -- Which block owns a name (own): a name belongs to the first block of the source that has it among
 -- its lookup names, whether that block is sound or broken. A block whose header is bad has no
 -- lookup names, and so owns none.
-use Rattle.std.specs.Prelude.{ℕ, suc, List, [], ◌∷◌, map, Option, Some, None, option_map, Bool, false, nat_eq, if◌then◌else◌}
+use Rattle.std.specs.Prelude.{ℕ, suc, List, [], ◌∷◌, Option, Some, None, option_map, Bool, false, nat_eq, if◌then◌else◌}
 use Rattle.std.specs.List.{list_any}
 use Rattle.std.specs.Option.{option_map_or}
 use Rattle.std.specs.Str.{bytes_eq}
+use Rattle.ti_source.specs.declared.parsing.Rule.TheVariants.{Leftmost}
 use Rattle.ti_source.specs.Reading.{Reading}
-use Rattle.ti_source.specs.Parsing.{reading_of_text}
+use Rattle.base_meaning.specs.Readings.{readings_by}
 
--- the blocks of a source as they are read, from their texts
+-- the blocks of a source as they are read, from their texts: by the rule `Leftmost`
 abbrev pub readings : List (List ℕ) → List Reading
-readings texts = map reading_of_text texts
+readings texts = readings_by Leftmost texts
 
 -- whether a name is one of these
 abbrev pub is_among : List ℕ → List (List ℕ) → Bool

@@ -7,7 +7,9 @@ use Rattle.ti_text.specs.Ascii as ascii
 use Rattle.ti_text.specs.Lines.{line_count}
 use Rattle.ti_source.specs.declared.code.Code.{Code}
 use Rattle.ti_source.specs.Code.{code_text}
-use Rattle.base_meaning.specs.Owner.{readings}
+use Rattle.ti_source.specs.declared.parsing.Rule.{Rule}
+use Rattle.ti_source.specs.declared.parsing.Rule.TheVariants.{Leftmost}
+use Rattle.base_meaning.specs.Readings.{readings_by}
 use Rattle.base_meaning.specs.Faults.{SourceFault, faults}
 
 -- a byte of a detail as it is shown: itself if it prints, else a question mark
@@ -40,6 +42,10 @@ line_number texts first fault = first + lines_before texts fault.block + fault.l
 abbrev pub report_line : List (List ℕ) → ℕ → SourceFault → List ℕ
 report_line texts first fault = fault_line (line_number texts first fault) fault.code fault.detail
 
--- the report of a source, given by the texts of its blocks
+-- the report of a source that is read by a rule, given by the texts of its blocks
+abbrev pub report_by : Rule → List (List ℕ) → ℕ → List ℕ
+report_by rule texts first = flat_map (report_line texts first) (faults (readings_by rule texts))
+
+-- the report of a source that is read by the rule `Leftmost`
 abbrev pub report : List (List ℕ) → ℕ → List ℕ
-report texts first = flat_map (report_line texts first) (faults (readings texts))
+report texts first = report_by Leftmost texts first

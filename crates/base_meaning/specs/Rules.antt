@@ -8,9 +8,11 @@ use Rattle.ti_source.specs.declared.parsing.Rule.TheVariants.{Leftmost, OwnFirst
 use Rattle.ti_source.specs.Reading.{Reading, ReadItem, Said, said_flag, said_number, said_text, said_cancel, said_import}
 use Rattle.ti_layout.specs.Laws.{without_cancel}
 use Rattle.ti_layout.specs.Values.{Content, content_true, content_number, content_text, content_cancelled, Mention, contents}
+use Rattle.base_meaning.specs.Compiled.{compiled, compiled_by}
 use Rattle.base_meaning.specs.Expansion.{block_mentions, expansion, is_use}
 use Rattle.base_meaning.specs.Owner.{owner_block, readings}
 use Rattle.base_meaning.specs.Reaching.{Uses}
+use Rattle.base_meaning.specs.Readings.{by_rule, readings_by}
 use Rattle.base_meaning.specs.ValueTables.{names_at}
 
 -- in each of the blocks the leftmost mention of a capability decides
@@ -20,6 +22,14 @@ AreLeftmost blocks = (at : ℕ) (block : Reading) → slice_get blocks at ≡ So
 -- the blocks of a source are read so
 abbrev pub ReadingsAreLeftmost : Type 0
 ReadingsAreLeftmost = (texts : List (List ℕ)) → AreLeftmost (readings texts)
+
+-- the blocks by a rule
+abbrev pub all_by_rule : Rule → List Reading → List Reading
+all_by_rule rule blocks = map (by_rule rule) blocks
+
+-- read by a rule, they are what they are read as, by that rule
+abbrev pub ReadingsAreByRule : Type 0
+ReadingsAreByRule = (rule : Rule) (texts : List (List ℕ)) → readings_by rule texts ≡ all_by_rule rule (readings texts)
 
 -- ---- a block's own mentions first
 
@@ -92,14 +102,6 @@ pub record IsPlain (of_name : List ℕ → Option (List Mention)) (items : List 
   pub once : SayNothingTwice items
   pub none_cancelled : (c : Capability) (name : List ℕ) → Uses items name → said_by_use of_name c (said_import name) ≡ Some content_cancelled → ⊥
 
--- a block by a rule
-abbrev pub by_rule : Rule → Reading → Reading
-by_rule rule block = record block { rule = rule }
-
--- the blocks by a rule
-abbrev pub all_by_rule : Rule → List Reading → List Reading
-all_by_rule rule blocks = map (by_rule rule) blocks
-
 -- blocks of which each is plain
 abbrev pub ArePlain : List Reading → Type 0
 ArePlain blocks =
@@ -117,3 +119,7 @@ abbrev pub RulesAgreeOnPlainBlocks : Type 0
 RulesAgreeOnPlainBlocks =
     (blocks : List Reading) → ArePlain blocks → (at : ℕ) (block : Reading) → slice_get blocks at ≡ Some block
     → SaySame (expansion (all_by_rule Leftmost blocks) (by_rule Leftmost block)) (expansion (all_by_rule OwnFirst blocks) (by_rule OwnFirst block))
+
+-- a source of plain blocks has the same entries by either rule
+abbrev pub PlainSourcesCompileAlike : Type 0
+PlainSourcesCompileAlike = (texts : List (List ℕ)) → ArePlain (readings texts) → (at : ℕ) → compiled_by OwnFirst texts at ≡ compiled texts at

@@ -8,7 +8,8 @@ pub use crate::edit_laws::{
 };
 pub use crate::item_laws::{item_faults_go_by_ordinal, names_are_distinct, read_items_are_ordered};
 pub use crate::rule_laws::{
-    own_mentions_come_first, readings_are_leftmost, rules_agree_on_plain_blocks,
+    own_mentions_come_first, plain_sources_compile_alike, readings_are_by_rule,
+    readings_are_leftmost, rules_agree_on_plain_blocks,
 };
 pub use crate::use_laws::{
     circular_uses_share_a_component, leading_is_reaching, leading_is_walking,

@@ -7,7 +7,8 @@ use std::alloc::{AllocError, Global};
 use test_rows::RowError::Bad;
 use test_rows::{NO_CALL, Row, RowResult, say_place};
 use ti_base::Database;
-use user_compiling::{Compiled, Finding, compile, faults, found_faults, report_of};
+use user_compiling::leftmost::{compile, faults, found_faults, report_of};
+use user_compiling::{Compiled, Finding};
 use user_kept::{KeptDatabase, run};
 use user_values::ValuesError;
 
@@ -44,7 +45,7 @@ fn findings(
     let mut findings = Vec::new(alloc);
     for (at, state) in states.iter().enumerate() {
         if at < database.len() {
-            findings.push(Finding::of(alloc, database, at, state)?)?;
+            findings.push(Finding::of(alloc, database.as_ruled(), at, state)?)?;
         }
     }
     Ok(findings)

@@ -69,7 +69,7 @@ fn say_order(row: &mut Row<'_>, mut tables: UserTables<'_>, count: usize) -> Row
 
 // Makes a call on the tables of a source.
 fn say_tables(row: &mut Row<'_>, database: &Database, is_order: bool) -> RowResult {
-    match UserTables::of(row.alloc, database) {
+    match UserTables::of(row.alloc, database.as_ruled()) {
         Ok(tables) if is_order => say_order(row, tables, database.len()),
         Ok(tables) => say_table(row, tables, database.len()),
         Err(cause) => say_cause(row, cause),
@@ -77,7 +77,7 @@ fn say_tables(row: &mut Row<'_>, database: &Database, is_order: bool) -> RowResu
 }
 
 fn say_count(row: &mut Row<'_>, database: &Database) -> RowResult {
-    match count_names(row.alloc, database) {
+    match count_names(row.alloc, database.as_ruled()) {
         Ok(count) => row.show(&count),
         Err(cause) => say_cause(row, cause),
     }

@@ -6,7 +6,7 @@ use Rattle.std.proofs.lemmas.Bool.{cases_eq, eq-eqb, false≢true}
 use Rattle.std.proofs.lemmas.List.{drop-set-lt}
 use Rattle.std.proofs.lemmas.Option.{same_Some, none-some, get_or_from_slice_get}
 use Rattle.ti_source.specs.Reading.{reading_of}
-use Rattle.ti_source.specs.Parsing.{reading_of_text}
+use Rattle.base_meaning.specs.Readings.{reading_by}
 use Rattle.base_meaning.specs.Usable.{IsUsable}
 use Rattle.base_meaning.specs.Dependents.{IsDependent}
 use Rattle.ti_text.specs.Lists.{Has}
@@ -23,7 +23,7 @@ use Rattle.base_plan.specs.declared.plans.Plan.{Plan}
 use Rattle.base_plan.specs.Plans.{IsReady, IsPlan, IsPlanOfAll}
 use Rattle.base_plan.proofs.ItemLists.{drop_item}
 use Rattle.ti_base.specs.inside.Texts.{IsBlockText}
-use Rattle.ti_base.specs.inside.Database.{AreKept, AreRead, SlotsAreSettled, SlotsAreSound, reading_seen, text_seen, settled_all}
+use Rattle.ti_base.specs.inside.Database.{AreKept, AreRead, KeepsRule, SlotsAreSettled, SlotsAreSound, reading_seen, text_seen, settled_all}
 use Rattle.ti_base.proofs.Untouched.{settled_as}
 
 -- ---- one block
@@ -188,7 +188,8 @@ sound_stays old new ids settled l h k at slot e =
     let s = k at w.before w.was in
     record {
       text = subst (λ v. IsBlockText v.items) (sym w.text) s.text;
-      read = ap (λ b. reading_of b) w.block ∙ (s.read ∙ ap (λ v. reading_of_text v.items) (sym w.text));
+      read = ap (λ b. reading_of b) w.block
+          ∙ (s.read ∙ (ap (λ b. reading_by b.rule w.before.text.items) (sym w.block) ∙ ap (λ v. reading_by slot.block.rule v.items) (sym w.text)));
       usable = subst (λ b. IsUsable (reading_of b)) (sym w.block) s.usable;
     }
 
@@ -201,6 +202,12 @@ read_stays old new ids settled l h read = record {
       omega (arith, length_blocks new, length_blocks old);
   sound = sound_stays old new ids settled l h read.sound;
 }
+
+pub rule_stays : (old new : Slots) (ids : List ℕ) (settled : List Settled) → length settled ≡ length ids → new ≡ settled_all old ids settled
+    → KeepsRule old new
+rule_stays old new ids settled l h rule k at slot e =
+    let w = was_slot old new ids settled at slot l h e in
+    ap (λ b. b.rule) w.block ∙ k at w.before w.was
 
 -- the block of a slot, as it was before
 block_here : (old : Slots) (ids : List ℕ) (settled : List Settled) (at : ℕ) (slot : Slot) → WasSlot old ids settled at slot

@@ -10,3 +10,6 @@ pub mod Naming
 pub mod KeptFaults
 pub mod SlotFaults
 pub mod SlotEntries
+pub mod LeftmostTexts
+pub mod AnyRule
+pub mod AnyResolving

@@ -8,6 +8,7 @@ use Rattle.std.proofs.lemmas.Bool.{false≢true}
 use Rattle.std.proofs.lemmas.List.{length-map}
 use Rattle.std.proofs.lemmas.List.Edits.{length-insert, length-remove}
 use Rattle.std.proofs.lemmas.Option.{same_Some, none-some}
+use Rattle.ti_source.specs.declared.parsing.Rule.{Rule}
 use Rattle.ti_source.specs.Reading.{Reading, reading_of}
 use Rattle.base_meaning.proofs.EditedLists.{map-insert, map-remove, insert-remove, remove-insert}
 use Rattle.base_meaning.proofs.Placing.{get-insert, get-insert_at, split-insert}
@@ -19,7 +20,7 @@ use Rattle.base_slots.specs.Slots.{StandsAt, ids_of, slots_of, slot_texts}
 use Rattle.base_slots.specs.Changes.{HasRoomFor, PutsIn, TakesOut}
 use Rattle.base_slots.proofs.Owners.{length_ids, length_slots, slot_there}
 use Rattle.base_slots.proofs.Undoing.{fits_again}
-use Rattle.ti_base.specs.inside.Database.{AreKept, AreRead, SlotsAreSettled, SlotsAreSound, text_seen, with_slot, HasId}
+use Rattle.ti_base.specs.inside.Database.{AreKept, AreRead, HaveRule, SlotsAreSettled, SlotsAreSound, text_seen, with_slot, HasId}
 use Rattle.ti_base.specs.inside.Exchanges.{without, slot_out, slot_put, slot_left, spare_after, placed, placed_put, with_exchange, IsOfSlots, HasRoomThen}
 use Rattle.ti_base.specs.inside.Exchanges.{CanExchange, IsOut, IsExchanged}
 
@@ -94,6 +95,10 @@ read_none slots none = record {
   few = rw none (omega arith);
   sound = λ at slot e. absurd (none-some slot (ap (λ ps. slice_get (map (λ (p : Placed). p.slot) ps) at) (sym none) ∙ e));
 }
+
+-- nor by another rule
+pub rule_none : (rule : Rule) (slots : Slots) → slots.placed ≡ [] → HaveRule rule slots
+rule_none rule slots none at slot e = absurd (none-some slot (ap (λ ps. slice_get (map (λ (p : Placed). p.slot) ps) at) (sym none) ∙ e))
 
 -- ---- an exchange
 

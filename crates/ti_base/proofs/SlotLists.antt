@@ -3,8 +3,10 @@ use Rattle.std.proofs.Common.{◌≡◌, ℕ, suc, ◌<◌, ◌≤◌, List, [],
 use Rattle.std.specs.List.{All}
 use Rattle.std.proofs.lemmas.List.{length-map}
 use Rattle.std.proofs.lemmas.List.Elements.{All-nil, All-cons}
+use Rattle.ti_source.specs.declared.parsing.Rule.{Rule}
 use Rattle.ti_source.specs.Cutting.{OneBlock}
-use Rattle.base_meaning.specs.Owner.{readings}
+use Rattle.ti_source.specs.Reading.{reading_of}
+use Rattle.base_meaning.specs.Readings.{reading_by, readings_by}
 use Rattle.base_meaning.specs.Exchange.{with_block, HasPlace, shifted_position}
 use Rattle.base_meaning.proofs.EditedLists.{map-insert}
 use Rattle.base_meaning.proofs.Placing.{get-insert}
@@ -12,7 +14,8 @@ use Rattle.base_slots.specs.declared.slots.Slot.{Slot}
 use Rattle.base_slots.specs.declared.slots.Slots.{Slots}
 use Rattle.base_slots.specs.Slots.{slots_of, blocks_of, slot_texts}
 use Rattle.base_slots.proofs.Owners.{length_texts}
-use Rattle.ti_base.specs.inside.Database.{reading_seen, text_seen, AreRead, SlotsAreSound, PlacedSlot, with_slot, block_seen}
+use Rattle.ti_base.specs.inside.Database.{reading_seen, text_seen, AreRead, EachSlot, IsSoundSlot, SlotsAreSound, HasRule, HaveRule, PlacedSlot, with_slot}
+use Rattle.ti_base.specs.inside.Database.{block_seen}
 
 -- there are as many as texts
 pub as_many_listed : (slots : Slots) (texts : List (List ℕ)) (count : ℕ) → slot_texts slots ≡ texts → count ≡ length texts → length slots.placed ≡ count
@@ -31,12 +34,18 @@ texts_single (slot ∷ listed) h =
 
 -- ---- blocks are read from their texts
 
-read_from_texts : (listed : List Slot) → SlotsAreSound listed → map reading_seen listed ≡ readings (map text_seen listed)
-read_from_texts [] h = refl
-read_from_texts (slot ∷ listed) h = rw ((h 0 slot refl).read, read_from_texts listed (λ at s e. h (suc at) s e)) refl
+pub block_read : (rule : Rule) (slot : Slot) → IsSoundSlot slot → HasRule rule slot → reading_of slot.block ≡ reading_by rule slot.text.items
+block_read rule slot h k = h.read ∙ ap (λ r. reading_by r slot.text.items) k
 
-pub blocks_read : (slots : Slots) → AreRead slots → blocks_of slots ≡ readings (slot_texts slots)
-blocks_read slots h = read_from_texts (slots_of slots) h.sound
+read_from_texts : (rule : Rule) (listed : List Slot) → SlotsAreSound listed → EachSlot (HasRule rule) listed
+    → map reading_seen listed ≡ readings_by rule (map text_seen listed)
+read_from_texts rule [] h k = refl
+read_from_texts rule (slot ∷ listed) h k =
+    ap (λ b. b ∷ map reading_seen listed) (block_read rule slot (h 0 slot refl) (k 0 slot refl))
+    ∙ ap (λ bs. reading_by rule slot.text.items ∷ bs) (read_from_texts rule listed (λ at s e. h (suc at) s e) (λ at s e. k (suc at) s e))
+
+pub blocks_read : (rule : Rule) (slots : Slots) → AreRead slots → HaveRule rule slots → blocks_of slots ≡ readings_by rule (slot_texts slots)
+blocks_read rule slots h k = read_from_texts rule (slots_of slots) h.sound k
 
 -- ---- a slot put in
 

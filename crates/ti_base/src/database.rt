@@ -1,34 +1,16 @@
-//! The edited source: its blocks under stable ids, with what was found out about each.
-ghost use Rattle.std.specs.Prelude.{◌≡◌, ◌<◌, ◌≤◌, [], length, map, slice_get, Some, option_map, vec_capacity, IfOk};
+//! The edited source, read by the rule of the leftmost mention.
+ghost use Rattle.std.specs.Prelude.{◌≡◌, ◌<◌, ◌≤◌, [], length, map, slice_get, Some, option_map, IfOk};
 ghost use Rattle.std.specs.Rc.{rc_slice_items};
 ghost use Rattle.ti_source.specs.Reading.{fault_of, item_of};
 ghost use Rattle.base_meaning.specs.Edits.{EditRun, change_of};
-ghost use Rattle.base_slots.specs.Settled.{table_of};
 
-use crate::faults::source_faults;
-use crate::growing::run_at_once;
-use crate::judging::judge;
-use crate::owners::{find_owner, slot_of};
-use crate::report::{line_starts, write_report};
-use crate::slot_edits::edit_sound;
+use crate::ruled::{RuledDatabase, run_by};
 use base_meaning::{Edit, EditError, Edited, Fault, Outcome};
-use base_slots::{Slots, State};
 use std::alloc::{AllocError, Global};
 use std::marker::Model;
 use std::rc::RcSlice;
 use ti_layout::Table;
-use ti_source::{Item, Local};
-
-// The values of a block, if it resolves.
-fn table_of(state: &State) -> Option<&Table>
-    ensures { option_map (λ table. table.now) result ≡ table_of state.now }
-{
-    match state {
-        State::Unresolved => None,
-        State::TooLarge(table) => Some(table),
-        State::Compiled(entry) => Some(&entry.table),
-    }
-}
+use ti_source::{Item, Local, Rule};
 
 /// A source of terminal descriptions as a list of blocks, which edits change one by one. It knows
 /// the compiled entry of each block and all faults, which are those of the whole current source. An
@@ -36,8 +18,7 @@ fn table_of(state: &State) -> Option<&Table>
 /// and `line_starts` take memory.
 #[derive(Drop)]
 pub struct Database {
-    alloc: Global,
-    slots: Slots,
+    ruled: RuledDatabase,
 }
 
 impl Model for Database {
@@ -45,12 +26,12 @@ impl Model for Database {
 
     ghost Value = { List (List ℕ) };
 
-    ghost use Rattle.base_slots.specs.Slots.{slot_texts};
-    ghost use Rattle.ti_base.specs.inside.Database.{AreKept};
+    ghost use Rattle.std.specs.Prelude.{◌≡◌};
+    ghost use Rattle.ti_source.specs.declared.parsing.Rule.TheVariants.{Leftmost};
 
-    ghost view = { λ d. slot_texts d.slots };
+    ghost view = { λ d. d.ruled.texts };
 
-    ghost invariant = { λ d. AreKept d.slots };
+    ghost invariant = { λ d. d.ruled.rule ≡ Leftmost };
 }
 
 impl Database {
@@ -66,6 +47,7 @@ impl Database {
     ghost use Rattle.base_meaning.specs.Usable.{IsPlaced};
     ghost use Rattle.std.specs.Prelude.{All};
     ghost use Rattle.base_meaning.specs.Edits.{EditStep, change_of, insertion, removal, relocation, replacement, outcome_of};
+    ghost use Rattle.ti_source.specs.declared.parsing.Rule.TheVariants.{Leftmost};
     ghost use Rattle.base_meaning.specs.Dependents.{Rebuilds};
 
     /// A source with no blocks. It takes no memory.
@@ -73,23 +55,38 @@ impl Database {
         ensures { result ≡ [] }
     {
         Database {
-            alloc,
-            slots: Slots::new(alloc),
+            ruled: RuledDatabase::new(alloc, Rule::Leftmost),
         }
+    }
+
+    /// The source of a database whose rule is `Rule::Leftmost`.
+    pub fn leftmost(ruled: RuledDatabase) -> Database
+        requires { ruled.rule ≡ Leftmost }
+        ensures { result ≡ ruled.texts }
+    {
+        Database { ruled }
+    }
+
+    /// The same source as one that is read by a rule, which is `Rule::Leftmost`.
+    pub fn as_ruled(&self) -> &RuledDatabase
+        ensures rule { result.now.rule ≡ Leftmost }
+        ensures texts { result.now.texts ≡ self.now }
+    {
+        &self.ruled
     }
 
     /// How many blocks there are.
     pub fn len(&self) -> usize
         ensures { result ≡ length self.now }
     {
-        self.slots.len()
+        self.ruled.len()
     }
 
     /// Each text is one block, since no edit puts in another. It computes nothing.
     pub fn each_is_one_block(&self)
         ensures { All OneBlock self.now }
     {
-        let _ = &self.slots;
+        self.ruled.each_is_one_block();
     }
 
     /// The text of a block.
@@ -97,7 +94,7 @@ impl Database {
         requires { at < length self.now }
         ensures { slice_get self.now at ≡ Some result.now }
     {
-        &slot_of(&self.slots, at).text
+        self.ruled.text(at)
     }
 
     /// The compiled entry of a block, as term(5) lays it out; `None` if the block does not resolve
@@ -106,10 +103,7 @@ impl Database {
         requires { at < length self.now }
         ensures { option_map (λ bytes. bytes.now) result ≡ compiled self.now at }
     {
-        match &slot_of(&self.slots, at).settled.state {
-            State::Compiled(entry) => Some(entry.image.bytes()),
-            _ => None,
-        }
+        self.ruled.compiled(at)
     }
 
     /// The lookup names of a block, in order. A name may be there twice.
@@ -117,7 +111,7 @@ impl Database {
         requires { at < length self.now }
         ensures { option_map (λ block. block.names) (slice_get (readings self.now) at) ≡ Some (map rc_slice_items result.now) }
     {
-        &slot_of(&self.slots, at).block.names
+        self.ruled.names(at)
     }
 
     /// The accepted items of a block, in order.
@@ -125,7 +119,7 @@ impl Database {
         requires { at < length self.now }
         ensures { option_map (λ block. block.items) (slice_get (readings self.now) at) ≡ Some (map item_of result.now) }
     {
-        &slot_of(&self.slots, at).block.items
+        self.ruled.items(at)
     }
 
     /// The faults of a block that its own text gives: that of its names field, and then those of
@@ -134,7 +128,7 @@ impl Database {
         requires { at < length self.now }
         ensures { option_map (λ block. block.faults) (slice_get (readings self.now) at) ≡ Some (map fault_of result.now) }
     {
-        &slot_of(&self.slots, at).block.faults
+        self.ruled.local_faults(at)
     }
 
     /// What a block says once its uses are expanded: of each capability what the leftmost mention
@@ -144,14 +138,14 @@ impl Database {
         requires { at < length self.now }
         ensures { (block : Reading) → slice_get (readings self.now) at ≡ Some block → HasTable contents (readings self.now) block (option_map (λ table. table.now) result) }
     {
-        table_of(&slot_of(&self.slots, at).settled.state)
+        self.ruled.values(at)
     }
 
     /// The position of the first block that has the name among its lookup names, if one has it.
     pub fn owner(&self, name: &[u8]) -> Option<usize>
         ensures { result ≡ owner (readings self.now) name.now }
     {
-        find_owner(&self.slots, name)
+        self.ruled.owner(name)
     }
 
     /// All faults, in the order of the blocks: for each block those of its header, one for each
@@ -164,8 +158,7 @@ impl Database {
         ensures all { IfOk result (λ all. map fault_seen all.items ≡ faults (readings self.now)) }
         ensures placed { IfOk result (λ all. All (IsPlaced (length self.now)) (map fault_seen all.items)) }
     {
-        let faults = source_faults(self.alloc, &self.slots)?;
-        Ok(faults)
+        self.ruled.faults()
     }
 
     /// The report of all faults: a line for each, with the line of the whole source that it is on,
@@ -177,9 +170,7 @@ impl Database {
         requires { first_line ≤ 9223372036854775808 }
         ensures { IfOk result (λ text. text.items ≡ report self.now first_line) }
     {
-        let found = source_faults(self.alloc, &self.slots)?;
-        let report = self.report_of(&found, first_line)?;
-        Ok(report)
+        self.ruled.report(first_line)
     }
 
     /// The report, as `report` gives it, for a caller who has the faults that `faults` gave of this
@@ -192,8 +183,7 @@ impl Database {
         requires first { first_line ≤ 9223372036854775808 }
         ensures { IfOk result (λ text. text.items ≡ report self.now first_line) }
     {
-        let report = write_report(self.alloc, &self.slots, found, first_line)?;
-        Ok(report)
+        self.ruled.report_of(found, first_line)
     }
 
     /// How many lines are before each block, in list order: each line ends with a newline.
@@ -204,8 +194,7 @@ impl Database {
         ensures starts { IfOk result (λ starts. starts.items ≡ map (lines_before self.now) (range_with_len 0 (length self.now))) }
         ensures small { IfOk result (λ starts. All (λ start. start ≤ 68719476736) starts.items) }
     {
-        let starts = line_starts(self.alloc, &self.slots)?;
-        Ok(starts)
+        self.ruled.line_starts()
     }
 
     /// Puts a block in, so that it is then at `at`. The refusals, the first that holds: `Position`
@@ -254,24 +243,8 @@ impl Database {
         ensures step { EditStep self.old (change_of edit.now) (outcome_of result) self.new }
         ensures rebuilds { IfOk result (λ edited. Rebuilds self.old (change_of edit.now) edited.rebuilt.items edited.work) }
     {
-        judge(&self.slots, edit)?;
-        let edited = edit_sound(self.alloc, &mut self.slots, edit)?;
-        Ok(edited)
+        self.ruled.apply(edit)
     }
-}
-
-// The database that the edits make of no blocks, each made by `apply`, so that what one rebuilds
-// takes no more memory than it needs.
-fn run_one_by_one(alloc: Global, edits: &[Edit<'_>], outcomes: &mut Vec<Outcome>) -> Database
-    requires empty { outcomes.old.items ≡ [] }
-    requires room { length edits.now ≤ vec_capacity outcomes.old }
-    ensures { EditRun [] (map change_of edits.now) outcomes.new.items result }
-{
-    let mut database = Database::new(alloc);
-    for edit in edits {
-        outcomes.push_reserved(Outcome::from(database.apply(edit)));
-    }
-    database
 }
 
 /// Makes the edits in order, beginning with no blocks, and says what came of each. A refused edit
@@ -283,12 +256,6 @@ fn run_one_by_one(alloc: Global, edits: &[Edit<'_>], outcomes: &mut Vec<Outcome>
 pub fn run(alloc: Global, edits: &[Edit<'_>]) -> Result<(Database, Vec<Outcome>), AllocError>
     ensures { IfOk result (λ r. EditRun [] (map change_of edits.now) r.1.items r.0) }
 {
-    let mut outcomes = Vec::with_capacity(alloc, edits.len())?;
-    if let Ok(slots) = run_at_once(alloc, edits, &mut outcomes) {
-        return Ok((Database { alloc, slots }, outcomes));
-    }
-    // The capacity stays.
-    outcomes.clear();
-    let database = run_one_by_one(alloc, edits, &mut outcomes);
-    Ok((database, outcomes))
+    let (ruled, outcomes) = run_by(alloc, Rule::Leftmost, edits)?;
+    Ok((Database { ruled }, outcomes))
 }

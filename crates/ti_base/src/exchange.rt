@@ -6,15 +6,15 @@ ghost use Rattle.ti_source.specs.Reading.{reading_of};
 ghost use Rattle.base_meaning.specs.Edits.{IsSoundEdit, change_of};
 ghost use Rattle.base_slots.specs.Slots.{slot_texts, slots_of};
 ghost use Rattle.base_slots.specs.Changes.{HasForgotten, HasRoomFor};
-ghost use Rattle.ti_base.specs.inside.Database.{AreRead};
-ghost use Rattle.ti_base.specs.inside.Exchanges.{CanExchange, CanUndo, IsEdited, IsExchanged, IsMade, IsNewOf, IsOut, IsUndone, names_seen, new_text, out_position, put_position, slot_left, slot_put};
+ghost use Rattle.ti_base.specs.inside.Database.{AreRead, HasRule};
+ghost use Rattle.ti_base.specs.inside.Exchanges.{CanExchange, CanUndo, IsEdited, IsEditedByRule, IsExchanged, IsMade, IsNewOf, IsOut, IsUndone, names_seen, new_text, out_position, put_position, slot_left, slot_put};
 
 use crate::texts::read_slot;
 use base_meaning::Edit;
 use base_slots::{BlockEntry, Slot, Slots};
 use std::alloc::{AllocError, Global};
 use std::rc::RcSlice;
-use ti_source::{Parsed, SharedTexts};
+use ti_source::{Parsed, Rule, SharedTexts};
 
 // The position from which an edit takes a block out, and the one at which it puts one in.
 fn positions(edit: &Edit<'_>) -> (Option<usize>, Option<usize>)
@@ -60,10 +60,11 @@ fn reserve(slots: &mut Slots, block: &Parsed) -> Result<(), AllocError>
     }
 }
 
-/// The new block of an edit, read, with room made for it, if the edit brings one. The list stays
-/// as it is.
+/// The new block of an edit, read by the rule, with room made for it, if the edit brings one. The
+/// list stays as it is.
 pub(crate) fn read_new(
     alloc: Global,
+    rule: Rule,
     slots: &mut Slots,
     shared: Option<&mut SharedTexts>,
     edit: &Edit<'_>,
@@ -74,11 +75,12 @@ pub(crate) fn read_new(
     ensures slots { slots_of slots.new ≡ slots_of slots.old }
     ensures texts { slot_texts slots.new ≡ slot_texts slots.old }
     ensures new { IfOk result (IsNewOf slots.new (change_of edit.now)) }
+    ensures ruled { IfOk result (λ new. IfSome new (HasRule rule)) }
 {
     let Some(text) = text_of(edit) else {
         return Ok(None);
     };
-    let slot = read_slot(alloc, text, shared)?;
+    let slot = read_slot(alloc, rule, text, shared)?;
     reserve(slots, &slot.block)?;
     Ok(Some(slot))
 }
@@ -143,6 +145,7 @@ pub(crate) fn make(slots: &mut Slots, edit: &Edit<'_>, spare: &mut Option<Slot>)
     requires new { IsNewOf slots.old (change_of edit.now) spare.old }
     ensures made { IsMade slots.old slots.new (change_of edit.now) spare.old spare.new result }
     ensures edited { IsEdited slots.old slots.new (change_of edit.now) result (names_seen spare.new) }
+    ensures ruled { IsEditedByRule slots.old slots.new (change_of edit.now) spare.old result (names_seen spare.new) }
 {
     let (out, put) = positions(edit);
     exchange(slots, out, put, spare)

@@ -13,7 +13,8 @@
 //! blocks before it come and go; an id is given to it when it is put in, and stays with its slot.
 //! An offset is of a byte, and no block has one.
 //!
-//! - `database`: the edited source, and a run of edits
+//! - `ruled`: the edited source, read by a rule, and a run of edits
+//! - `database`: the same by the rule of the leftmost mention
 //! - `judging`: whether an edit is refused, and why
 //! - `exchange`: an edit as an exchange of blocks, which takes no memory, and the way back
 //! - `growing`: a list that edits make, with what there is to find out about it found once
@@ -35,6 +36,7 @@ mod names;
 mod owners;
 mod rebuilding;
 mod report;
+mod ruled;
 mod slot_edits;
 mod texts;
 
@@ -42,3 +44,4 @@ pub use base_meaning::{Edit, EditError, Edited, Fault, Outcome};
 pub use database::{Database, run};
 pub use names::distinct_names;
 pub use report::{write_detail, write_fault};
+pub use ruled::{RuledDatabase, run_by};

@@ -7,7 +7,7 @@ ghost use Rattle.ti_text.specs.Lists.{Has};
 ghost use Rattle.base_slots.specs.Slots.{StandsAt, ids_of, blocks_of, slot_texts};
 ghost use Rattle.base_dependents.specs.Dependents.{IsExchangeOf};
 ghost use Rattle.base_plan.specs.Plans.{IsReady};
-ghost use Rattle.ti_base.specs.inside.Database.{AreKept, AreRead, settled_all};
+ghost use Rattle.ti_base.specs.inside.Database.{AreKept, AreRead, KeepsRule, settled_all};
 ghost use Rattle.ti_base.specs.inside.Exchanges.{names_seen};
 
 use crate::exchange::{entry_of, names_of};
@@ -46,6 +46,7 @@ pub(crate) fn rebuild(
     requires ready { IsReady slots.old put (names_seen out.now) }
     ensures kept { OnOk result (AreKept slots.new) }
     ensures texts { OnOk result (slot_texts slots.new ≡ slot_texts slots.old) }
+    ensures ruled { OnOk result (KeepsRule slots.old slots.new) }
     ensures dependents { IfOk result (λ e. (exchange : Exchange) → IsExchangeOf slots.old put (names_seen out.now) exchange
         → AreDependents exchange e.rebuilt.items) }
     ensures steps { IfOk result (λ e. e.work ≡ work (blocks_of slots.old) e.rebuilt.items) }
@@ -61,6 +62,7 @@ pub(crate) fn rebuild_all(alloc: Global, slots: &mut Slots) -> Result<(), AllocE
     requires { AreRead slots.old }
     ensures kept { OnOk result (AreKept slots.new) }
     ensures texts { OnOk result (slot_texts slots.new ≡ slot_texts slots.old) }
+    ensures ruled { OnOk result (KeepsRule slots.old slots.new) }
     ensures err { OnErr result (slots.new ≡ slots.old) }
 {
     let plan = plan_all(alloc, slots)?;

@@ -1,8 +1,9 @@
 -- What a database stores of its blocks (own): the slot of each, in the order of the list.
 use Rattle.std.specs.Prelude.{ℕ, ◌≡◌, ◌≤◌, ◌↔◌, List, [], ◌∷◌, length, map, insert, Option, Some, None, option_map, slice_get}
 use Rattle.ti_text.specs.Limits.{blocks_max}
+use Rattle.ti_source.specs.declared.parsing.Rule.{Rule}
 use Rattle.ti_source.specs.Reading.{Reading, reading_of}
-use Rattle.ti_source.specs.Parsing.{reading_of_text}
+use Rattle.base_meaning.specs.Readings.{reading_by}
 use Rattle.base_meaning.specs.Usable.{IsUsable}
 use Rattle.base_meaning.specs.Exchange.{PlacedBlock, Exchange}
 use Rattle.base_meaning.specs.Dependents.{IsPutAt}
@@ -20,15 +21,31 @@ reading_seen slot = reading_of slot.block
 abbrev pub text_seen : Slot → List ℕ
 text_seen slot = slot.text.items
 
--- the text of one block, and the block as it is read from it
+-- this holds of each slot of a list
+abbrev pub EachSlot : (Slot → Type 0) → List Slot → Type 0
+EachSlot Holds listed = (at : ℕ) (slot : Slot) → slice_get listed at ≡ Some slot → Holds slot
+
+-- the text of one block, and the block as it is read from it by a rule
 pub record IsSoundSlot (slot : Slot) : Type 0 where
   pub text : IsBlockText slot.text.items
-  pub read : reading_of slot.block ≡ reading_of_text slot.text.items
+  pub read : reading_of slot.block ≡ reading_by slot.block.rule slot.text.items
   pub usable : IsUsable (reading_of slot.block)
 
 -- each slot of a list is sound
 abbrev pub SlotsAreSound : List Slot → Type 0
-SlotsAreSound listed = (at : ℕ) (slot : Slot) → slice_get listed at ≡ Some slot → IsSoundSlot slot
+SlotsAreSound listed = EachSlot IsSoundSlot listed
+
+-- the block of a slot is read by this rule
+abbrev pub HasRule : Rule → Slot → Type 0
+HasRule rule slot = slot.block.rule ≡ rule
+
+-- and so is each of a list
+abbrev pub HaveRule : Rule → Slots → Type 0
+HaveRule rule slots = EachSlot (HasRule rule) (slots_of slots)
+
+-- blocks that are all read by one rule still are
+abbrev pub KeepsRule : Slots → Slots → Type 0
+KeepsRule old new = (rule : Rule) → HaveRule rule old → HaveRule rule new
 
 -- what each slot holds is right for its block in the list
 abbrev pub SlotsAreSettled : List Slot → Type 0
@@ -44,6 +61,11 @@ pub record AreRead (slots : Slots) : Type 0 where
 pub record AreKept (slots : Slots) : Type 0 where
   pub read : AreRead slots
   pub settled : SlotsAreSettled (slots_of slots)
+
+-- and all read by this rule
+pub record AreKeptBy (rule : Rule) (slots : Slots) : Type 0 where
+  pub kept : AreKept slots
+  pub ruled : HaveRule rule slots
 
 -- the slot of a block put in or taken out, and its position
 pub record PlacedSlot : Type 0 where

@@ -1,16 +1,17 @@
 -- What an exchange makes of a list of slots (own).
 use Rattle.std.specs.Prelude.{ℕ, ◌≡◌, ◌<◌, ◌≤◌, ⊤, List, [], length, remove, Option, Some, None, option_map, slice_get, IfSome, IsSome}
+use Rattle.ti_source.specs.declared.parsing.Rule.{Rule}
 use Rattle.ti_source.specs.Reading.{Reading, reading_of}
 use Rattle.base_meaning.specs.Edits.{Change, insertion, replacement, removal, relocation, list_after}
 use Rattle.base_meaning.specs.Exchange.{Exchange}
-use Rattle.base_meaning.specs.Dependents.{AreDependents, Rebuilds, work}
+use Rattle.base_meaning.specs.Dependents.{AreDependents, RebuildsBy, work}
 use Rattle.base_slots.specs.declared.slots.Slot.{Slot}
 use Rattle.base_slots.specs.declared.slots.Slots.{Slots}
 use Rattle.base_slots.specs.Slots.{StandsAt, blocks_of, slot_texts, slots_of}
 use Rattle.base_slots.specs.Changes.{HasRoomFor, TakesOut}
 use Rattle.base_dependents.specs.Dependents.{IsExchangeOf}
 use Rattle.base_plan.specs.Plans.{IsReady}
-use Rattle.ti_base.specs.inside.Database.{AreRead, SlotsAreSettled, IsSoundSlot, PlacedSlot, HasId, with_slot}
+use Rattle.ti_base.specs.inside.Database.{AreRead, SlotsAreSettled, IsSoundSlot, HasRule, HaveRule, PlacedSlot, HasId, with_slot}
 
 -- ---- an edit in its parts
 
@@ -131,11 +132,19 @@ CanUndo slots change spare = CanExchange slots (put_position change) (out_positi
 abbrev pub IsUndone : Slots → Slots → Change → Option Slot → Type 0
 IsUndone old new change spare = slots_of new ≡ with_exchange (slots_of old) (put_position change) (out_position change) spare
 
--- the list after an edit; what planning asks of it, given the id of the block put in and the names
--- of one that is spare; and what is rebuilt
+-- the list after an edit, and what planning asks of it, given the id of the block put in and the
+-- names of one that is spare
 pub record IsEdited (old new : Slots) (change : Change) (id : Option ℕ) (names : List (List ℕ)) : Type 0 where
   pub read : AreRead new
   pub texts : slot_texts new ≡ list_after (slot_texts old) change
   pub ready : SlotsAreSettled (slots_of old) → IsReady new id names
+
+-- the same of a list that is read by a rule, and what is rebuilt
+pub record IsEditedBy (rule : Rule) (old new : Slots) (change : Change) (id : Option ℕ) (names : List (List ℕ)) : Type 0 where
+  pub ruled : HaveRule rule new
   pub rebuilds : (places : List ℕ) (steps : ℕ) → ((e : Exchange) → IsExchangeOf new id names e → AreDependents e places) → steps ≡ work (blocks_of new) places
-      → Rebuilds (slot_texts old) change places steps
+      → RebuildsBy rule (slot_texts old) change places steps
+
+-- the list was read by a rule, and so was the new block, if there is one
+abbrev pub IsEditedByRule : Slots → Slots → Change → Option Slot → Option ℕ → List (List ℕ) → Type 0
+IsEditedByRule old new change before id names = (rule : Rule) → HaveRule rule old → IfSome before (HasRule rule) → IsEditedBy rule old new change id names

@@ -1,5 +1,5 @@
 use Rattle.ti_base.specs.inside.Exchanges.{names_seen}
-use Rattle.ti_base.proofs.Installing.{all_usable, all_stand, kept_installed, texts_stay}
+use Rattle.ti_base.proofs.Installing.{all_usable, all_stand, kept_installed, rule_stays, texts_stay}
 use Rattle.ti_base.proofs.rebuilding.rebuild.Goals as goal
 
 pub plan-requires-clause-usable : goal.plan-requires-clause-usable
@@ -22,3 +22,8 @@ returns-clause-kept c =
 pub returns-clause-texts : goal.returns-clause-texts
 returns-clause-texts c =
     texts_stay c.args.slots.now c.install.new.slots c.in_ok-plan.plan.ids.items c.in_ok-plan.plan.settled.items c.install.ensures.slots
+
+pub returns-clause-ruled : goal.returns-clause-ruled
+returns-clause-ruled c =
+    rule_stays c.args.slots.now c.install.new.slots c.in_ok-plan.plan.ids.items c.in_ok-plan.plan.settled.items c.in_ok-plan.ensures.as_many
+    c.install.ensures.slots

@@ -1,7 +1,7 @@
 use Rattle.std.proofs.Common.{ap, subst, sym, ◌∙◌}
 use Rattle.base_meaning.specs.Edits.{IsSoundEdit, change_of, list_after}
-use Rattle.base_meaning.specs.Dependents.{Rebuilds}
-use Rattle.ti_base.specs.inside.Database.{SlotsAreSettled}
+use Rattle.base_meaning.specs.Dependents.{RebuildsBy}
+use Rattle.ti_base.specs.inside.Database.{EachSlot, HasRule, SlotsAreSettled}
 use Rattle.ti_base.specs.inside.Exchanges.{CanUndo}
 use Rattle.ti_base.proofs.SlotExchanges.{kept_same, read_same, texts_back}
 use Rattle.ti_base.proofs.EditedSlots.{edit_undone}
@@ -26,8 +26,15 @@ returns-in-Ok-clause-texts c =
 pub returns-in-Ok-clause-rebuilds : goal.returns-in-Ok-clause-rebuilds
 returns-in-Ok-clause-rebuilds c =
     let e = c.in-Ok.edited in
-    subst (λ texts. Rebuilds texts (change_of c.args.edit.now) e.rebuilt.items e.work) c.read_new.ensures.texts
-    (c.make-id.ensures.edited.rebuilds e.rebuilt.items e.work c.in-Ok.ensures.dependents c.in-Ok.ensures.steps)
+    let ruled = subst (EachSlot (HasRule c.args.rule)) (sym c.read_new.ensures.slots) c.requires.ruled in
+    subst (λ texts. RebuildsBy c.args.rule texts (change_of c.args.edit.now) e.rebuilt.items e.work) c.read_new.ensures.texts
+    ((c.make-id.ensures.ruled c.args.rule ruled c.in_ok-spare.ensures.ruled).rebuilds e.rebuilt.items e.work c.in-Ok.ensures.dependents c.in-Ok.ensures.steps)
+
+pub returns-in-Ok-clause-ruled : goal.returns-in-Ok-clause-ruled
+returns-in-Ok-clause-ruled c =
+    let ruled = subst (EachSlot (HasRule c.args.rule)) (sym c.read_new.ensures.slots) c.requires.ruled in
+    let made = c.make-id.ensures.ruled c.args.rule ruled c.in_ok-spare.ensures.ruled in
+    subst (EachSlot (HasRule c.args.rule)) (sym c.forget.ensures.slots) (c.in-Ok.ensures.ruled c.args.rule made.ruled)
 
 -- ---- the way back
 
@@ -52,6 +59,16 @@ returns-clause-kept c =
     c.make-id.ensures.made c.in-Err.ensures.err c.undo.ensures
     ∙ c.read_new.ensures.slots))
 
+pub returns-clause-ruled : goal.returns-clause-ruled
+returns-clause-ruled c =
+    let sound = subst (λ texts. IsSoundEdit texts (change_of c.args.edit.now)) (sym c.read_new.ensures.texts) c.requires.sound in
+    let same = c.forget-in-Err.ensures.slots
+    ∙ (edit_undone c.read_new.new.slots c.make-id.new.slots c.rebuild.new.slots c.undo.new.slots
+    (change_of c.args.edit.now) c.in_ok-spare.spare c.make-id.new.spare c.make-id.result c.read_new.ensures.read sound c.in_ok-spare.ensures.new
+    c.make-id.ensures.made c.in-Err.ensures.err c.undo.ensures
+    ∙ c.read_new.ensures.slots) in
+    subst (EachSlot (HasRule c.args.rule)) (sym same) c.requires.ruled
+
 pub returns-clause-err : goal.returns-clause-err
 returns-clause-err c =
     let sound = subst (λ texts. IsSoundEdit texts (change_of c.args.edit.now)) (sym c.read_new.ensures.texts) c.requires.sound in
@@ -64,3 +81,6 @@ returns-clause-err c =
 
 pub returns-in_err-spare-clause-kept : goal.returns-in_err-spare-clause-kept
 returns-in_err-spare-clause-kept c = kept_same c.args.slots.now c.read_new.new.slots c.requires.kept c.read_new.ensures.read c.read_new.ensures.slots
+
+pub returns-in_err-spare-clause-ruled : goal.returns-in_err-spare-clause-ruled
+returns-in_err-spare-clause-ruled c = subst (EachSlot (HasRule c.args.rule)) (sym c.read_new.ensures.slots) c.requires.ruled

@@ -1,9 +1,12 @@
-use Rattle.std.proofs.Common.{◌≤◌, List, ℕ, length, get_or, arith, rules}
+use Rattle.std.proofs.Common.{◌≤◌, List, ℕ, length, get_or, sym, ◌∙◌, ap, arith, rules}
 use Rattle.std.proofs.lemmas.Grind.{common_steps}
+use Rattle.ti_source.specs.declared.parsing.Rule.{Rule}
 use Rattle.ti_source.specs.Reading.{Reading, Said, said_flag, said_number, said_text, said_cancel, said_import}
 use Rattle.ti_source.specs.Sound.{IsLineOf, IsWellRead, SetsItsKind}
 use Rattle.ti_text.specs.Limits.{block_bytes_max}
+use Rattle.base_meaning.specs.Readings.{by_rule}
 use Rattle.base_meaning.specs.Usable.{IsLine, IsUsable, SetsWell}
+use Rattle.base_meaning.proofs.Ruling.{read_by}
 use Rattle.ti_base.specs.inside.Texts.{IsBlockText}
 use Rattle.ti_base.proofs.texts.slot_of.Goals as goal
 
@@ -27,9 +30,13 @@ usable_read text block t r = record {
   fault_lines = λ k d l. line_within text (get_or block.faults k d).line t.short (r.fault_lines k d l);
 }
 
+-- by whatever rule
+usable_by : (rule : Rule) (block : Reading) → IsUsable block → IsUsable (by_rule rule block)
+usable_by rule block u = record { named = u.named; sets = u.sets; item_lines = u.item_lines; fault_lines = u.fault_lines }
+
 pub returns-clause-sound : goal.returns-clause-sound
 returns-clause-sound c = record {
   text = rw c.in_ok-text.ensures.items c.requires.text;
-  read = rw c.in_ok-text.ensures.items c.requires.computed;
-  usable = usable_read c.args.text.now _ c.requires.text c.requires.sound;
+  read = rw c.in_ok-text.ensures.items (ap (by_rule c.args.rule) c.requires.computed ∙ sym (read_by c.args.rule c.args.text.now));
+  usable = usable_by c.args.rule _ (usable_read c.args.text.now _ c.requires.text c.requires.sound);
 }

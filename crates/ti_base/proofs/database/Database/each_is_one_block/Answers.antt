@@ -1,9 +1,7 @@
 use Rattle.std.proofs.Common.{subst}
 use Rattle.std.specs.List.{All}
 use Rattle.ti_source.specs.Cutting.{OneBlock}
-use Rattle.base_slots.specs.Slots.{slots_of}
-use Rattle.ti_base.proofs.SlotLists.{texts_single}
 use Rattle.ti_base.proofs.database.Database.each_is_one_block.Goals as goal
 
 pub returns : goal.returns
-returns c = subst (All OneBlock) c.self.view_is (texts_single (slots_of c.self.inside.slots) c.self.invariant.read.sound)
+returns c = subst (All OneBlock) c.self.view_is c.each_is_one_block.ensures

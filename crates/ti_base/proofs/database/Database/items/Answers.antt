@@ -1,17 +1,10 @@
-use Rattle.std.proofs.Common.{length, refl, List, Some, map, option_map, slice_get, ap, sym, ◌∙◌}
-use Rattle.ti_source.specs.Reading.{Reading, item_of}
+use Rattle.std.proofs.Common.{option_map, slice_get, ap, sym, ◌∙◌}
+use Rattle.ti_source.specs.Reading.{Reading}
 use Rattle.base_meaning.specs.Owner.{readings}
-use Rattle.base_slots.proofs.Owners.{block_of_slot}
-use Rattle.ti_base.proofs.SlotLists.{within_list, blocks_read}
 use Rattle.ti_base.proofs.database.Database.items.Goals as goal
 
 pub returns : goal.returns
-returns c =
-    let slots = c.self.inside.slots in
-    let read = blocks_read slots c.self.invariant.read ∙ ap readings c.self.view_is in
-    let here = block_of_slot slots c.args.at c.slot_of.result.now c.slot_of.ensures in
-    ap (λ (bs : List Reading). option_map (λ (b : Reading). b.items) (slice_get bs c.args.at)) (sym read)
-    ∙ (ap (λ o. option_map (λ (b : Reading). b.items) o) here ∙ ap (λ items. Some (map item_of items)) (sym c.deref.ensures.value))
+returns c = ap (λ texts. option_map (λ (b : Reading). b.items) (slice_get (readings texts) c.args.at)) (sym c.self.view_is) ∙ c.items.ensures
 
-pub slot_of-requires : goal.slot_of-requires
-slot_of-requires c = within_list c.self.inside.slots c.args.self.now c.args.at (length c.args.self.now) c.self.view_is refl c.requires
+pub items-requires : goal.items-requires
+items-requires c = rw c.self.view_is c.requires

@@ -1,21 +1,18 @@
-use Rattle.std.proofs.Common.{◌≡◌, List, ℕ, Some, Option, option_map, length, refl, slice_get, sym, subst}
-use Rattle.ti_layout.specs.declared.values.Table.{Table}
+use Rattle.std.proofs.Common.{◌≡◌, Some, option_map, slice_get, subst}
+use Rattle.ti_source.specs.Reading.{Reading}
 use Rattle.ti_layout.specs.Values.{contents}
-use Rattle.base_meaning.specs.Owner.{readings}
+use Rattle.base_meaning.specs.Readings.{readings_by}
 use Rattle.base_meaning.specs.ValueTables.{HasTable}
-use Rattle.base_slots.specs.Slots.{slot_texts}
-use Rattle.ti_base.proofs.SlotEntries.{table_of_slot}
-use Rattle.ti_base.proofs.SlotLists.{within_list}
+use Rattle.ti_base.specs.RuledTexts.{RuledTexts}
+use Rattle.ti_base.proofs.LeftmostTexts.{is_leftmost}
 use Rattle.ti_base.proofs.database.Database.values.Goals as goal
 
 pub returns : goal.returns
-returns c = λ block there.
-    let slots = c.self.inside.slots in
-    let Kept : List (List ℕ) → Type 0 = λ texts. slice_get (readings texts) c.args.at ≡ Some block
-    → HasTable contents (readings texts) block (option_map (λ table. table.now) c.table_of.result) in
-    let Given : Option Table → Type 0 = λ table. HasTable contents (readings (slot_texts slots)) block table in
-    subst Kept c.self.view_is (λ here. subst Given (sym c.table_of.ensures)
-    (table_of_slot slots c.args.at c.slot_of.result.now block c.self.invariant c.slot_of.ensures here)) there
+returns c =
+    let source = is_leftmost c.self.inside.ruled c.args.self.now c.self.invariant c.self.view_is in
+    let Kept : RuledTexts → Type 0 = λ s. (block : Reading) → slice_get (readings_by s.rule s.texts) c.args.at ≡ Some block
+    → HasTable contents (readings_by s.rule s.texts) block (option_map (λ table. table.now) c.values.result) in
+    subst Kept source c.values.ensures
 
-pub slot_of-requires : goal.slot_of-requires
-slot_of-requires c = within_list c.self.inside.slots c.args.self.now c.args.at (length c.args.self.now) c.self.view_is refl c.requires
+pub values-requires : goal.values-requires
+values-requires c = rw c.self.view_is c.requires
