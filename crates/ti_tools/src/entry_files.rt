@@ -22,7 +22,7 @@ fn add_block(
     let Some(image) = database.compiled(at) else {
         return Ok(());
     };
-    add_entry_files(alloc, files, dir, database, at, image)
+    add_entry_files(alloc, files, dir, database.as_ruled(), at, image)
 }
 
 /// The files of all compiled entries of a source, in the order of its blocks and of their names.

@@ -10,12 +10,12 @@ ghost use Rattle.tools_sources.specs.inside.Names.{IsAsciiName};
 
 use std::alloc::{AllocError, Global};
 use std::rc::RcSlice;
-use ti_base::{Database, distinct_names};
+use ti_base::{RuledDatabase, distinct_names};
 use tools_devices::{File, entry_path};
 
 // Whether a name belongs to the block at a position.
-fn owns(database: &Database, name: &[u8], at: usize) -> bool
-    ensures { result ≡ is_owner (readings database.now) name.now at }
+fn owns(database: &RuledDatabase, name: &[u8], at: usize) -> bool
+    ensures { result ≡ is_owner (readings database.now.texts) name.now at }
 {
     match database.owner(name) {
         Some(place) => place == at,
@@ -47,12 +47,12 @@ fn add_owned(
     directory: &str,
     names: &[RcSlice<u8>],
     image: &[u8],
-    database: &Database,
+    database: &RuledDatabase,
     at: usize,
 ) -> Result<(), AllocError>
     requires { All IsAsciiName (map rc_slice_items names.now) }
     ensures { OnOk result (entries files.new.items ≡ entries files.old.items
-        ++ files_for directory.now (own_names (readings database.now) at (map rc_slice_items names.now)) image.now) }
+        ++ files_for directory.now (own_names (readings database.now.texts) at (map rc_slice_items names.now)) image.now) }
 {
     let once = distinct_names(alloc, names)?;
     for name in &once {
@@ -74,12 +74,12 @@ pub fn add_entry_files(
     alloc: Global,
     files: &mut Vec<File>,
     directory: &str,
-    database: &Database,
+    database: &RuledDatabase,
     at: usize,
     image: &[u8],
 ) -> Result<(), AllocError>
-    requires { at < length database.now }
-    ensures { OnOk result (entries files.new.items ≡ entries files.old.items ++ entry_files directory.now database.now at image.now) }
+    requires { at < length database.now.texts }
+    ensures { OnOk result (entries files.new.items ≡ entries files.old.items ++ entry_files directory.now database.now.texts at image.now) }
 {
     // A law, with no code: each block is read, so its names are ASCII.
     ti_source::laws::one_reading();

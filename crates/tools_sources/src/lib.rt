@@ -3,7 +3,7 @@
 //!
 //! - `source_error`: why a source is refused
 //! - `checking`: whether a source is refused, and the line of its first block
-//! - `loading`: a database of all its blocks
+//! - `loading`: a database of all its blocks, which are read by a rule
 //! - `entry_files`: the files of an entry, one for each name that its block owns
 #![tactic(auto)]
 
@@ -15,5 +15,5 @@ mod source_error;
 
 pub use checking::{check, first_line, is_ended};
 pub use entry_files::add_entry_files;
-pub use loading::database_of;
+pub use loading::{database_by, database_of};
 pub use source_error::SourceError;

@@ -32,7 +32,7 @@ Imports (item ∷ items) name = (imported item.said ≡ Some name) ⊎ Imports i
 
 -- ---- items in a row
 
-imports_parts : (is js : List ReadUserItem) (name : List ℕ) → Imports (is ++ js) name → Imports is name ⊎ Imports js name
+pub imports_parts : (is js : List ReadUserItem) (name : List ℕ) → Imports (is ++ js) name → Imports is name ⊎ Imports js name
 imports_parts [] js name u = inr u
 imports_parts (i ∷ is) js name (inl here) = inl (inl here)
 imports_parts (i ∷ is) js name (inr later) =

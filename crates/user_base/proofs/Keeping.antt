@@ -2,13 +2,14 @@
 use Rattle.std.proofs.Common.{◌≡◌, ℕ, zero, suc, List, [], ◌∷◌, Option, Some, None, slice_get, refl, ◌∙◌, subst}
 use Rattle.std.specs.List.{AllZip}
 use Rattle.std.proofs.lemmas.Option.{same_Some, none-some}
+use Rattle.ti_source.specs.declared.parsing.Rule.{Rule}
 use Rattle.ti_source.specs.Parsing.{reading_of_text}
 use Rattle.base_meaning.specs.Owner.{readings}
 use Rattle.base_meaning.specs.Expansion.{expansion as expansion_there}
 use Rattle.base_meaning.specs.Compiled.{EntryState}
 use Rattle.user_values.specs.Expansion.{expansion}
 use Rattle.user_values.specs.Tables.{TableSeen, HasUserTable}
-use Rattle.user_compiling.specs.Entries.{IsStateOf, does_not_resolve, does_resolve}
+use Rattle.user_compiling.specs.Entries.{IsStateBy, IsStateOf, does_not_resolve, does_resolve}
 use Rattle.user_compiling.proofs.ReadBack.{one_state}
 use Rattle.user_base.specs.Places.{position_before}
 use Rattle.user_base.specs.Kept.{KeptTablesStayRight, KeptStatesStayRight, StatesAreDetermined}
@@ -56,14 +57,15 @@ kept_states = λ texts change states at text state h all stands other e.
 
 -- ---- only one thing becomes of a block
 
-same_states : (texts xs : List (List ℕ)) (ss ts : List EntryState) → AllZip (IsStateOf texts) xs ss → AllZip (IsStateOf texts) xs ts → ss ≡ ts
-same_states texts [] [] [] all both = refl
-same_states texts [] [] (t ∷ ts) all both = absurd both
-same_states texts [] (s ∷ ss) ts all both = absurd all
-same_states texts (x ∷ xs) [] ts all both = absurd all
-same_states texts (x ∷ xs) (s ∷ ss) [] all both = absurd both
-same_states texts (x ∷ xs) (s ∷ ss) (t ∷ ts) all both =
-    rw (one_state texts x s t all.0 both.0, same_states texts xs ss ts all.1 both.1) refl
+same_states : (rule : Rule) (texts xs : List (List ℕ)) (ss ts : List EntryState) → AllZip (IsStateBy rule texts) xs ss → AllZip (IsStateBy rule texts) xs ts
+    → ss ≡ ts
+same_states rule texts [] [] [] all both = refl
+same_states rule texts [] [] (t ∷ ts) all both = absurd both
+same_states rule texts [] (s ∷ ss) ts all both = absurd all
+same_states rule texts (x ∷ xs) [] ts all both = absurd all
+same_states rule texts (x ∷ xs) (s ∷ ss) [] all both = absurd both
+same_states rule texts (x ∷ xs) (s ∷ ss) (t ∷ ts) all both =
+    rw (one_state rule texts x s t all.0 both.0, same_states rule texts xs ss ts all.1 both.1) refl
 
 pub determined_states : StatesAreDetermined
-determined_states = λ texts states others all both. same_states texts texts states others all both
+determined_states = λ rule texts states others all both. same_states rule texts texts states others all both

@@ -1,6 +1,8 @@
 -- A block that does not depend on an edit says after it what it said.
 use Rattle.std.proofs.Common.{◌≡◌, ℕ, inl, inr, List, Option, Some, None, option_map, option_and_then, slice_get, refl, sym, ◌∙◌, ap, subst}
 use Rattle.std.proofs.lemmas.Bool.{false_from_ne_true}
+use Rattle.ti_source.specs.declared.parsing.Rule.{Rule}
+use Rattle.ti_source.specs.declared.parsing.Rule.TheVariants.{Leftmost}
 use Rattle.ti_source.specs.Parsing.{reading_of_text}
 use Rattle.base_meaning.specs.Owner.{is_among, owner, owner_block, readings}
 use Rattle.base_meaning.specs.Expansion.{expansion as expansion_there}
@@ -13,9 +15,10 @@ use Rattle.base_meaning.proofs.KeptWays.{IsFree}
 use Rattle.base_meaning.proofs.Exchanging.{off_old, off_new}
 use Rattle.base_meaning.proofs.KeptFaults.{kept_block, touched_in_both}
 use Rattle.base_meaning.proofs.ExchangeLaws.{exchanged}
+use Rattle.user_values.specs.Expansion.{expand_by, expansion_by}
 use Rattle.user_values.proofs.Resolving.{read_text}
 use Rattle.user_base.specs.Places.{position_before}
-use Rattle.user_base.specs.Untouched.{IsUntouched, UntouchedBlocksSayTheSame}
+use Rattle.user_base.specs.Untouched.{IsUntouched, UntouchedBlocksSayTheSame, UntouchedBlocksSayTheSameByRule}
 use Rattle.user_base.proofs.Places.{PutsAt, put_text, remained, texts_after, shifted_before, put_in}
 use Rattle.user_base.proofs.KeptExpansions.{AgreeOff, expand-kept, expansion-same}
 
@@ -50,6 +53,42 @@ module _ (texts : List (List ℕ)) (change : Change) (h : IsInPlace texts change
       ap (λ bs. owner bs n) (sym led.new) ∙ owner-with e.rest e.put n new.place (new.off n off) in
       ap (option_and_then (slice_get texts)) here ∙ sym (owned_at (owner e.rest n)) ∙ sym (ap (option_and_then (slice_get (list_after texts change))) there)
 
+  -- a block that does not depend on the edit reaches no name that it touches
+  free_at : (at : ℕ) (text : List ℕ) → slice_get (list_after texts change) at ≡ Some text → (IsDependent (exchange_of texts change) at → ⊥)
+      → (n : List ℕ) → Uses (reading_of_text text).items n
+      → IsFree (owner_block (readings texts)) (λ m. is_among m (touched_names (exchange_of texts change))) n
+  free_at at text stands other n u way to w =
+      let e = exchange_of texts change in
+      let led = exchanged texts change h in
+      let block = reading_of_text text in
+      let here : slice_get (new_list e) at ≡ Some block =
+      ap (λ bs. slice_get bs at) led.new ∙ read_text (list_after texts change) at text stands in
+      let apart : ReachesOne (old_list e) (touched_names e) block → ⊥ = λ r. other (block, here, inr ((touched_in_both e block led.fits).0 r)) in
+      false_from_ne_true (is_among to (touched_names e))
+      (λ t. apart (subst (λ bs. ReachesOne bs (touched_names e) block) (sym led.old) (to, t, (n, way, u, w))))
+
+  stood_at : (at : ℕ) (text : List ℕ) → slice_get (list_after texts change) at ≡ Some text → (IsDependent (exchange_of texts change) at → ⊥)
+      → slice_get texts (position_before change at) ≡ Some text
+  stood_at at text stands other =
+      let e = exchange_of texts change in
+      let led = exchanged texts change h in
+      let here : slice_get (new_list e) at ≡ Some (reading_of_text text) =
+      ap (λ bs. slice_get bs at) led.new ∙ read_text (list_after texts change) at text stands in
+      sym (stood_before texts change at h (λ p. other (reading_of_text text, here, inl (put_in texts change at h p)))) ∙ stands
+
+  -- by each rule it says at each depth what it said
+  deep_at : (rule : Rule) (at : ℕ) (text : List ℕ) → slice_get (list_after texts change) at ≡ Some text
+      → (IsDependent (exchange_of texts change) at → ⊥) → (k : ℕ) → expand_by rule (list_after texts change) k text ≡ expand_by rule texts k text
+  deep_at rule at text stands other k =
+      expand-kept rule (λ m. is_among m (touched_names (exchange_of texts change))) texts (list_after texts change) agree k text
+      (free_at at text stands other)
+
+  pub same_at : (rule : Rule) (at : ℕ) (text : List ℕ) → slice_get (list_after texts change) at ≡ Some text
+      → (IsDependent (exchange_of texts change) at → ⊥) → expansion_by rule (list_after texts change) text ≡ expansion_by rule texts text
+  same_at rule at text stands other =
+      expansion-same rule texts (list_after texts change) (position_before change at) at text (stood_at at text stands other) stands
+      (deep_at rule at text stands other)
+
   untouched_at : (at : ℕ) (text : List ℕ) → slice_get (list_after texts change) at ≡ Some text → (IsDependent (exchange_of texts change) at → ⊥)
       → IsUntouched texts change at text
   untouched_at at text stands other =
@@ -57,18 +96,12 @@ module _ (texts : List (List ℕ)) (change : Change) (h : IsInPlace texts change
       let led = exchanged texts change h in
       let next = list_after texts change in
       let block = reading_of_text text in
-      let test = λ (n : List ℕ). is_among n (touched_names e) in
       let here : slice_get (new_list e) at ≡ Some block = ap (λ bs. slice_get bs at) led.new ∙ read_text next at text stands in
       let apart : ReachesOne (old_list e) (touched_names e) block → ⊥ = λ r. other (block, here, inr ((touched_in_both e block led.fits).0 r)) in
-      let free : (n : List ℕ) → Uses block.items n → IsFree (owner_block (readings texts)) test n =
-      λ n u way to w. false_from_ne_true (test to) (λ t. apart (subst (λ bs. ReachesOne bs (touched_names e) block) (sym led.old) (to, t, (n, way, u, w)))) in
-      let stood : slice_get texts (position_before change at) ≡ Some text =
-      sym (stood_before texts change at h (λ p. other (block, here, inl (put_in texts change at h p)))) ∙ stands in
-      let deep = λ (k : ℕ). expand-kept test texts next agree k text free in
       record {
-        stood = stood;
-        at_depth = deep;
-        user_mentions = expansion-same texts next (position_before change at) at text stood stands deep;
+        stood = stood_at at text stands other;
+        at_depth = deep_at Leftmost at text stands other;
+        user_mentions = same_at Leftmost at text stands other;
         mentions = elim (split-with e.put at) [
           | inl put ↦ absurd (other (block, here, inl put))
           | inr stays ↦
@@ -82,3 +115,6 @@ module _ (texts : List (List ℕ)) (change : Change) (h : IsInPlace texts change
 
 pub untouched : UntouchedBlocksSayTheSame
 untouched = λ texts change at text h stands other. untouched_at texts change h at text stands other
+
+pub untouched_by_rule : UntouchedBlocksSayTheSameByRule
+untouched_by_rule = λ rule texts change at text h stands other. same_at texts change h rule at text stands other

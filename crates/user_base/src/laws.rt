@@ -1,11 +1,16 @@
 //! Laws of what edits leave. They compute nothing.
 ghost use Rattle.user_base.specs.Kept.{KeptStatesStayRight, KeptTablesStayRight, StatesAreDetermined};
-ghost use Rattle.user_base.specs.Untouched.{UntouchedBlocksSayTheSame};
+ghost use Rattle.user_base.specs.Untouched.{UntouchedBlocksSayTheSame, UntouchedBlocksSayTheSameByRule};
 
 /// A block that does not depend on an edit stood in the source before, and says of user-defined
 /// capabilities, and of the tables, what it said.
 pub fn untouched_blocks_say_the_same()
     ensures { UntouchedBlocksSayTheSame }
+{}
+
+/// By each rule such a block says of user-defined capabilities what it said.
+pub fn untouched_blocks_say_the_same_by_rule()
+    ensures { UntouchedBlocksSayTheSameByRule }
 {}
 
 /// The table that such a block had is its table after the edit.

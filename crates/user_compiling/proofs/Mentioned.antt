@@ -1,9 +1,9 @@
 -- What holds of all that the items of a source say holds of what its blocks say.
-use Rattle.std.proofs.Common.{◌≡◌, ℕ, zero, suc, Bool, true, false, cond, List, [], ◌∷◌, ◌++◌, Option, Some, None, option_map, option_and_then, slice_get, refl, subst}
+use Rattle.std.proofs.Common.{◌≡◌, ℕ, zero, suc, Bool, true, false, cond, List, [], ◌∷◌, ◌++◌, Option, Some, None, is_some, option_map, option_and_then, slice_get, refl, subst}
 use Rattle.std.specs.List.{All, AllByRecursion, Contains}
 use Rattle.std.specs.Str.{bytes_eq}
 use Rattle.std.specs.Cmp.Lexicographic.{bytes_decides}
-use Rattle.std.proofs.lemmas.List.Elements.{All-nil, All-cons, All-head, All-tail, All-append, All-weaker, All-contains_itself, All-from_recursion, recursion_from_All}
+use Rattle.std.proofs.lemmas.List.Elements.{All-nil, All-cons, All-head, All-tail, All-append, All-filter, All-weaker, All-contains_itself, All-from_recursion, recursion_from_All}
 use Rattle.std.proofs.lemmas.Option.{same_Some, none-some, option_and_then_some}
 use Rattle.ti_text.specs.Lists.{both_lists}
 use Rattle.ti_source.specs.Parsing.{reading_of_text}
@@ -19,7 +19,11 @@ use Rattle.user_items.specs.Verdicts.{UserSaid, says, imports}
 use Rattle.user_items.specs.Reading.{ReadUserItem}
 use Rattle.user_items.specs.Parsing.{user_reading_of_text}
 use Rattle.user_extension.specs.UserDefined.{Row}
-use Rattle.user_values.specs.Expansion.{UserMention, first_said, mentions_of, expand_items, owner_text, expand as user_expand}
+use Rattle.ti_layout.specs.Laws.{without_cancel}
+use Rattle.user_values.specs.Expansion.{UserMention, first_said, mentions_of, expand_items, owner_text, expand_by}
+use Rattle.user_values.specs.Expansion.{is_use as is_user_use, own_items as own_user_items, use_items as use_user_items}
+use Rattle.user_values.specs.Expansion.{block_mentions as user_block_mentions, uncancelled as user_dropped}
+use Rattle.user_values.proofs.Depth.{mapped_part as user_mapped_part}
 use Rattle.user_compiling.specs.Rows.{AreRowsOf}
 use Rattle.user_compiling.proofs.RowLists.{row_same, uncancelled}
 
@@ -135,16 +139,54 @@ user-items-have P of_name h (item ∷ items) ms has e =
     both-have P (mentions_of of_name item.said) (expand_items of_name items) ms e (λ xs f. user-item-has P of_name h item.said xs has.0 f)
     (λ ys f. user-items-have P of_name h items ys has.1 f)
 
-pub user-mentions-have : (P : UserMention → Type 0) (texts : List (List ℕ)) → ((at : ℕ) (text : List ℕ) → slice_get texts at ≡ Some text → UserItemsHave P text)
-    → (depth : ℕ) (text : List ℕ) (ms : List UserMention) → UserItemsHave P text → user_expand texts depth text ≡ Some ms → All P ms
-user-mentions-have P texts good zero text ms has e = absurd (none-some ms e)
-user-mentions-have P texts good (suc depth) text ms has e =
-    let of_name : List ℕ → Option (List UserMention) = λ name. option_and_then (user_expand texts depth) (owner_text texts name) in
-    user-items-have P of_name
-    (λ name more is. option_and_then_some (user_expand texts depth) (owner_text texts name) more is
+own_all : (P : ReadUserItem → Type 0) (b : Bool) (i : ReadUserItem) (own : List ReadUserItem) → P i → All P own → All P (cond b own (own ++ i ∷ []))
+own_all P true i own p all = all
+own_all P false i own p all = All-append P own (i ∷ []) all (All-cons P i [] p (All-nil P))
+
+own_items_all : (P : ReadUserItem → Type 0) (is : List ReadUserItem) → All P is → All P (own_user_items is)
+own_items_all P [] all = all
+own_items_all P (i ∷ is) all = own_all P (is_user_use i.said) i (own_user_items is) (All-head P i is all) (own_items_all P is (All-tail P i is all))
+
+use_all : (P : ReadUserItem → Type 0) (b : Bool) (i : ReadUserItem) (used : List ReadUserItem) → P i → All P used → All P (cond b (i ∷ used) used)
+use_all P true i used p all = All-cons P i used p all
+use_all P false i used p all = all
+
+use_items_all : (P : ReadUserItem → Type 0) (is : List ReadUserItem) → All P is → All P (use_user_items is)
+use_items_all P [] all = all
+use_items_all P (i ∷ is) all = use_all P (is_user_use i.said) i (use_user_items is) (All-head P i is all) (use_items_all P is (All-tail P i is all))
+
+dropped_all : (P : UserMention → Type 0) (ms : List UserMention) → All P ms → All P (user_dropped ms)
+unfolding user_dropped
+dropped_all P ms all = All-filter (λ (m : UserMention). is_some (without_cancel (first_said ms m.0))) P ms all
+
+-- by either rule
+user-ruled-have : (P : UserMention → Type 0) (rule : Rule) (of_name : List ℕ → Option (List UserMention))
+    → ((name : List ℕ) (ms : List UserMention) → of_name name ≡ Some ms → All P ms)
+    → (items : List ReadUserItem) (ms : List UserMention) → AllByRecursion (λ (item : ReadUserItem). UserSaidHas P item.said) items
+    → user_block_mentions rule of_name items ≡ Some ms → All P ms
+user-ruled-have P Leftmost of_name h items ms has e = user-items-have P of_name h items ms has e
+user-ruled-have P OwnFirst of_name h items ms has e =
+    let Has : ReadUserItem → Type 0 = λ item. UserSaidHas P item.said in
+    let all = All-from_recursion Has items has in
+    let own = recursion_from_All Has (own_user_items items) (own_items_all Has items all) in
+    let used = recursion_from_All Has (use_user_items items) (use_items_all Has items all) in
+    both-have P (expand_items of_name (own_user_items items)) (option_map user_dropped (expand_items of_name (use_user_items items))) ms e
+    (λ xs f. user-items-have P of_name h (own_user_items items) xs own f)
+    (λ ys f. let m = user_mapped_part user_dropped (expand_items of_name (use_user_items items)) ys f in
+    subst (λ zs. All P zs) m.mapped (dropped_all P m.before (user-items-have P of_name h (use_user_items items) m.before used m.is)))
+
+pub user-mentions-have : (P : UserMention → Type 0) (rule : Rule) (texts : List (List ℕ))
+    → ((at : ℕ) (text : List ℕ) → slice_get texts at ≡ Some text → UserItemsHave P text)
+    → (depth : ℕ) (text : List ℕ) (ms : List UserMention) → UserItemsHave P text → expand_by rule texts depth text ≡ Some ms → All P ms
+user-mentions-have P rule texts good zero text ms has e = absurd (none-some ms e)
+user-mentions-have P rule texts good (suc depth) text ms has e =
+    let of_name : List ℕ → Option (List UserMention) = λ name. option_and_then (expand_by rule texts depth) (owner_text texts name) in
+    user-ruled-have P rule of_name
+    (λ name more is. option_and_then_some (expand_by rule texts depth) (owner_text texts name) more is
     (λ owned o gives. option_and_then_some (slice_get texts) (owner (readings texts) name) owned o
-    (λ at p stands. user-mentions-have P texts good depth owned more (good at owned stands) gives)))
-    (user_reading_of_text text).items ms has (if_whole (is_broken (reading_of_text text)) (expand_items of_name (user_reading_of_text text).items) ms e)
+    (λ at p stands. user-mentions-have P rule texts good depth owned more (good at owned stands) gives)))
+    (user_reading_of_text text).items ms has
+    (if_whole (is_broken (reading_of_text text)) (user_block_mentions rule of_name (user_reading_of_text text).items) ms e)
 
 -- ---- what a name is given
 

@@ -13,12 +13,15 @@ use Rattle.ti_caps.specs.Tables.{Capability, same_capability}
 use Rattle.ti_caps.proofs.Same.{same_capability-true}
 use Rattle.ti_source.specs.Cutting.{OneBlock}
 use Rattle.ti_source.specs.Parsing.{reading_of_text}
-use Rattle.ti_source.specs.Reading.{ReadItem, Said, said_flag, said_number, said_text, said_cancel, said_import}
+use Rattle.ti_source.specs.declared.parsing.Rule.{Rule}
+use Rattle.ti_source.specs.Reading.{Reading, ReadItem, Said, said_flag, said_number, said_text, said_cancel, said_import}
 use Rattle.ti_source.specs.Sound.{EachIsWellRead, SetsItsKind}
 use Rattle.ti_layout.specs.Values.{Content, content_true, content_number, content_text, content_cancelled, Mention, contents, Agrees, AgreesIfSome}
 use Rattle.ti_layout.specs.Laws.{without_cancel}
-use Rattle.base_meaning.specs.Owner.{owner_block, readings}
-use Rattle.base_meaning.specs.Expansion.{values, expansion}
+use Rattle.base_meaning.specs.Owner.{owner_block}
+use Rattle.base_meaning.specs.Readings.{reading_by, readings_by}
+use Rattle.base_meaning.specs.Expansion.{is_broken, values, expansion}
+use Rattle.base_meaning.proofs.Ruling.{read_by}
 use Rattle.base_meaning.specs.Compiled.{EntryState, unresolved, oversized, written}
 use Rattle.base_meaning.proofs.Imaging.{sound_of_expansion}
 use Rattle.user_items.specs.Names.{is_user_defined_name}
@@ -30,9 +33,9 @@ use Rattle.user_extension.specs.UserDefined.{IsValue, Row, comes_before}
 use Rattle.user_extension.specs.Extension.{entry_limit}
 use Rattle.user_extension.specs.Reading.{said}
 use Rattle.user_extension.specs.Laws.{as_read, EntriesAreRead}
-use Rattle.user_values.specs.Expansion.{UserMention, first_said, expansion as user_expansion, user_value}
+use Rattle.user_values.specs.Expansion.{UserMention, first_said, expansion_by, user_value_by}
 use Rattle.user_compiling.specs.Rows.{AreRowsOf}
-use Rattle.user_compiling.specs.Entries.{entry_with, IsStateOf, does_not_resolve, does_resolve, state_with}
+use Rattle.user_compiling.specs.Entries.{entry_with, IsStateBy, does_not_resolve, does_resolve, state_with}
 use Rattle.user_compiling.specs.ReadBack.{ReadsBack, RowsAreUserDefined, EntriesReadBack, StatesOfBlocksAreDetermined}
 use Rattle.user_compiling.proofs.RowLists.{contains_head, contains_later, contains_cases, contains_none, row_same, rows_apart, rows_are_determined}
 use Rattle.user_compiling.proofs.States.{uncancelled-twice}
@@ -61,10 +64,10 @@ text-sound sound text one =
     (All-weaker (λ (item : ReadUserItem). IsSoundItem item.said) (λ (item : ReadUserItem). UserSaidHas IsSound item.said)
     (λ item h. said-sound item.said h) items (sound text one).items)
 
-mentions-sound : EachUserReadingIsSound → (texts : List (List ℕ)) (at : ℕ) (text : List ℕ) (ms : List UserMention) → All OneBlock texts
-    → slice_get texts at ≡ Some text → user_expansion texts text ≡ Some ms → All IsSound ms
-mentions-sound sound texts at text ms blocks stands e =
-    user-mentions-have IsSound texts (λ k t here. text-sound sound t (all-at OneBlock texts k t blocks here)) (suc (length texts)) text ms
+mentions-sound : EachUserReadingIsSound → (rule : Rule) (texts : List (List ℕ)) (at : ℕ) (text : List ℕ) (ms : List UserMention) → All OneBlock texts
+    → slice_get texts at ≡ Some text → expansion_by rule texts text ≡ Some ms → All IsSound ms
+mentions-sound sound rule texts at text ms blocks stands e =
+    user-mentions-have IsSound rule texts (λ k t here. text-sound sound t (all-at OneBlock texts k t blocks here)) (suc (length texts)) text ms
     (text-sound sound text (all-at OneBlock texts at text blocks stands)) e
 
 never-cancelled : (o : Option Content) → without_cancel o ≡ Some content_cancelled → ⊥
@@ -93,8 +96,8 @@ names-once given rows u v are first second before same =
     rows_apart u u itself itself
 
 pub rows_are_user_defined : EachUserReadingIsSound → RowsAreUserDefined
-rows_are_user_defined sound texts at text ms rows blocks stands e are =
-    let has : All IsSound rows = rows-have IsSound ms rows are (mentions-sound sound texts at text ms blocks stands e) in
+rows_are_user_defined sound rule texts at text ms rows blocks stands e are =
+    let has : All IsSound rows = rows-have IsSound ms rows are (mentions-sound sound rule texts at text ms blocks stands e) in
     record {
       names = All-weaker IsSound (λ (u : Row). IsTrue (is_user_defined_name u.0)) (λ u h. h.0) rows has;
       values = All-weaker (Contains rows) (λ (u : Row). IsValue u.1)
@@ -146,12 +149,12 @@ rows-say given rows are name = by-said given rows name are (said (as_read rows) 
 -- ---- a block that has an entry
 
 -- a block that has this entry resolves, and the entry is within its limit
-pub record IsWritten (texts : List (List ℕ)) (text bytes : List ℕ) : Type 0 where
+pub record IsWritten (rule : Rule) (texts : List (List ℕ)) (text bytes : List ℕ) : Type 0 where
   pub mentions : List Mention
   pub user_mentions : List UserMention
   pub rows : List Row
-  pub expands : expansion (readings texts) (reading_of_text text) ≡ Some mentions
-  pub user_expands : user_expansion texts text ≡ Some user_mentions
+  pub expands : expansion (readings_by rule texts) (reading_by rule text) ≡ Some mentions
+  pub user_expands : expansion_by rule texts text ≡ Some user_mentions
   pub are_rows : AreRowsOf (first_said user_mentions) rows
   pub is : entry_with (reading_of_text text) mentions rows ≡ bytes
   pub within : length (entry_with (reading_of_text text) mentions rows) ≤ entry_limit (values mentions) rows
@@ -173,10 +176,10 @@ by-size : (limit : ℕ) (image bytes : List ℕ) (b : Bool) → nat_lt limit (le
 by-size limit image bytes true large e = absurd (not-oversized bytes e)
 by-size limit image bytes false small e = (ap bytes_in e, ltb-false limit (length image) small)
 
-pub has-entry : (texts : List (List ℕ)) (text : List ℕ) (state : EntryState) (bytes : List ℕ) → IsStateOf texts text state → state ≡ written bytes
-    → IsWritten texts text bytes
-has-entry texts text _ bytes (does_not_resolve none) e = absurd (not-unresolved bytes e)
-has-entry texts text _ bytes (does_resolve {state = state} h) e =
+pub has-entry : (rule : Rule) (texts : List (List ℕ)) (text : List ℕ) (state : EntryState) (bytes : List ℕ) → IsStateBy rule texts text state
+    → state ≡ written bytes → IsWritten rule texts text bytes
+has-entry rule texts text _ bytes (does_not_resolve none) e = absurd (not-unresolved bytes e)
+has-entry rule texts text _ bytes (does_resolve {state = state} h) e =
     let block = reading_of_text text in
     let limit = entry_limit (values h.mentions) h.rows in
     let image = entry_with block h.mentions h.rows in
@@ -211,9 +214,12 @@ text-agrees well text one =
     (All-weaker (λ (item : ReadItem). SetsItsKind item.said) (λ (item : ReadItem). SaidHas Agreeing item.said)
     (λ item h. said-agrees item.said h) items (well text one).sets)
 
-texts-agree : EachIsWellRead → (texts : List (List ℕ)) → AllByRecursion OneBlock texts → AllByRecursion (ItemsHave Agreeing) (readings texts)
-texts-agree well [] blocks = tt
-texts-agree well (text ∷ texts) blocks = (text-agrees well text blocks.0, texts-agree well texts blocks.1)
+ruled-agrees : EachIsWellRead → (rule : Rule) (text : List ℕ) → OneBlock text → ItemsHave Agreeing (reading_by rule text)
+ruled-agrees well rule text one = subst (λ (b : Reading). ItemsHave Agreeing b) (sym (read_by rule text)) (text-agrees well text one)
+
+texts-agree : EachIsWellRead → (rule : Rule) (texts : List (List ℕ)) → AllByRecursion OneBlock texts → AllByRecursion (ItemsHave Agreeing) (readings_by rule texts)
+texts-agree well rule [] blocks = tt
+texts-agree well rule (text ∷ texts) blocks = (ruled-agrees well rule text blocks.0, texts-agree well rule texts blocks.1)
 
 contents-agree : (ms : List Mention) (c : Capability) → All Agreeing ms → AgreesIfSome c (contents ms c)
 unfolding contents
@@ -231,13 +237,14 @@ uncancelled-agrees c (Some (content_text t)) agrees = agrees
 uncancelled-agrees c (Some content_cancelled) agrees = tt
 
 -- each capability may have its value
-values-agree : EachIsWellRead → (texts : List (List ℕ)) (at : ℕ) (text : List ℕ) (ms : List Mention) → All OneBlock texts → slice_get texts at ≡ Some text
-    → expansion (readings texts) (reading_of_text text) ≡ Some ms → (c : Capability) → AgreesIfSome c (values ms c)
-values-agree well texts at text ms blocks stands e c =
-    let each = texts-agree well texts (recursion_from_All OneBlock texts blocks) in
-    let own = text-agrees well text (all-at OneBlock texts at text blocks stands) in
-    let all = mentions-have Agreeing (owner_block (readings texts)) (λ name block o. owned-has (ItemsHave Agreeing) (readings texts) name block each o)
-    (suc (length (readings texts))) (reading_of_text text) ms own e in
+values-agree : EachIsWellRead → (rule : Rule) (texts : List (List ℕ)) (at : ℕ) (text : List ℕ) (ms : List Mention) → All OneBlock texts
+    → slice_get texts at ≡ Some text → expansion (readings_by rule texts) (reading_by rule text) ≡ Some ms → (c : Capability) → AgreesIfSome c (values ms c)
+values-agree well rule texts at text ms blocks stands e c =
+    let each = texts-agree well rule texts (recursion_from_All OneBlock texts blocks) in
+    let own = ruled-agrees well rule text (all-at OneBlock texts at text blocks stands) in
+    let all = mentions-have Agreeing (owner_block (readings_by rule texts))
+    (λ name block o. owned-has (ItemsHave Agreeing) (readings_by rule texts) name block each o)
+    (suc (length (readings_by rule texts))) (reading_by rule text) ms own e in
     uncancelled-agrees c (contents ms c) (contents-agree ms c all)
 
 -- ---- reading
@@ -246,22 +253,24 @@ some-long : (w : List ℕ) → w ≢ [] → 0 < length w
 some-long [] some = absurd (some refl)
 some-long (x ∷ w) some = omega arith
 
-value-of : (texts : List (List ℕ)) (at : ℕ) (text : List ℕ) (ms : List UserMention) (name : List ℕ) → slice_get texts at ≡ Some text
-    → user_expansion texts text ≡ Some ms → user_value texts at name ≡ without_cancel (first_said ms name)
-value-of texts at text ms name stands e =
+value-of : (rule : Rule) (texts : List (List ℕ)) (at : ℕ) (text : List ℕ) (ms : List UserMention) (name : List ℕ) → slice_get texts at ≡ Some text
+    → expansion_by rule texts text ≡ Some ms → user_value_by rule texts at name ≡ without_cancel (first_said ms name)
+value-of rule texts at text ms name stands e =
     let value : List UserMention → Option Content = λ mentions. without_cancel (first_said mentions name) in
-    ap (λ o. option_and_then value (option_and_then (user_expansion texts) o)) stands ∙ ap (option_and_then value) e
+    ap (λ o. option_and_then value (option_and_then (expansion_by rule texts) o)) stands ∙ ap (option_and_then value) e
 
 pub entries_read_back : EachIsWellRead → EachUserReadingIsSound → EntriesAreRead → EntriesReadBack
-entries_read_back well sound read texts at text bytes blocks stands is =
-    let h = has-entry texts text (written bytes) bytes is refl in
+entries_read_back well sound read rule texts at text bytes blocks stands is =
+    let h = has-entry rule texts text (written bytes) bytes is refl in
     let block = reading_of_text text in
     let one = all-at OneBlock texts at text blocks stands in
-    let named = (well text one).named (sound_of_expansion (readings texts) block h.mentions h.expands) in
-    let user = rows_are_user_defined sound texts at text h.user_mentions h.rows blocks stands h.user_expands h.are_rows in
+    let whole : is_broken block ≡ false = subst (λ (b : Reading). is_broken b ≡ false) (read_by rule text)
+    (sound_of_expansion (readings_by rule texts) (reading_by rule text) h.mentions h.expands) in
+    let named = (well text one).named whole in
+    let user = rows_are_user_defined sound rule texts at text h.user_mentions h.rows blocks stands h.user_expands h.are_rows in
     let back = read block.field (values h.mentions) h.rows (some-long block.field named.some) named.short named.no_nul
-    (λ c valid. values-agree well texts at text h.mentions blocks stands h.expands c) user h.within in
-    subst (ReadsBack texts at text) h.is
+    (λ c valid. values-agree well rule texts at text h.mentions blocks stands h.expands c) user h.within in
+    subst (ReadsBack rule texts at text) h.is
     (record {
       contents = back.0;
       mentions = h.mentions;
@@ -270,16 +279,16 @@ entries_read_back well sound read texts at text bytes blocks stands is =
       tables = λ c valid. back.2 c valid ∙ uncancelled-twice (contents h.mentions c);
       ends_well = back.3;
       user_defined = λ name. ap (λ rows. said rows name) back.4 ∙ rows-say (first_said h.user_mentions) h.rows h.are_rows name
-          ∙ sym (value-of texts at text h.user_mentions name stands h.user_expands);
+          ∙ sym (value-of rule texts at text h.user_mentions name stands h.user_expands);
     })
 
 -- ---- only one thing becomes of a block
 
 pub one_state : StatesOfBlocksAreDetermined
-one_state texts text _ _ (does_not_resolve e) (does_not_resolve f) = refl
-one_state texts text _ _ (does_not_resolve e) (does_resolve {state = t} h) = absurd (none-some h.mentions (sym e ∙ h.expands))
-one_state texts text _ _ (does_resolve {state = s} g) (does_not_resolve f) = absurd (none-some g.mentions (sym f ∙ g.expands))
-one_state texts text _ _ (does_resolve {state = s} g) (does_resolve {state = t} h) =
+one_state rule texts text _ _ (does_not_resolve e) (does_not_resolve f) = refl
+one_state rule texts text _ _ (does_not_resolve e) (does_resolve {state = t} h) = absurd (none-some h.mentions (sym e ∙ h.expands))
+one_state rule texts text _ _ (does_resolve {state = s} g) (does_not_resolve f) = absurd (none-some g.mentions (sym f ∙ g.expands))
+one_state rule texts text _ _ (does_resolve {state = s} g) (does_resolve {state = t} h) =
     let block = reading_of_text text in
     let mentions = same_Some g.mentions h.mentions (sym g.expands ∙ h.expands) in
     let user_mentions = same_Some g.user_mentions h.user_mentions (sym g.user_expands ∙ h.user_expands) in

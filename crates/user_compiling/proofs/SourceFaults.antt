@@ -6,18 +6,20 @@ use Rattle.std.specs.List.{take-map, drop-map}
 use Rattle.std.proofs.lemmas.List.{append-nil, drop_all, length-map}
 use Rattle.ti_base.proofs.Lists.{drop_get}
 use Rattle.std.proofs.lemmas.List.Elements.{All-nil, All-cons, All-head, All-tail, All-append, All-map}
-use Rattle.user_values.proofs.Resolving.{read_text}
+use Rattle.user_values.proofs.Making.{read_by_text}
 use Rattle.ti_source.specs.declared.code.Code.{Code}
 use Rattle.ti_source.specs.declared.code.Code.TheVariants as code
+use Rattle.ti_source.specs.declared.parsing.Rule.{Rule}
 use Rattle.ti_source.specs.Reading.{Reading, ReadFault, ReadItem}
 use Rattle.ti_source.specs.Parsing.{reading_of_text}
 use Rattle.ti_layout.specs.Values.{Contents, Mention}
-use Rattle.base_meaning.specs.Owner.{readings}
+use Rattle.base_meaning.specs.Readings.{reading_by, readings_by}
+use Rattle.base_meaning.proofs.Ruling.{read_by}
 use Rattle.base_meaning.specs.Reaching.{used_name}
 use Rattle.base_meaning.specs.Expansion.{expansion}
 use Rattle.base_meaning.specs.Usable.{IsPlaced}
 use Rattle.base_meaning.specs.ValueTables.{HasTable}
-use Rattle.base_meaning.specs.Compiled.{EntryState, unresolved, oversized, written, state_of, state_with, entry, entry_of, is_too_large, image_of, compiled}
+use Rattle.base_meaning.specs.Compiled.{EntryState, unresolved, oversized, written, state_of, state_with, entry, entry_of, is_too_large, image_of, compiled_by}
 use Rattle.base_meaning.specs.Faults.{SourceFault, local_fault, local_faults, is_kept, name_fault, name_faults, is_owned_before, distinct, use_fault}
 use Rattle.base_meaning.specs.Faults.{fault_of_use, fault_of_item, faults_before, faults_from, item_faults, entry_faults, block_faults, faults_after}
 use Rattle.user_items.specs.declared.reading.UserCode.{UserCode}
@@ -35,6 +37,12 @@ in_two blocks at b =
     let names = name_faults blocks at b.names in
     let last = entry_faults at b.names (state_of blocks b) in
     sym (append_assoc (local_faults true at b.faults) (names ++ items) last ∙ ap (λ xs. local_faults true at b.faults ++ xs) (append_assoc names items last))
+
+pub in_two_by : (rule : Rule) (blocks : List Reading) (at : ℕ) (text : List ℕ) → block_faults blocks at (reading_by rule text)
+    ≡ front_faults blocks at (reading_of_text text) ++ entry_faults at (reading_of_text text).names (state_of blocks (reading_by rule text))
+in_two_by rule blocks at text =
+    in_two blocks at (reading_by rule text)
+    ∙ ap (λ (b : Reading). front_faults blocks at b ++ entry_faults at b.names (state_of blocks (reading_by rule text))) (read_by rule text)
 
 take_front : {X : Type 0} (xs ys : List X) → take (length xs) (xs ++ ys) ≡ xs
 take_front [] ys = refl
@@ -73,36 +81,38 @@ some_of_table : {T : Type 0} (f : T → Contents) (blocks : List Reading) (b : R
 some_of_table f blocks b None h = ap is_some h
 some_of_table f blocks b (Some t) h = ap is_some h.1
 
-pub entry_count : {T : Type 0} (f : T → Contents) (texts : List (List ℕ)) (at : ℕ) (text : List ℕ) (t : Option T) (o : Option (List ℕ))
+pub entry_count : {T : Type 0} (f : T → Contents) (rule : Rule) (texts : List (List ℕ)) (at : ℕ) (text : List ℕ) (t : Option T) (o : Option (List ℕ))
     → slice_get texts at ≡ Some text
-    → HasTable f (readings texts) (reading_of_text text) t → o ≡ compiled texts at
-    → length (entry_faults at (reading_of_text text).names (state_of (readings texts) (reading_of_text text))) ≡ cond (is_some t && is_none o) 1 0
-entry_count f texts at text t o stands h e =
-    let there : slice_get (readings texts) at ≡ Some (reading_of_text text) = read_text texts at text stands in
-    let here : compiled texts at ≡ option_and_then (entry_of (reading_of_text text)) (expansion (readings texts) (reading_of_text text)) =
-    ap (option_and_then (entry (readings texts))) there in
-    entry_count_by at (reading_of_text text).names (reading_of_text text) (expansion (readings texts) (reading_of_text text)) (is_some t)
-    (some_of_table f (readings texts) (reading_of_text text) t h)
+    → HasTable f (readings_by rule texts) (reading_by rule text) t → o ≡ compiled_by rule texts at
+    → length (entry_faults at (reading_of_text text).names (state_of (readings_by rule texts) (reading_by rule text))) ≡ cond (is_some t && is_none o) 1 0
+entry_count f rule texts at text t o stands h e =
+    let blocks = readings_by rule texts in
+    let b = reading_by rule text in
+    let there : slice_get blocks at ≡ Some b = read_by_text rule texts at text stands in
+    let here : compiled_by rule texts at ≡ option_and_then (entry_of b) (expansion blocks b) = ap (option_and_then (entry blocks)) there in
+    entry_count_by at (reading_of_text text).names b (expansion blocks b) (is_some t) (some_of_table f blocks b t h)
     ∙ ap (λ q. cond (is_some t && is_none q) 1 0) (sym (e ∙ here))
 
 -- a block that has an entry has no fault of it
-pub entry_none : (texts : List (List ℕ)) (at : ℕ) (text bytes : List ℕ) → slice_get texts at ≡ Some text → Some bytes ≡ compiled texts at
-    → length (entry_faults at (reading_of_text text).names (state_of (readings texts) (reading_of_text text))) ≡ 0
-entry_none texts at text bytes stands e =
-    let b = reading_of_text text in
-    let there : slice_get (readings texts) at ≡ Some b = read_text texts at text stands in
-    let here : compiled texts at ≡ option_and_then (entry_of b) (expansion (readings texts) b) = ap (option_and_then (entry (readings texts))) there in
-    entry_count_by at b.names b (expansion (readings texts) b) (is_some (expansion (readings texts) b)) refl
-    ∙ ap (λ o. cond (is_some (expansion (readings texts) b) && is_none o) 1 0) (sym (e ∙ here)) ∙ neither (is_some (expansion (readings texts) b)) where
+pub entry_none : (rule : Rule) (texts : List (List ℕ)) (at : ℕ) (text bytes : List ℕ) → slice_get texts at ≡ Some text
+    → Some bytes ≡ compiled_by rule texts at
+    → length (entry_faults at (reading_of_text text).names (state_of (readings_by rule texts) (reading_by rule text))) ≡ 0
+entry_none rule texts at text bytes stands e =
+    let blocks = readings_by rule texts in
+    let b = reading_by rule text in
+    let there : slice_get blocks at ≡ Some b = read_by_text rule texts at text stands in
+    let here : compiled_by rule texts at ≡ option_and_then (entry_of b) (expansion blocks b) = ap (option_and_then (entry blocks)) there in
+    entry_count_by at (reading_of_text text).names b (expansion blocks b) (is_some (expansion blocks b)) refl
+    ∙ ap (λ o. cond (is_some (expansion blocks b) && is_none o) 1 0) (sym (e ∙ here)) ∙ neither (is_some (expansion blocks b)) where
       neither : (v : Bool) → ◌≡◌ {A = ℕ} (cond (v && false) 1 0) 0
       neither true = refl
       neither false = refl
 
 -- one that has none has a fault of it if it resolves
-pub entry_one : {T : Type 0} (f : T → Contents) (texts : List (List ℕ)) (at : ℕ) (text : List ℕ) (t : Option T) → slice_get texts at ≡ Some text
-    → HasTable f (readings texts) (reading_of_text text) t → None ≡ compiled texts at
-    → length (entry_faults at (reading_of_text text).names (state_of (readings texts) (reading_of_text text))) ≡ cond (is_some t) 1 0
-entry_one f texts at text t stands h e = entry_count f texts at text t None stands h e ∙ both (is_some t) where
+pub entry_one : {T : Type 0} (f : T → Contents) (rule : Rule) (texts : List (List ℕ)) (at : ℕ) (text : List ℕ) (t : Option T) → slice_get texts at ≡ Some text
+    → HasTable f (readings_by rule texts) (reading_by rule text) t → None ≡ compiled_by rule texts at
+    → length (entry_faults at (reading_of_text text).names (state_of (readings_by rule texts) (reading_by rule text))) ≡ cond (is_some t) 1 0
+entry_one f rule texts at text t stands h e = entry_count f rule texts at text t None stands h e ∙ both (is_some t) where
   both : (v : Bool) → ◌≡◌ {A = ℕ} (cond (v && true) 1 0) (cond v 1 0)
   both true = refl
   both false = refl
@@ -270,13 +280,13 @@ next_is : (at : ℕ) → at + 1 ≡ suc at
 next_is at = omega arith
 
 -- one more block has its faults
-pub one_block_more : (texts : List (List ℕ)) (states : List EntryState) (at : ℕ) (text : List ℕ) (state : EntryState)
+pub one_block_more : (rule : Rule) (texts : List (List ℕ)) (states : List EntryState) (at : ℕ) (text : List ℕ) (state : EntryState)
     (old new whole : List ExtendedSourceFault) → slice_get texts at ≡ Some text → slice_get states at ≡ Some state
-    → old ++ extended_faults_after (readings texts) at (drop at texts) (drop at states) ≡ whole
-    → new ≡ old ++ extended_block_faults (readings texts) at text state
-    → new ++ extended_faults_after (readings texts) (at + 1) (drop (at + 1) texts) (drop (at + 1) states) ≡ whole
-one_block_more texts states at text state old new whole s t h n =
-    let blocks = readings texts in
+    → old ++ extended_faults_after (readings_by rule texts) at (drop at texts) (drop at states) ≡ whole
+    → new ≡ old ++ extended_block_faults (readings_by rule texts) at text state
+    → new ++ extended_faults_after (readings_by rule texts) (at + 1) (drop (at + 1) texts) (drop (at + 1) states) ≡ whole
+one_block_more rule texts states at text state old new whole s t h n =
+    let blocks = readings_by rule texts in
     let here = extended_block_faults blocks at text state in
     let later = extended_faults_after blocks (at + 1) (drop (at + 1) texts) (drop (at + 1) states) in
     ap (λ xs. xs ++ later) n ∙ append_assoc old here later
@@ -285,14 +295,19 @@ one_block_more texts states at text state old new whole s t h n =
     ∙ ap (λ ss. old ++ extended_faults_after blocks at (drop at texts) ss) (sym (drop_get states at state t)) ∙ h
 
 -- the faults of the profile that are left, in those of the next block and the others
-pub left_in_two : (texts : List (List ℕ)) (at : ℕ) (text : List ℕ) (left : List SourceFault) → slice_get texts at ≡ Some text
-    → left ≡ faults_after (readings texts) at (drop at (readings texts))
-    → left ≡ block_faults (readings texts) at (reading_of_text text) ++ faults_after (readings texts) (suc at) (drop (at + 1) (readings texts))
-left_in_two texts at text left s e = e ∙ ap (faults_after (readings texts) at) (drop_get (readings texts) at (reading_of_text text) (read_text texts at text s))
+pub left_in_two : (rule : Rule) (texts : List (List ℕ)) (at : ℕ) (text : List ℕ) (left : List SourceFault) → slice_get texts at ≡ Some text
+    → left ≡ faults_after (readings_by rule texts) at (drop at (readings_by rule texts))
+    → left ≡ block_faults (readings_by rule texts) at (reading_by rule text)
+    ++ faults_after (readings_by rule texts) (suc at) (drop (at + 1) (readings_by rule texts))
+left_in_two rule texts at text left s e =
+    let blocks = readings_by rule texts in
+    e ∙ ap (faults_after blocks at) (drop_get blocks at (reading_by rule text) (read_by_text rule texts at text s))
 
-pub left_more : (texts : List (List ℕ)) (at : ℕ) (left : List SourceFault) → left ≡ faults_after (readings texts) (suc at) (drop (at + 1) (readings texts))
-    → left ≡ faults_after (readings texts) (at + 1) (drop (at + 1) (readings texts))
-left_more texts at left e = e ∙ ap (λ (k : ℕ). faults_after (readings texts) k (drop (at + 1) (readings texts))) (sym (next_is at))
+pub left_more : (rule : Rule) (texts : List (List ℕ)) (at : ℕ) (left : List SourceFault)
+    → left ≡ faults_after (readings_by rule texts) (suc at) (drop (at + 1) (readings_by rule texts))
+    → left ≡ faults_after (readings_by rule texts) (at + 1) (drop (at + 1) (readings_by rule texts))
+left_more rule texts at left e =
+    e ∙ ap (λ (k : ℕ). faults_after (readings_by rule texts) k (drop (at + 1) (readings_by rule texts))) (sym (next_is at))
 
 pub none_left : (blocks : List Reading) (at : ℕ) (texts : List (List ℕ)) (states : List EntryState) (all whole : List ExtendedSourceFault)
     → length texts ≤ at → all ++ extended_faults_after blocks at (drop at texts) (drop at states) ≡ whole → all ≡ whole

@@ -2,22 +2,25 @@
 use Rattle.std.proofs.Common.{◌≡◌, ℕ, ◌<◌, ◌≤◌, Bool, true, false, cond, nat_lt, List, [], ◌∷◌, length}
 use Rattle.std.proofs.Common.{Option, Some, None, is_some, option_and_then, slice_get, refl, sym, ap, ◌∙◌, subst, arith}
 use Rattle.std.proofs.lemmas.Bool.{lt-ltb, le-ltb, false≢true}
-use Rattle.user_values.proofs.Resolving.{read_text}
+use Rattle.user_values.proofs.Making.{read_by_text}
+use Rattle.ti_source.specs.declared.parsing.Rule.{Rule}
 use Rattle.ti_source.specs.Reading.{Reading}
 use Rattle.ti_source.specs.Parsing.{reading_of_text}
 use Rattle.ti_layout.specs.Values.{Content, content_true, content_number, content_text, content_cancelled, Contents, Mention, contents}
 use Rattle.ti_layout.specs.Laws.{without_cancel, ShowSame}
 use Rattle.ti_layout.specs.Image.{image_limit}
-use Rattle.base_meaning.specs.Owner.{readings}
+use Rattle.base_meaning.specs.Readings.{reading_by, readings_by}
+use Rattle.base_meaning.proofs.Ruling.{read_by}
+use Rattle.ti_base.proofs.AnyResolving.{resolves_by}
 use Rattle.base_meaning.specs.Expansion.{values, expansion}
-use Rattle.base_meaning.specs.Compiled.{EntryState, oversized, written, entry as entry_there, entry_of, image_of, is_too_large, compiled}
+use Rattle.base_meaning.specs.Compiled.{EntryState, oversized, written, entry as entry_there, entry_of, image_of, is_too_large, compiled_by}
 use Rattle.base_meaning.specs.ValueTables.{IsTableOfMentions}
 use Rattle.user_extension.specs.declared.user_defined.UserDefined.{UserDefined}
 use Rattle.user_extension.specs.UserDefined.{Row, rows_of}
 use Rattle.user_extension.specs.Extension.{entry, entry_limit}
-use Rattle.user_values.specs.Expansion.{first_said, expansion as user_expansion}
-use Rattle.user_values.specs.Tables.{IsUserTableOf}
-use Rattle.user_values.specs.Laws.{ValuesAreWhereResolved}
+use Rattle.user_values.specs.Expansion.{first_said, expansion_by}
+use Rattle.user_values.specs.Tables.{IsUserTableBy}
+use Rattle.user_values.specs.Laws.{ValuesAreWhereResolvedByRule}
 use Rattle.user_compiling.specs.Rows.{AreRowsOf}
 use Rattle.user_compiling.specs.Entries.{entry_with, state_with, HasStateBy}
 use Rattle.user_compiling.specs.inside.States.{state_of_entry}
@@ -73,17 +76,19 @@ bare_image b ms =
     let with_image : List ℕ → EntryState = λ i. cond (nat_lt (image_limit (values ms)) (length i)) oversized (written i) in
     ap with_image (entry_without b.field (values ms))
 
-entry_here : (texts : List (List ℕ)) (at : ℕ) (text : List ℕ) (ms : List Mention) → slice_get texts at ≡ Some text
-    → expansion (readings texts) (reading_of_text text) ≡ Some ms → compiled texts at ≡ entry_of (reading_of_text text) ms
-entry_here texts at text ms stands e =
-    let there : slice_get (readings texts) at ≡ Some (reading_of_text text) = read_text texts at text stands in
-    ap (option_and_then (entry_there (readings texts))) there ∙ ap (option_and_then (entry_of (reading_of_text text))) e
+entry_here : (rule : Rule) (texts : List (List ℕ)) (at : ℕ) (text : List ℕ) (ms : List Mention) → slice_get texts at ≡ Some text
+    → expansion (readings_by rule texts) (reading_by rule text) ≡ Some ms → compiled_by rule texts at ≡ entry_of (reading_of_text text) ms
+entry_here rule texts at text ms stands e =
+    let there : slice_get (readings_by rule texts) at ≡ Some (reading_by rule text) = read_by_text rule texts at text stands in
+    ap (option_and_then (entry_there (readings_by rule texts))) there ∙ ap (option_and_then (entry_of (reading_by rule text))) e
+    ∙ ap (λ b. entry_of b ms) (read_by rule text)
 
 -- a block that resolves and has these rows has its state by them
-has_state : (texts : List (List ℕ)) (text : List ℕ) (said : List ℕ → Option Content) (ms : List Mention) (rows : List Row) (state : EntryState)
-    → IsUserTableOf texts text said → AreRowsOf said rows
-    → expansion (readings texts) (reading_of_text text) ≡ Some ms → state ≡ state_with (reading_of_text text) ms rows → HasStateBy texts text state
-has_state texts text said ms rows state user are e h = record {
+has_state : (rule : Rule) (texts : List (List ℕ)) (text : List ℕ) (said : List ℕ → Option Content) (ms : List Mention) (rows : List Row) (state : EntryState)
+    → IsUserTableBy rule texts text said → AreRowsOf said rows
+    → expansion (readings_by rule texts) (reading_by rule text) ≡ Some ms → state ≡ state_with (reading_of_text text) ms rows
+    → HasStateBy rule texts text state
+has_state rule texts text said ms rows state user are e h = record {
   mentions = ms;
   user_mentions = user.0;
   rows = rows;
@@ -94,30 +99,31 @@ has_state texts text said ms rows state user are e h = record {
 }
 
 -- that of a block without rows, by the entry that the profile gives
-pub state_of_profile : (texts : List (List ℕ)) (at : ℕ) (text : List ℕ) (said : List ℕ → Option Content) (t : Contents) (rows : List Row)
+pub state_of_profile : (rule : Rule) (texts : List (List ℕ)) (at : ℕ) (text : List ℕ) (said : List ℕ → Option Content) (t : Contents) (rows : List Row)
     (o : Option (List ℕ)) (state : EntryState) → slice_get texts at ≡ Some text
-    → IsUserTableOf texts text said → AreRowsOf said rows → rows ≡ []
-    → (table : (ms : List Mention) × (expansion (readings texts) (reading_of_text text) ≡ Some ms) × IsTableOfMentions t ms) → o ≡ compiled texts at
-    → state ≡ state_of_entry o → HasStateBy texts text state
-state_of_profile texts at text said t rows o state stands user are none table e h =
+    → IsUserTableBy rule texts text said → AreRowsOf said rows → rows ≡ []
+    → (table : (ms : List Mention) × (expansion (readings_by rule texts) (reading_by rule text) ≡ Some ms) × IsTableOfMentions t ms)
+    → o ≡ compiled_by rule texts at → state ≡ state_of_entry o → HasStateBy rule texts text state
+state_of_profile rule texts at text said t rows o state stands user are none table e h =
     let ms = table.0 in
-    has_state texts text said ms [] state user (subst (AreRowsOf said) none are) table.1
-    (h ∙ ap state_of_entry (e ∙ entry_here texts at text ms stands table.1) ∙ bare_state (reading_of_text text) ms)
+    has_state rule texts text said ms [] state user (subst (AreRowsOf said) none are) table.1
+    (h ∙ ap state_of_entry (e ∙ entry_here rule texts at text ms stands table.1) ∙ bare_state (reading_of_text text) ms)
 
 -- that of a block with rows
-pub state_of_rows : (texts : List (List ℕ)) (text : List ℕ) (said : List ℕ → Option Content) (t : Contents) (rows : List Row) (state : EntryState)
-    → IsUserTableOf texts text said → AreRowsOf said rows
-    → (table : (ms : List Mention) × (expansion (readings texts) (reading_of_text text) ≡ Some ms) × IsTableOfMentions t ms)
-    → ((ms : List Mention) → IsTableOfMentions t ms → state ≡ state_with (reading_of_text text) ms rows) → HasStateBy texts text state
-state_of_rows texts text said t rows state user are table h = has_state texts text said table.0 rows state user are table.1 (h table.0 table.2)
+pub state_of_rows : (rule : Rule) (texts : List (List ℕ)) (text : List ℕ) (said : List ℕ → Option Content) (t : Contents) (rows : List Row) (state : EntryState)
+    → IsUserTableBy rule texts text said → AreRowsOf said rows
+    → (table : (ms : List Mention) × (expansion (readings_by rule texts) (reading_by rule text) ≡ Some ms) × IsTableOfMentions t ms)
+    → ((ms : List Mention) → IsTableOfMentions t ms → state ≡ state_with (reading_of_text text) ms rows) → HasStateBy rule texts text state
+state_of_rows rule texts text said t rows state user are table h = has_state rule texts text said table.0 rows state user are table.1 (h table.0 table.2)
 
 -- a block without user-defined values does not resolve
-pub none_without : ValuesAreWhereResolved → (texts : List (List ℕ)) (text : List ℕ) → user_expansion texts text ≡ None
-    → expansion (readings texts) (reading_of_text text) ≡ None
-none_without law texts text e = nothing (expansion (readings texts) (reading_of_text text)) (sym (law texts text) ∙ ap is_some e) where
-  nothing : {X : Type 0} (o : Option X) → is_some o ≡ false → o ≡ None
-  nothing None f = refl
-  nothing (Some x) f = absurd (false≢true (sym f))
+pub none_without : ValuesAreWhereResolvedByRule → (rule : Rule) (texts : List (List ℕ)) (text : List ℕ) → expansion_by rule texts text ≡ None
+    → expansion (readings_by rule texts) (reading_by rule text) ≡ None
+none_without law rule texts text e =
+    nothing (expansion (readings_by rule texts) (reading_by rule text)) (resolves_by rule texts text ∙ sym (law rule texts text) ∙ ap is_some e) where
+      nothing : {X : Type 0} (o : Option X) → is_some o ≡ false → o ≡ None
+      nothing None f = refl
+      nothing (Some x) f = absurd (false≢true (sym f))
 
 -- ---- rows
 

@@ -7,9 +7,11 @@ use Rattle.std.specs.Rc.{rc_slice_items}
 use Rattle.ti_source.specs.declared.code.Code.{Code}
 use Rattle.ti_source.specs.declared.code.Code.TheVariants as code
 use Rattle.ti_source.specs.Code.{is_error}
+use Rattle.ti_source.specs.declared.parsing.Rule.{Rule}
+use Rattle.ti_source.specs.declared.parsing.Rule.TheVariants.{Leftmost}
 use Rattle.ti_source.specs.Reading.{Reading}
 use Rattle.ti_source.specs.Parsing.{reading_of_text}
-use Rattle.base_meaning.specs.Owner.{readings}
+use Rattle.base_meaning.specs.Readings.{readings_by}
 use Rattle.base_meaning.specs.Compiled.{EntryState}
 use Rattle.base_meaning.specs.Faults.{SourceFault, fault_seen as profile_fault_seen, is_kept, local_faults, name_faults, entry_faults}
 use Rattle.base_meaning.specs.Laws.{numbered_faults}
@@ -89,9 +91,13 @@ extended_faults_after blocks at (text ∷ texts) [] = []
 extended_faults_after blocks at (text ∷ texts) (state ∷ states) =
     extended_block_faults blocks at text state ++ extended_faults_after blocks (suc at) texts states
 
--- the faults of a source, of whose blocks this becomes
+-- the faults of a source that is read by a rule, of whose blocks this becomes
+abbrev pub extended_faults_by : Rule → List (List ℕ) → List EntryState → List ExtendedSourceFault
+extended_faults_by rule texts states = extended_faults_after (readings_by rule texts) 0 texts states
+
+-- the same of a source that is read by the rule `Leftmost`
 abbrev pub extended_faults : List (List ℕ) → List EntryState → List ExtendedSourceFault
-extended_faults texts states = extended_faults_after (readings texts) 0 texts states
+extended_faults texts states = extended_faults_by Leftmost texts states
 
 -- ---- what a fault says
 

@@ -2,7 +2,7 @@
 ghost use Rattle.std.specs.Prelude.{◌≡◌, ◌<◌, ◌+◌, ◌^◌, ◌++◌, ◌∷◌, ℕ, List, All, IfOk, OnOk, length, map, slice_get, Some, option_map, take, drop, ◌≤◌, if◌then◌else◌};
 ghost use Rattle.std.specs.Rc.{rc_slice_items};
 ghost use Rattle.ti_source.specs.Parsing.{reading_of_text};
-ghost use Rattle.base_meaning.specs.Owner.{readings};
+ghost use Rattle.base_meaning.specs.Readings.{reading_by, readings_by};
 ghost use Rattle.base_meaning.specs.Compiled.{EntryState, oversized, state_of};
 ghost use Rattle.base_meaning.specs.Faults.{block_faults, entry_faults, fault_seen as profile_fault_seen};
 ghost use Rattle.user_compiling.specs.Findings.{IsFindingBy, is_over_limit};
@@ -18,7 +18,7 @@ use crate::finding::Finding;
 use base_meaning::Fault;
 use std::alloc::AllocError;
 use std::rc::RcSlice;
-use ti_base::Database;
+use ti_base::RuledDatabase;
 use ti_source::Code;
 use user_items::UserCode;
 
@@ -132,10 +132,10 @@ fn replace(
 }
 
 // Whether the entry of the block at a position is over its limit in the profile.
-fn is_oversized(database: &Database, at: usize) -> bool
-    requires { at < length database.now }
-    ensures { (text : List ℕ) → slice_get database.now at ≡ Some text
-        → length (entry_faults at (reading_of_text text).names (state_of (readings database.now) (reading_of_text text))) ≡ (if result then 1 else 0) }
+fn is_oversized(database: &RuledDatabase, at: usize) -> bool
+    requires { at < length database.now.texts }
+    ensures { (text : List ℕ) → slice_get database.now.texts at ≡ Some text
+        → length (entry_faults at (reading_of_text text).names (state_of (readings_by database.now.rule database.now.texts) (reading_by database.now.rule text))) ≡ (if result then 1 else 0) }
 {
     match database.compiled(at) {
         Some(_) => false,
@@ -144,13 +144,13 @@ fn is_oversized(database: &Database, at: usize) -> bool
 }
 
 // How many of the faults that the profile has of a block come before that of its entry.
-fn front_len(database: &Database, at: usize, profile: &[Fault]) -> usize
-    requires within { at < length database.now }
-    requires profile { (text : List ℕ) → slice_get database.now at ≡ Some text
-        → map profile_fault_seen profile.now ≡ block_faults (readings database.now) at (reading_of_text text) }
+fn front_len(database: &RuledDatabase, at: usize, profile: &[Fault]) -> usize
+    requires within { at < length database.now.texts }
+    requires profile { (text : List ℕ) → slice_get database.now.texts at ≡ Some text
+        → map profile_fault_seen profile.now ≡ block_faults (readings_by database.now.rule database.now.texts) at (reading_by database.now.rule text) }
     ensures within { result ≤ length profile.now }
-    ensures front { (text : List ℕ) → slice_get database.now at ≡ Some text
-        → map profile_fault_seen (take result profile.now) ≡ front_faults (readings database.now) at (reading_of_text text) }
+    ensures front { (text : List ℕ) → slice_get database.now.texts at ≡ Some text
+        → map profile_fault_seen (take result profile.now) ≡ front_faults (readings_by database.now.rule database.now.texts) at (reading_of_text text) }
 {
     if is_oversized(database, at) {
         profile.len().saturating_sub(1)
@@ -171,12 +171,12 @@ fn first_name(names: &[RcSlice<u8>]) -> Result<Option<RcSlice<u8>>, AllocError>
 
 // Adds the fault of an entry that is too large.
 fn push_too_large(
-    database: &Database,
+    database: &RuledDatabase,
     at: usize,
     faults: &mut Vec<ExtendedFault>,
 ) -> Result<(), AllocError>
-    requires { at < length database.now }
-    ensures { OnOk result ((text : List ℕ) → slice_get database.now at ≡ Some text
+    requires { at < length database.now.texts }
+    ensures { OnOk result ((text : List ℕ) → slice_get database.now.texts at ≡ Some text
         → map fault_seen faults.new.items ≡ map fault_seen faults.old.items ++ map of_profile (entry_faults at (reading_of_text text).names oversized)) }
 {
     let detail = first_name(database.names(at))?;
@@ -191,13 +191,13 @@ fn push_too_large(
 
 // Adds the fault of the entry of a block, if that is too large.
 fn add_entry_fault(
-    database: &Database,
+    database: &RuledDatabase,
     at: usize,
     too_large: bool,
     faults: &mut Vec<ExtendedFault>,
 ) -> Result<(), AllocError>
-    requires { at < length database.now }
-    ensures { OnOk result ((text : List ℕ) (state : EntryState) → slice_get database.now at ≡ Some text → too_large ≡ is_over_limit state
+    requires { at < length database.now.texts }
+    ensures { OnOk result ((text : List ℕ) (state : EntryState) → slice_get database.now.texts at ≡ Some text → too_large ≡ is_over_limit state
         → map fault_seen faults.new.items ≡ map fault_seen faults.old.items ++ map of_profile (entry_faults at (reading_of_text text).names state)) }
 {
     if too_large {
@@ -212,19 +212,19 @@ fn add_entry_fault(
 /// # Errors
 /// Out of memory.
 pub(crate) fn add_block_faults(
-    database: &Database,
+    database: &RuledDatabase,
     at: usize,
     profile: &[Fault],
     finding: &Finding,
     faults: &mut Vec<ExtendedFault>,
 ) -> Result<(), AllocError>
-    requires within { at < length database.now }
-    requires profile { (text : List ℕ) → slice_get database.now at ≡ Some text
-        → map profile_fault_seen profile.now ≡ block_faults (readings database.now) at (reading_of_text text) }
-    ensures added { OnOk result ((text : List ℕ) (state : EntryState) → slice_get database.now at ≡ Some text → IsFindingBy text state finding.now
-        → map fault_seen faults.new.items ≡ map fault_seen faults.old.items ++ extended_block_faults (readings database.now) at text state) }
-    ensures placed { OnOk result (All (IsPlaced (length database.now)) (map profile_fault_seen profile.now) → All (IsExtendedPlaced (length database.now)) (map fault_seen faults.old.items)
-        → All (IsExtendedPlaced (length database.now)) (map fault_seen faults.new.items)) }
+    requires within { at < length database.now.texts }
+    requires profile { (text : List ℕ) → slice_get database.now.texts at ≡ Some text
+        → map profile_fault_seen profile.now ≡ block_faults (readings_by database.now.rule database.now.texts) at (reading_by database.now.rule text) }
+    ensures added { OnOk result ((text : List ℕ) (state : EntryState) → slice_get database.now.texts at ≡ Some text → IsFindingBy text state finding.now
+        → map fault_seen faults.new.items ≡ map fault_seen faults.old.items ++ extended_block_faults (readings_by database.now.rule database.now.texts) at text state) }
+    ensures placed { OnOk result (All (IsPlaced (length database.now.texts)) (map profile_fault_seen profile.now) → All (IsExtendedPlaced (length database.now.texts)) (map fault_seen faults.old.items)
+        → All (IsExtendedPlaced (length database.now.texts)) (map fault_seen faults.new.items)) }
 {
     // Laws, with no code: the warnings of a block are those of the items that define names, and its
     // faults have the order of their items.

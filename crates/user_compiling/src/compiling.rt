@@ -4,20 +4,20 @@ ghost use Rattle.ti_source.specs.Cutting.{OneBlock};
 ghost use Rattle.ti_source.specs.Parsing.{reading_of_text};
 ghost use Rattle.ti_layout.specs.Values.{Mention, contents};
 ghost use Rattle.base_meaning.specs.Expansion.{is_broken};
-ghost use Rattle.base_meaning.specs.Owner.{readings};
+ghost use Rattle.base_meaning.specs.Readings.{reading_by, readings_by};
 ghost use Rattle.base_meaning.specs.ValueTables.{HasTable, IsTableOfMentions};
 ghost use Rattle.std.specs.Prelude.{false};
 ghost use Rattle.user_extension.specs.UserDefined.{rows_of as rows_seen};
 ghost use Rattle.user_values.specs.Limit.{name_count, name_limit, IsOverLimitAt};
-ghost use Rattle.user_values.specs.Tables.{said_at, IsTableAt, IsUserTableOf};
-ghost use Rattle.user_values.specs.Walking.{IsStartOf};
-ghost use Rattle.user_compiling.specs.Entries.{state_seen, state_with, AreStates, HasStateBy, IsStateOf};
+ghost use Rattle.user_values.specs.Tables.{said_at, IsTableAtBy, IsUserTableBy};
+ghost use Rattle.user_values.specs.Walking.{IsStartBy};
+ghost use Rattle.user_compiling.specs.Entries.{state_seen, state_with, AreStatesBy, HasStateBy, IsStateBy};
 ghost use Rattle.user_compiling.specs.inside.States.{state_of_entry};
 
 use crate::compiled::Compiled;
 use crate::rows::rows_of;
 use std::alloc::{AllocError, Global};
-use ti_base::Database;
+use ti_base::RuledDatabase;
 use ti_layout::{Table, WriteError};
 use ti_source::names_field;
 use user_extension::{UserDefined, write};
@@ -59,16 +59,16 @@ fn profile_state(alloc: Global, found: Option<&[u8]>) -> Result<Compiled, AllocE
 // What becomes of the block at a position, which resolves and says this.
 fn compile_resolved(
     alloc: Global,
-    database: &Database,
+    database: &RuledDatabase,
     at: usize,
     user: &UserTable,
     table: &Table,
 ) -> Result<Compiled, AllocError>
-    requires within { at < length database.now }
-    requires one { All OneBlock database.now }
-    requires user { (text : List ℕ) → slice_get database.now at ≡ Some text → IsUserTableOf database.now text (said_at user.now) }
-    requires table { (text : List ℕ) → slice_get database.now at ≡ Some text → HasTable contents (readings database.now) (reading_of_text text) (Some table.now) }
-    ensures { IfOk result (λ state. (text : List ℕ) → slice_get database.now at ≡ Some text → HasStateBy database.now text (state_seen state)) }
+    requires within { at < length database.now.texts }
+    requires one { All OneBlock database.now.texts }
+    requires user { (text : List ℕ) → slice_get database.now.texts at ≡ Some text → IsUserTableBy database.now.rule database.now.texts text (said_at user.now) }
+    requires table { (text : List ℕ) → slice_get database.now.texts at ≡ Some text → HasTable contents (readings_by database.now.rule database.now.texts) (reading_by database.now.rule text) (Some table.now) }
+    ensures { IfOk result (λ state. (text : List ℕ) → slice_get database.now.texts at ≡ Some text → HasStateBy database.now.rule database.now.texts text (state_seen state)) }
 {
     let rows = rows_of(alloc, user)?;
     if rows.is_empty() {
@@ -85,14 +85,14 @@ fn compile_resolved(
 /// Out of memory.
 pub fn compile_with(
     alloc: Global,
-    database: &Database,
+    database: &RuledDatabase,
     at: usize,
     user: &UserTable,
 ) -> Result<Compiled, AllocError>
-    requires within { at < length database.now }
-    requires one { All OneBlock database.now }
-    requires user { (text : List ℕ) → slice_get database.now at ≡ Some text → IsUserTableOf database.now text (said_at user.now) }
-    ensures { IfOk result (λ state. (text : List ℕ) → slice_get database.now at ≡ Some text → IsStateOf database.now text (state_seen state)) }
+    requires within { at < length database.now.texts }
+    requires one { All OneBlock database.now.texts }
+    requires user { (text : List ℕ) → slice_get database.now.texts at ≡ Some text → IsUserTableBy database.now.rule database.now.texts text (said_at user.now) }
+    ensures { IfOk result (λ state. (text : List ℕ) → slice_get database.now.texts at ≡ Some text → IsStateBy database.now.rule database.now.texts text (state_seen state)) }
 {
     match database.values(at) {
         Some(table) => {
@@ -106,16 +106,16 @@ pub fn compile_with(
 // What becomes of the block at a position, with what it says of user-defined names.
 fn compile_block(
     alloc: Global,
-    database: &Database,
+    database: &RuledDatabase,
     at: usize,
     user: &Option<UserTable>,
 ) -> Result<Compiled, AllocError>
-    requires within { at < length database.now }
-    requires one { All OneBlock database.now }
-    requires user { IsTableAt database.now at user.now }
-    ensures { IfOk result (λ state. (text : List ℕ) → slice_get database.now at ≡ Some text → IsStateOf database.now text (state_seen state)) }
+    requires within { at < length database.now.texts }
+    requires one { All OneBlock database.now.texts }
+    requires user { IsTableAtBy database.now.rule database.now.texts at user.now }
+    ensures { IfOk result (λ state. (text : List ℕ) → slice_get database.now.texts at ≡ Some text → IsStateBy database.now.rule database.now.texts text (state_seen state)) }
 {
-    user_values::laws::values_are_where_resolved();
+    user_values::laws::values_by_rule_are_where_resolved();
     match user {
         Some(user) => compile_with(alloc, database, at, user),
         None => Ok(Compiled::Unresolved),
@@ -136,12 +136,12 @@ fn no_states(alloc: Global, count: usize) -> Result<Vec<Compiled>, AllocError>
 // What becomes of each block, each when the table of what it says of user-defined names is made.
 fn compile_all(
     alloc: Global,
-    database: &Database,
+    database: &RuledDatabase,
     tables: &mut UserTables<'_>,
 ) -> Result<Vec<Compiled>, AllocError>
-    requires one { All OneBlock database.now }
-    requires start { IsStartOf database.now tables.old }
-    ensures { IfOk result (λ all. AreStates database.now (map state_seen all.items)) }
+    requires one { All OneBlock database.now.texts }
+    requires start { IsStartBy database.now.rule database.now.texts tables.old }
+    ensures { IfOk result (λ all. AreStatesBy database.now.rule database.now.texts (map state_seen all.items)) }
 {
     let mut all = no_states(alloc, database.len())?;
     while let Some(at) = tables.make_next()? {
@@ -157,10 +157,10 @@ fn compile_all(
 /// # Errors
 /// `TooManyNames` for a source of more than 1,024 distinct user-defined names, with the position of
 /// the first block by which it has more; or `Memory`.
-pub fn compile(alloc: Global, database: &Database) -> Result<Vec<Compiled>, ValuesError>
-    ensures states { IfOk result (λ all. AreStates database.now (map state_seen all.items)) }
-    ensures few { OnOk result (name_count database.now (length database.now) ≤ name_limit) }
-    ensures too_many { (at : ℕ) → IsErrOf result (ValuesError.TooManyNames at) → IsOverLimitAt database.now at }
+pub fn compile(alloc: Global, database: &RuledDatabase) -> Result<Vec<Compiled>, ValuesError>
+    ensures states { IfOk result (λ all. AreStatesBy database.now.rule database.now.texts (map state_seen all.items)) }
+    ensures few { OnOk result (name_count database.now.texts (length database.now.texts) ≤ name_limit) }
+    ensures too_many { (at : ℕ) → IsErrOf result (ValuesError.TooManyNames at) → IsOverLimitAt database.now.texts at }
 {
     database.each_is_one_block();
     match UserTables::of(alloc, database) {

@@ -6,7 +6,7 @@ ghost use Rattle.user_compiling.specs.Findings.{IsFindingBy, is_over_limit};
 use crate::compiled::Compiled;
 use crate::own_codes::codes_of;
 use std::alloc::{AllocError, Global};
-use ti_base::Database;
+use ti_base::RuledDatabase;
 use user_items::UserCode;
 
 /// What is found out about a block for its faults. It serves after each edit on which the block
@@ -34,12 +34,12 @@ impl Finding {
     /// Out of memory.
     pub fn of(
         alloc: Global,
-        database: &Database,
+        database: &RuledDatabase,
         at: usize,
         state: &Compiled,
     ) -> Result<Finding, AllocError>
-        requires { at < length database.now }
-        ensures { IfOk result (λ finding. (text : List ℕ) → slice_get database.now at ≡ Some text → IsFindingBy text (state_seen state.now) finding) }
+        requires { at < length database.now.texts }
+        ensures { IfOk result (λ finding. (text : List ℕ) → slice_get database.now.texts at ≡ Some text → IsFindingBy text (state_seen state.now) finding) }
     {
         database.each_is_one_block();
         Ok(Finding {

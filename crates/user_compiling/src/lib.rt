@@ -15,6 +15,7 @@
 //!   for its faults (`Finding`), which can be kept; `block_faults`: the faults of a block;
 //!   `source_faults`: those of a source (`faults`), also by what was found out (`found_faults`)
 //! - `report`: the faults as text (`report_of`)
+//! - `leftmost`: the same of a source that a `Database` holds
 //! - `laws`: each entry is read as what its block says; without user-defined names all is as in the
 //!   profile
 //!
@@ -27,6 +28,7 @@ mod compiling;
 mod fault;
 mod finding;
 pub mod laws;
+pub mod leftmost;
 mod own_codes;
 mod report;
 mod rows;

@@ -10,7 +10,7 @@ ghost use Rattle.user_compiling.specs.Findings.{AreCodesOf};
 ghost use Rattle.user_compiling.specs.inside.Pairs.{code_here, pairs, warning_ordinals};
 
 use std::alloc::{AllocError, Global};
-use ti_base::Database;
+use ti_base::RuledDatabase;
 use ti_source::{Local, parse};
 use user_items::{UserCode, UserFault, is_user_warning, user_items};
 
@@ -107,12 +107,12 @@ fn has_user_warning(locals: &[Local]) -> bool
 /// Out of memory.
 pub(crate) fn codes_of(
     alloc: Global,
-    database: &Database,
+    database: &RuledDatabase,
     at: usize,
 ) -> Result<Vec<Option<UserCode>>, AllocError>
-    requires within { at < length database.now }
-    requires one { All OneBlock database.now }
-    ensures { IfOk result (λ codes. (text : List ℕ) → slice_get database.now at ≡ Some text → AreCodesOf text codes.items) }
+    requires within { at < length database.now.texts }
+    requires one { All OneBlock database.now.texts }
+    ensures { IfOk result (λ codes. (text : List ℕ) → slice_get database.now.texts at ≡ Some text → AreCodesOf text codes.items) }
 {
     // A law, with no code: a block without such a warning has nothing of user-defined names.
     user_items::laws::blocks_without_warnings_have_uses_alone();

@@ -10,7 +10,7 @@ use crate::fault::ExtendedFault;
 use std::alloc::{AllocError, Global};
 use std::fmt::Write;
 use std::rc::RcSlice;
-use ti_base::{Database, write_detail, write_fault};
+use ti_base::{RuledDatabase, write_detail, write_fault};
 
 // Appends the line of W5.
 fn write_bad(
@@ -52,13 +52,13 @@ fn write_one(
 /// Out of memory.
 pub fn report_of(
     alloc: Global,
-    database: &Database,
+    database: &RuledDatabase,
     faults: &[ExtendedFault],
     first_line: u64,
 ) -> Result<Vec<u8>, AllocError>
-    requires placed { All (IsExtendedPlaced (length database.now)) (map fault_seen faults.now) }
+    requires placed { All (IsExtendedPlaced (length database.now.texts)) (map fault_seen faults.now) }
     requires first { first_line ≤ 9223372036854775808 }
-    ensures { IfOk result (λ out. out.items ≡ flat_map (extended_line database.now first_line) (map fault_seen faults.now)) }
+    ensures { IfOk result (λ out. out.items ≡ flat_map (extended_line database.now.texts first_line) (map fault_seen faults.now)) }
 {
     let mut out = Vec::new(alloc);
     let starts = database.line_starts()?;

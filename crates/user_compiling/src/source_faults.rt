@@ -1,12 +1,12 @@
 //! The faults of a source whose user-defined capabilities are kept.
 ghost use Rattle.std.specs.Prelude.{◌≡◌, ◌<◌, ◌≤◌, ◌++◌, ℕ, List, All, IfOk, OnOk, length, map, slice_get, Some, drop};
-ghost use Rattle.base_meaning.specs.Owner.{readings};
+ghost use Rattle.base_meaning.specs.Readings.{reading_by, readings_by};
 ghost use Rattle.base_meaning.specs.Compiled.{EntryState};
 ghost use Rattle.base_meaning.specs.Usable.{IsPlaced};
 ghost use Rattle.base_meaning.specs.Faults as spec;
 ghost use Rattle.base_meaning.specs.Faults.{fault_seen as profile_fault_seen};
 ghost use Rattle.user_compiling.specs.Entries.{state_seen};
-ghost use Rattle.user_compiling.specs.Faults.{extended_faults, fault_seen};
+ghost use Rattle.user_compiling.specs.Faults.{extended_faults_by, fault_seen};
 ghost use Rattle.user_compiling.specs.Findings.{AreFindingsBy};
 ghost use Rattle.user_compiling.specs.Report.{IsExtendedPlaced};
 ghost use Rattle.user_compiling.specs.inside.Pairs.{count_at};
@@ -17,7 +17,7 @@ use crate::fault::ExtendedFault;
 use crate::finding::Finding;
 use base_meaning::Fault;
 use std::alloc::{AllocError, Global};
-use ti_base::Database;
+use ti_base::RuledDatabase;
 
 // How many faults at the front are of the block at a position.
 fn count_at(faults: &[Fault], at: usize) -> usize
@@ -37,16 +37,16 @@ fn count_at(faults: &[Fault], at: usize) -> usize
 // The faults of a source, given those of the profile and what was found out about each block.
 fn extend_all(
     alloc: Global,
-    database: &Database,
+    database: &RuledDatabase,
     profile: &[Fault],
     findings: &[Finding],
 ) -> Result<Vec<ExtendedFault>, AllocError>
-    requires as_many { length findings.now ≡ length database.now }
-    requires profile { map profile_fault_seen profile.now ≡ spec.faults (readings database.now) }
-    requires placed { All (IsPlaced (length database.now)) (map profile_fault_seen profile.now) }
-    ensures all { IfOk result (λ all. (states : List EntryState) → AreFindingsBy database.now states findings.now
-        → map fault_seen all.items ≡ extended_faults database.now states) }
-    ensures placed { IfOk result (λ all. All (IsExtendedPlaced (length database.now)) (map fault_seen all.items)) }
+    requires as_many { length findings.now ≡ length database.now.texts }
+    requires profile { map profile_fault_seen profile.now ≡ spec.faults (readings_by database.now.rule database.now.texts) }
+    requires placed { All (IsPlaced (length database.now.texts)) (map profile_fault_seen profile.now) }
+    ensures all { IfOk result (λ all. (states : List EntryState) → AreFindingsBy database.now.texts states findings.now
+        → map fault_seen all.items ≡ extended_faults_by database.now.rule database.now.texts states) }
+    ensures placed { IfOk result (λ all. All (IsExtendedPlaced (length database.now.texts)) (map fault_seen all.items)) }
 {
     let mut all = Vec::new(alloc);
     let mut rest = profile;
@@ -65,13 +65,13 @@ fn extend_all(
 /// Out of memory.
 pub fn found_faults(
     alloc: Global,
-    database: &Database,
+    database: &RuledDatabase,
     findings: &[Finding],
 ) -> Result<Vec<ExtendedFault>, AllocError>
-    requires as_many { length findings.now ≡ length database.now }
-    ensures all { IfOk result (λ all. (states : List EntryState) → AreFindingsBy database.now states findings.now
-        → map fault_seen all.items ≡ extended_faults database.now states) }
-    ensures placed { IfOk result (λ all. All (IsExtendedPlaced (length database.now)) (map fault_seen all.items)) }
+    requires as_many { length findings.now ≡ length database.now.texts }
+    ensures all { IfOk result (λ all. (states : List EntryState) → AreFindingsBy database.now.texts states findings.now
+        → map fault_seen all.items ≡ extended_faults_by database.now.rule database.now.texts states) }
+    ensures placed { IfOk result (λ all. All (IsExtendedPlaced (length database.now.texts)) (map fault_seen all.items)) }
 {
     let profile = database.faults()?;
     let all = extend_all(alloc, database, &profile, findings)?;
@@ -84,12 +84,12 @@ pub fn found_faults(
 /// Out of memory.
 pub fn findings_of(
     alloc: Global,
-    database: &Database,
+    database: &RuledDatabase,
     compiled: &[Compiled],
 ) -> Result<Vec<Finding>, AllocError>
-    requires as_many { length compiled.now ≡ length database.now }
-    ensures as_many { IfOk result (λ findings. length findings.items ≡ length database.now) }
-    ensures findings { IfOk result (λ findings. AreFindingsBy database.now (map state_seen compiled.now) findings.items) }
+    requires as_many { length compiled.now ≡ length database.now.texts }
+    ensures as_many { IfOk result (λ findings. length findings.items ≡ length database.now.texts) }
+    ensures findings { IfOk result (λ findings. AreFindingsBy database.now.texts (map state_seen compiled.now) findings.items) }
 {
     let mut findings = Vec::with_capacity(alloc, compiled.len())?;
     for (at, state) in compiled.iter().enumerate() {
@@ -106,12 +106,12 @@ pub fn findings_of(
 /// Out of memory.
 pub fn faults(
     alloc: Global,
-    database: &Database,
+    database: &RuledDatabase,
     compiled: &[Compiled],
 ) -> Result<Vec<ExtendedFault>, AllocError>
-    requires as_many { length compiled.now ≡ length database.now }
-    ensures all { IfOk result (λ all. map fault_seen all.items ≡ extended_faults database.now (map state_seen compiled.now)) }
-    ensures placed { IfOk result (λ all. All (IsExtendedPlaced (length database.now)) (map fault_seen all.items)) }
+    requires as_many { length compiled.now ≡ length database.now.texts }
+    ensures all { IfOk result (λ all. map fault_seen all.items ≡ extended_faults_by database.now.rule database.now.texts (map state_seen compiled.now)) }
+    ensures placed { IfOk result (λ all. All (IsExtendedPlaced (length database.now.texts)) (map fault_seen all.items)) }
 {
     let findings = findings_of(alloc, database, compiled)?;
     let all = found_faults(alloc, database, &findings)?;

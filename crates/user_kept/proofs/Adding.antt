@@ -2,6 +2,7 @@
 use Rattle.std.proofs.Common.{◌≡◌, ℕ, suc, List, [], ◌∷◌, ◌++◌, length, Option, Some, None, option_and_then, slice_get, refl, sym, ap, ◌∙◌, subst}
 use Rattle.std.specs.Option.{option_or, IsSome}
 use Rattle.std.proofs.lemmas.Option.{same_Some}
+use Rattle.ti_source.specs.declared.parsing.Rule.TheVariants.{Leftmost}
 use Rattle.base_meaning.specs.Owner.{owner, readings}
 use Rattle.user_items.specs.Verdicts.{imports}
 use Rattle.user_items.specs.Reading.{ReadUserItem}
@@ -32,7 +33,7 @@ nothing_added texts said = record { mentions = []; expands_to = refl; is = λ na
 pub one_more_added : (texts : List (List ℕ)) (items : List ReadUserItem) (item : ReadUserItem) (old between new : Said) → IsAdded texts items old between
     → AddsSaid texts item.said between new → IsAdded texts (items ++ item ∷ []) old new
 one_more_added texts items item old between new h a =
-    let t = table_of_one_more texts items item (first_said h.mentions) (λ name. option_or (first_said h.mentions name) (first_said a.0 name))
+    let t = table_of_one_more Leftmost texts items item (first_said h.mentions) (λ name. option_or (first_said h.mentions name) (first_said a.0 name))
     (record { mentions = h.mentions; expands_to = h.expands_to; is = λ name. refl }) (a.0, a.1, λ name. refl) in
     record {
       mentions = t.mentions;
@@ -46,7 +47,7 @@ one_more_added texts items item old between new h a =
 pub block_added : (texts : List (List ℕ)) (at : ℕ) (text : List ℕ) (old new : Said) → slice_get texts at ≡ Some text → IsSome (expansion texts text)
     → IsAdded texts (user_reading_of_text text).items old new → AddsMentions (expansion texts text) old new
 block_added texts at text old new stands some h =
-    let t = table_of_block texts at text (first_said h.mentions) stands some
+    let t = table_of_block Leftmost texts at text (first_said h.mentions) stands some
     (record { mentions = h.mentions; expands_to = h.expands_to; is = λ name. refl }) in
     (t.0, t.1, λ name. h.is name ∙ ap (option_or (old name)) (t.2 name))
 
@@ -61,8 +62,8 @@ pub used_name : (texts : List (List ℕ)) (text : List ℕ) (k : ℕ) (item : Re
     → slice_get (user_reading_of_text text).items k ≡ Some item → item.said ≡ imports name → IsSome (names_at texts name)
 used_name texts text k item name some s i =
     let whole = some_from (expansion texts text) some in
-    let u = used_owner texts (suc (length texts)) text whole.0 k item name whole.1 s i in
-    let e = found texts u.at u.below u.text u.mentions u.stands u.expands_to in
+    let u = used_owner Leftmost texts (suc (length texts)) text whole.0 k item name whole.1 s i in
+    let e = found Leftmost texts u.at u.below u.text u.mentions u.stands u.expands_to in
     is_there (names_at texts name) u.mentions
     (ap (λ o. option_and_then (expansion texts) (option_and_then (slice_get texts) o)) u.owned ∙ ap (option_and_then (expansion texts)) u.stands ∙ e)
 

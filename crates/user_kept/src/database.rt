@@ -8,7 +8,8 @@ use crate::kept::{
 use std::alloc::{AllocError, Global};
 use std::marker::Model;
 use ti_base::{Database, Edit, EditError, Edited};
-use user_compiling::{Compiled, ExtendedFault, found_faults};
+use user_compiling::leftmost::found_faults;
+use user_compiling::{Compiled, ExtendedFault};
 use user_values::ValuesError;
 
 /// A database that keeps what was found out about the user-defined capabilities of its blocks. After

@@ -6,7 +6,8 @@ ghost use Rattle.user_values.specs.Limit.{IsOverLimitAt};
 use crate::found::{BLOCKS_READ, state_alone};
 use std::alloc::Global;
 use ti_base::Database;
-use user_compiling::{Compiled, compile};
+use user_compiling::Compiled;
+use user_compiling::leftmost::compile;
 use user_values::ValuesError;
 
 // What becomes of the block at a position, made with all others.

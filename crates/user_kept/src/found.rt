@@ -9,7 +9,8 @@ ghost use Rattle.user_kept.specs.inside.Kept.{IsRightOf};
 use crate::alone::table_alone;
 use std::alloc::{AllocError, Global};
 use ti_base::Database;
-use user_compiling::{Compiled, Finding, compile_with};
+use user_compiling::leftmost::{compile_with, finding_of};
+use user_compiling::{Compiled, Finding};
 use user_items::{UserItem, UserWhat, known_user_items};
 
 /// How many blocks are read for one that is asked for or for those that depend on an edit, at most;
@@ -51,7 +52,7 @@ pub(crate) fn find(
 {
     match state_alone(alloc, database, at, left)? {
         Some(state) => {
-            let finding = Finding::of(alloc, database, at, &state)?;
+            let finding = finding_of(alloc, database, at, &state)?;
             Ok(Some(finding))
         }
         None => Ok(None),

@@ -5,10 +5,12 @@ ghost use Rattle.user_values.specs.Limit.{name_count, name_limit, IsOverLimitAt}
 ghost use Rattle.user_kept.specs.inside.Kept.{AreRight, AreRightOff, IsKeptBefore, IsKeptOf};
 
 use crate::found::{BLOCKS_READ, find, says_at};
+use crate::leftmost::count_names;
 use std::alloc::{AllocError, Global};
 use ti_base::Database;
-use user_compiling::{Finding, compile, findings_of};
-use user_values::{NAME_LIMIT, ValuesError, count_names};
+use user_compiling::Finding;
+use user_compiling::leftmost::{compile, findings_of};
+use user_values::{NAME_LIMIT, ValuesError};
 
 /// What is kept of a source that has no more user-defined names than it may.
 #[derive(Drop)]

@@ -13,6 +13,7 @@
 //! - `kept`: what is kept of a source, and what remains of it after an edit
 //! - `found`: what is found out about one block; `alone`: what that says of user-defined names,
 //!   without the tables of other blocks; `entry`: what becomes of it, when it is asked for
+//! - `leftmost`: how many user-defined names a source has that is read by the rule `Leftmost`
 //! - `laws`: what an edit leaves of what was found out
 #![tactic(auto)]
 
@@ -22,6 +23,7 @@ mod entry;
 mod found;
 mod kept;
 pub mod laws;
+mod leftmost;
 mod running;
 
 pub use database::KeptDatabase;

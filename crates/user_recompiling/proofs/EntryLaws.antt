@@ -9,6 +9,7 @@ use Rattle.ti_caps.specs.NameOrder.{EachKindIsInOrder}
 use Rattle.ti_caps.specs.Tables.{Capability, IsCapability}
 use Rattle.ti_spelling.specs.Spelling.{ValuesAreSound}
 use Rattle.ti_source.specs.Cutting.{OneBlock}
+use Rattle.ti_source.specs.declared.parsing.Rule.{Rule}
 use Rattle.ti_source.specs.Parsing.{reading_of_text, HasReading}
 use Rattle.ti_source.specs.Sound.{EachIsWellRead}
 use Rattle.ti_layout.specs.Values.{Content, content_true, content_number, content_text, content_cancelled, Contents, Mention, contents}
@@ -16,12 +17,12 @@ use Rattle.ti_layout.specs.Reading.{Reads, EntriesHaveOneReading}
 use Rattle.ti_layout.specs.Laws.{without_cancel, ShowSame}
 use Rattle.base_meaning.specs.Compiled.{written}
 use Rattle.base_meaning.specs.Expansion.{values, expansion}
-use Rattle.base_meaning.specs.Owner.{readings}
+use Rattle.base_meaning.specs.Readings.{reading_by, readings_by}
 use Rattle.ti_list.specs.declared.layout.Layout.{Layout}
 use Rattle.ti_list.specs.Items.{IsListable}
 use Rattle.tools_relisting.specs.Relisting.{CanHave}
 use Rattle.tools_relisting.proofs.Compiling.{uncancelled-twice}
-use Rattle.tools_relisting.proofs.EntryLaws.{IsText, texts-both, good-block}
+use Rattle.tools_relisting.proofs.EntryLaws.{IsText, texts-both}
 use Rattle.tools_relisting.proofs.Fitting.{said-has, uncancelled-has, agrees-has}
 use Rattle.tools_relisting.proofs.Heading.{first-lookup}
 use Rattle.tools_relisting.proofs.Relating.{All-at}
@@ -35,10 +36,10 @@ use Rattle.user_extension.specs.Laws.{as_read, EntriesAreRead}
 use Rattle.user_listing.specs.Entries.{Extended}
 use Rattle.user_listing.specs.Listing.{extended_listing}
 use Rattle.user_listing.specs.RelativeSource.{extended_relative}
-use Rattle.user_values.specs.Expansion.{UserMention, first_said, expansion as user_expansion}
+use Rattle.user_values.specs.Expansion.{UserMention, first_said, expansion_by}
 use Rattle.user_values.proofs.Counting.{names_there}
 use Rattle.user_compiling.specs.Rows.{AreRowsOf}
-use Rattle.user_compiling.specs.Entries.{IsStateOf, does_resolve, HasStateBy}
+use Rattle.user_compiling.specs.Entries.{IsStateBy, does_resolve, HasStateBy}
 use Rattle.user_compiling.specs.ReadBack.{RowsAreUserDefined, StatesOfBlocksAreDetermined}
 use Rattle.user_compiling.proofs.Imaging.{entries_are_of_values, limits_are_of_values}
 use Rattle.user_compiling.proofs.Mentioned.{rows-have, user-mentions-have}
@@ -54,6 +55,7 @@ use Rattle.user_relisting.proofs.Related.{relative_laid_out, relative-plain}
 use Rattle.user_relisting.proofs.Telling.{can-use, has-listing, writable}
 use Rattle.user_recompiling.specs.Entries.{IsEntry, IsUsedEntry, CompilesTo, ShownEntry, listings, with_others, OwnTheirNames}
 use Rattle.user_recompiling.specs.Entries.{Relisting, RelistingAnywhere, Relistings, RelativeSource}
+use Rattle.user_recompiling.proofs.Blocks.{good-block}
 use Rattle.user_recompiling.proofs.SourceNames.{IsAmong, rows-among}
 use Rattle.user_recompiling.proofs.UserBytes.{ContentBytes, GivesBytes, user-bytes}
 
@@ -86,12 +88,12 @@ rows-writable rows values given =
     (All-contains_itself rows)
 
 -- what is given to the names of a block of bytes is of bytes
-rows-bytes : AreKnown → (texts : List (List ℕ)) (at : ℕ) (text : List ℕ) (ms : List UserMention) (rows : List Row) → All IsText texts
-    → slice_get texts at ≡ Some text → user_expansion texts text ≡ Some ms → AreRowsOf (first_said ms) rows → All GivesBytes rows
-rows-bytes known texts at text ms rows are stands e of_block =
+rows-bytes : AreKnown → (rule : Rule) (texts : List (List ℕ)) (at : ℕ) (text : List ℕ) (ms : List UserMention) (rows : List Row) → All IsText texts
+    → slice_get texts at ≡ Some text → expansion_by rule texts text ≡ Some ms → AreRowsOf (first_said ms) rows → All GivesBytes rows
+rows-bytes known rule texts at text ms rows are stands e of_block =
     let each : (k : ℕ) (t : List ℕ) → slice_get texts k ≡ Some t → IsText t = λ k t here. All-at IsText texts k t are here in
     rows-have GivesBytes ms rows of_block
-    (user-mentions-have GivesBytes texts (λ k t here. user-bytes known.sound known.user_reading t (each k t here).1) (suc (length texts)) text ms
+    (user-mentions-have GivesBytes rule texts (λ k t here. user-bytes known.sound known.user_reading t (each k t here).1) (suc (length texts)) text ms
     (user-bytes known.sound known.user_reading text (each at text stands).1) e)
 
 -- ---- an entry
@@ -114,14 +116,14 @@ pub record IsShownFrom (bytes : List ℕ) (shown : Extended) (texts : List (List
 
 pub shown-from : AreKnown → (bytes : List ℕ) (shown : Extended) → (made : IsEntry bytes shown) → IsShownFrom bytes shown made.texts
 shown-from known bytes shown made =
-    let h = has-entry made.texts made.text (written bytes) bytes made.is refl in
+    let h = has-entry made.rule made.texts made.text (written bytes) bytes made.is refl in
     let block = reading_of_text made.text in
     let texts = texts-both made.texts made.blocks made.of_bytes in
-    let good = good-block known.sound known.computed known.well_read made.texts made.text h.mentions texts
+    let good = good-block known.sound known.computed known.well_read made.rule made.texts made.text h.mentions texts
     (All-at IsText made.texts made.at made.text texts made.stands) h.expands in
     let holds : (c : Capability) → CanHave c (values h.mentions c) =
     λ c. uncancelled-has c (contents h.mentions c) (said-has h.mentions c good.fit) in
-    let user = known.user_defined made.texts made.at made.text h.user_mentions h.rows made.blocks made.stands h.user_expands h.are_rows in
+    let user = known.user_defined made.rule made.texts made.at made.text h.user_mentions h.rows made.blocks made.stands h.user_expands h.are_rows in
     let read = known.read block.field (values h.mentions) h.rows (some-long block.field good.some) good.listable.short good.no_nul
     (λ c valid. agrees-has c (values h.mentions c) (holds c)) user h.within in
     let reads : Reads bytes block.field read.0 = subst (λ b. Reads b block.field read.0) h.is read.1 in
@@ -147,7 +149,7 @@ shown-from known bytes shown made =
           of_source = record {
             user_defined = user;
             writable = rows-writable h.rows user.values
-                (rows-bytes known made.texts made.at made.text h.user_mentions h.rows texts made.stands h.user_expands h.are_rows);
+                (rows-bytes known made.rule made.texts made.at made.text h.user_mentions h.rows texts made.stands h.user_expands h.are_rows);
           };
         };
         rows = rows_alike (first_said h.user_mentions) (said shown.rows) h.rows value h.are_rows;
@@ -156,18 +158,19 @@ shown-from known bytes shown made =
         within = subst (λ (n : ℕ). length bytes ≤ n) (sym limit)
             (subst (λ (b : List ℕ). length b ≤ entry_limit (values h.mentions) h.rows) h.is h.within);
       };
-      names = rows-among made.texts made.at made.text h.user_mentions h.rows made.stands h.user_expands h.are_rows;
+      names = rows-among made.rule made.texts made.at made.text h.user_mentions h.rows made.stands h.user_expands h.are_rows;
     }
 
 is-shown : AreKnown → (bytes : List ℕ) (shown : Extended) → IsEntry bytes shown → IsShown bytes shown
 is-shown known bytes shown made = (shown-from known bytes shown made).is
 
 -- a block that says what is shown, under its names field, becomes the entry
-becomes : (texts : List (List ℕ)) (text bytes : List ℕ) (shown : Extended) → (is : IsShown bytes shown) → (ms : List Mention) (us : List UserMention)
-    → expansion (readings texts) (reading_of_text text) ≡ Some ms → user_expansion texts text ≡ Some us → (reading_of_text text).field ≡ shown.entry.names
+becomes : (rule : Rule) (texts : List (List ℕ)) (text bytes : List ℕ) (shown : Extended) → (is : IsShown bytes shown)
+    → (ms : List Mention) (us : List UserMention) → expansion (readings_by rule texts) (reading_by rule text) ≡ Some ms
+    → expansion_by rule texts text ≡ Some us → (reading_of_text text).field ≡ shown.entry.names
     → ShowSame (contents ms) shown.entry.contents → ((name : List ℕ) → without_cancel (said shown.rows name) ≡ without_cancel (first_said us name))
-    → HasStateBy texts text (written bytes)
-becomes texts text bytes shown is ms us expands user_expands field alike value =
+    → HasStateBy rule texts text (written bytes)
+becomes rule texts text bytes shown is ms us expands user_expands field alike value =
     let rows = is.can.rows in
     let block = reading_of_text text in
     let made : entry block.field (contents ms) rows ≡ bytes =
@@ -185,10 +188,11 @@ becomes texts text bytes shown is ms us expands user_expands field alike value =
     }
 
 -- and nothing else
-exactly : AreKnown → (texts : List (List ℕ)) (text bytes : List ℕ) → HasStateBy texts text (written bytes) → CompilesTo texts text bytes
-exactly known texts text bytes has = λ state. (
-  λ h. known.determined texts text state (written bytes) h (does_resolve has),
-  λ e. subst (IsStateOf texts text) (sym e) (does_resolve has),
+exactly : AreKnown → (rule : Rule) (texts : List (List ℕ)) (text bytes : List ℕ) → HasStateBy rule texts text (written bytes)
+    → CompilesTo rule texts text bytes
+exactly known rule texts text bytes has = λ state. (
+  λ h. known.determined rule texts text state (written bytes) h (does_resolve has),
+  λ e. subst (IsStateBy rule texts text) (sym e) (does_resolve has),
 )
 
 -- ---- listings
@@ -199,30 +203,30 @@ listing-stands known shown layout can =
     known.stand shown.entry.names can.names laid.items (extended_listing shown layout) can.listable laid.can laid.source
 
 -- a listing compiles to its entry, in whatever source it is
-listing-compiles : AreKnown → ListingsSayTheEntry → ListingsSayTheTables → (bytes : List ℕ) (shown : Extended) (layout : Layout) → IsShown bytes shown
-    → (texts : List (List ℕ)) → CompilesTo texts (extended_listing shown layout) bytes
-listing-compiles known user tables bytes shown layout is texts =
+listing-compiles : AreKnown → ListingsSayTheEntry → ListingsSayTheTables → (rule : Rule) (bytes : List ℕ) (shown : Extended) (layout : Layout)
+    → IsShown bytes shown → (texts : List (List ℕ)) → CompilesTo rule texts (extended_listing shown layout) bytes
+listing-compiles known user tables rule bytes shown layout is texts =
     let text = extended_listing shown layout in
     let can = is.can in
-    let of_user = user shown layout texts (has-listing shown can) in
-    let of_tables = tables shown layout texts (has-listing shown can) in
+    let of_user = user rule shown layout texts (has-listing shown can) in
+    let of_tables = tables rule shown layout texts (has-listing shown can) in
     let read = listing-read known.ordered known.plain shown can.names can.rows layout can.listable can.holds can.are_rows can.of_source in
-    exactly known texts text bytes
-    (becomes texts text bytes shown is of_tables.0 of_user.0 of_tables.1 of_user.1 read.same_field (λ c valid. ap without_cancel (of_tables.2 c valid))
+    exactly known rule texts text bytes
+    (becomes rule texts text bytes shown is of_tables.0 of_user.0 of_tables.1 of_user.1 read.same_field (λ c valid. ap without_cancel (of_tables.2 c valid))
     (λ name. ap without_cancel (of_user.2 name)))
 
 pub relisting : AreKnown → ListingsSayTheEntry → ListingsSayTheTables → Relisting
-relisting known user tables bytes shown layout made =
+relisting known user tables rule bytes shown layout made =
     let is = is-shown known bytes shown made in
     let text = extended_listing shown layout in
     let one = listing-stands known shown layout is.can in (
       record { cut = one.cut; single = All-cons OneBlock text [] one (All-nil OneBlock) },
-      listing-compiles known user tables bytes shown layout is (text ∷ []),
+      listing-compiles known user tables rule bytes shown layout is (text ∷ []),
     )
 
 pub relisting_anywhere : AreKnown → ListingsSayTheEntry → ListingsSayTheTables → RelistingAnywhere
-relisting_anywhere known user tables bytes shown layout texts made =
-    listing-compiles known user tables bytes shown layout (is-shown known bytes shown made) texts
+relisting_anywhere known user tables rule bytes shown layout texts made =
+    listing-compiles known user tables rule bytes shown layout (is-shown known bytes shown made) texts
 
 abbrev IsEntryShown : ShownEntry → Type 0
 IsEntryShown entry = IsEntry entry.0 entry.1
@@ -234,11 +238,12 @@ all-stand known layout entries are =
     (λ entry made. listing-stands known entry.1 layout (is-shown known entry.0 entry.1 made).can) entries are)
 
 pub relistings : AreKnown → ListingsSayTheEntry → ListingsSayTheTables → Relistings
-relistings known user tables entries layout are =
+relistings known user tables rule entries layout are =
     let single = all-stand known layout entries are in (
       record { cut = single-cut (listings entries layout) single; single = single },
-      All-weaker IsEntryShown (λ (entry : ShownEntry). CompilesTo (listings entries layout) (extended_listing entry.1 layout) entry.0)
-          (λ entry made. listing-compiles known user tables entry.0 entry.1 layout (is-shown known entry.0 entry.1 made) (listings entries layout)) entries are,
+      All-weaker IsEntryShown (λ (entry : ShownEntry). CompilesTo rule (listings entries layout) (extended_listing entry.1 layout) entry.0)
+          (λ entry made. listing-compiles known user tables rule entry.0 entry.1 layout (is-shown known entry.0 entry.1 made) (listings entries layout))
+          entries are,
     )
 
 -- ---- relative source
@@ -270,7 +275,7 @@ longer : (x : List ℕ) (xs : List (List ℕ)) → 0 < length (x ∷ xs)
 longer x xs = omega arith
 
 pub relative_source : AreKnown → RelativesSayTheEntryInASource → RelativesSayTheTablesInASource → RelativeSource
-relative_source known user tables bytes shown layout listed made used owns =
+relative_source known user tables rule bytes shown layout listed made used owns =
     let is = is-shown known bytes shown made in
     let can = is.can in
     let others = entries_of listed in
@@ -287,11 +292,11 @@ relative_source known user tables bytes shown layout listed made used owns =
     All-cons OneBlock text behind one
     (All-map OneBlock listing_of listed
     (All-weaker (IsListedIn texts) (λ (l : Listed). OneBlock (listing_of l)) (λ l is_listed. listing-stands known l.0 l.1 is_listed.listed) listed each)) in
-    let of_user = user shown layout listed texts can (longer text behind) each in
-    let of_tables = tables shown layout listed texts can (longer text behind) each in
+    let of_user = user rule shown layout listed texts can (longer text behind) each in
+    let of_tables = tables rule shown layout listed texts can (longer text behind) each in
     let read = relative-plain known.ordered known.plain shown others can.names layout can.listable can.holds own may in (
       record { cut = single-cut texts single; single = single },
-      exactly known texts text bytes
-          (becomes texts text bytes shown is of_tables.0 of_user.0 of_tables.1 of_user.1 read.same_field of_tables.2
+      exactly known rule texts text bytes
+          (becomes rule texts text bytes shown is of_tables.0 of_user.0 of_tables.1 of_user.1 read.same_field of_tables.2
           (λ name. ap without_cancel (sym (of_user.2 name)) ∙ uncancelled-twice (first_said of_user.0 name))),
     )

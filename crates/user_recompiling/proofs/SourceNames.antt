@@ -3,11 +3,12 @@ use Rattle.std.proofs.Common.{◌≡◌, ℕ, zero, suc, true, ◌||◌, List, [
 use Rattle.std.specs.List.{All, AllByRecursion}
 use Rattle.std.specs.Cmp.Lexicographic.{bytes_decides}
 use Rattle.std.proofs.lemmas.Option.{same_Some, none-some}
+use Rattle.ti_source.specs.declared.parsing.Rule.{Rule}
 use Rattle.user_items.specs.Verdicts.{UserSaid, says, imports}
 use Rattle.user_items.specs.Reading.{ReadUserItem}
 use Rattle.user_items.specs.Parsing.{user_reading_of_text}
 use Rattle.user_extension.specs.UserDefined.{Row}
-use Rattle.user_values.specs.Expansion.{UserMention, expansion, first_said}
+use Rattle.user_values.specs.Expansion.{UserMention, expansion_by, first_said}
 use Rattle.user_values.specs.Limit.{has_name, name_said, names_of}
 use Rattle.user_values.proofs.Counting.{Names, has-back, has-front, names_there}
 use Rattle.user_compiling.specs.Rows.{AreRowsOf}
@@ -41,10 +42,10 @@ block-among (t ∷ ts) (suc k) text here name e =
     has-back (names_of (user_reading_of_text t).items) (names_there ts) name (block-among ts k text here name e)
 
 -- so are the names that it has
-pub rows-among : (texts : List (List ℕ)) (at : ℕ) (text : List ℕ) (ms : List UserMention) (rows : List Row) → slice_get texts at ≡ Some text
-    → expansion texts text ≡ Some ms → AreRowsOf (first_said ms) rows → All (IsAmong (names_there texts)) rows
-rows-among texts at text ms rows stands e are =
+pub rows-among : (rule : Rule) (texts : List (List ℕ)) (at : ℕ) (text : List ℕ) (ms : List UserMention) (rows : List Row)
+    → slice_get texts at ≡ Some text → expansion_by rule texts text ≡ Some ms → AreRowsOf (first_said ms) rows → All (IsAmong (names_there texts)) rows
+rows-among rule texts at text ms rows stands e are =
     let names = names_there texts in
     let each : (k : ℕ) (t : List ℕ) → slice_get texts k ≡ Some t → UserItemsHave (IsAmong names) t =
     λ k t here. items-among names (user_reading_of_text t).items (block-among texts k t here) in
-    rows-have (IsAmong names) ms rows are (user-mentions-have (IsAmong names) texts each (suc (length texts)) text ms (each at text stands) e)
+    rows-have (IsAmong names) ms rows are (user-mentions-have (IsAmong names) rule texts each (suc (length texts)) text ms (each at text stands) e)

@@ -5,7 +5,7 @@ use Rattle.std.proofs.lemmas.List.Elements.{recursion_from_All}
 use Rattle.std.proofs.lemmas.Option.{same_Some, none-some}
 use Rattle.ti_source.specs.Cutting.{BlocksAreSingle}
 use Rattle.base_meaning.specs.Compiled.{EntryState, written}
-use Rattle.user_compiling.specs.Entries.{IsStateOf}
+use Rattle.user_compiling.specs.Entries.{IsStateBy}
 use Rattle.tools_relisting.proofs.Sources.{each-bytes}
 use Rattle.tools_relisting.proofs.TextBytes.{OfBytes, behind-bytes}
 use Rattle.user_recompiling.specs.Entries.{EntriesOfSources}
@@ -19,10 +19,11 @@ block-at R (t ∷ ts) (s ∷ ss) zero state all e = (t, refl, subst (R t) (same_
 block-at R (t ∷ ts) (s ∷ ss) (suc at) state all e = block-at R ts ss at state all.1 e
 
 pub of_sources : BlocksAreSingle → EntriesOfSources
-of_sources single source preface texts states at bytes shown are ends cut all is reads rows =
+of_sources single rule source preface texts states at bytes shown are ends cut all is reads rows =
     let whole : OfBytes (preface ++ concat texts) = subst OfBytes cut.whole (recursion_from_All (λ b. b < 256) source are) in
-    let block = block-at (IsStateOf texts) texts states at (written bytes) all is in
+    let block = block-at (IsStateBy rule texts) texts states at (written bytes) all is in
     record {
+      rule = rule;
       texts = texts;
       at = at;
       text = block.0;

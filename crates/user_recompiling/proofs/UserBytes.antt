@@ -12,7 +12,8 @@ use Rattle.ti_source.specs.Verdicts.{ReadClaim, IsReadAs, flag_read, number_read
 use Rattle.ti_source.proofs.FoldingLaws.{only_folded}
 use Rattle.ti_layout.specs.Values.{Content, content_true, content_number, content_text, content_cancelled}
 use Rattle.user_items.specs.Names.{is_user_defined_name}
-use Rattle.user_items.specs.Verdicts.{UserVerdict, user_accepted, user_odd, user_refused, number_verdict, text_verdict, defining_verdict, verdict_on, UserJudges}
+use Rattle.user_items.specs.Verdicts.{UserVerdict, user_accepted, user_odd, user_refused, number_verdict, text_verdict, defining_verdict, verdict_on}
+use Rattle.user_items.specs.Verdicts.{UserJudges}
 use Rattle.user_items.specs.Reading.{ReadUserItem, UserBlock, UserJudged, states_nothing, states_another, states_user, AreUserJudged, no_item, item_and_rest}
 use Rattle.user_items.specs.Reading.{items_by, items_from}
 use Rattle.user_items.specs.Laws.{BlocksHaveOneUserReading}

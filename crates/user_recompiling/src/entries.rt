@@ -3,8 +3,8 @@ ghost use Rattle.user_recompiling.specs.Entries.{EntriesOfSources, ListingsHaveN
 
 use ti_layout::laws::one_reading as entries_have_one_reading;
 
-/// Each entry that `tic -x` makes of a source of bytes that is empty or ends with a newline is a
-/// compiled entry as the other laws ask for.
+/// Each entry that `-x` makes, by whatever rule, of a source of bytes that is empty or ends with a
+/// newline is a compiled entry as the other laws ask for.
 pub fn sources_have_entries()
     ensures { EntriesOfSources }
 {
@@ -13,8 +13,8 @@ pub fn sources_have_entries()
 
 /// The listing of a compiled entry with user-defined capabilities, in any layout, is a source of
 /// one block, which compiles to the entry by `-x`, byte for byte, also where other blocks are in the
-/// source. It has no more user-defined names than the source of the entry, so it is not refused for
-/// them.
+/// source. It does so by any rule, also by another than that by which the entry was made. It has no
+/// more user-defined names than the source of the entry, so it is not refused for them.
 pub fn listings_compile_back()
     ensures compile { Relisting }
     ensures anywhere { RelistingAnywhere }
@@ -36,7 +36,8 @@ pub fn listings_compile_back()
 }
 
 /// The listings of several compiled entries, one after the other, are a source of as many blocks,
-/// each of which compiles to its entry by `-x`, byte for byte, whatever names the entries share.
+/// each of which compiles to its entry by `-x`, byte for byte, by any rule and whatever names the
+/// entries share.
 pub fn several_listings_compile_back()
     ensures { Relistings }
 {
@@ -56,8 +57,8 @@ pub fn several_listings_compile_back()
 
 /// The relative source of a compiled entry with user-defined capabilities, with the listings of the
 /// entries that it uses after it, is a source of these blocks. The first compiles to the entry by
-/// `-x`, byte for byte, if the first names of the used entries belong to their listings and hold no
-/// backslash.
+/// `-x`, byte for byte and by any rule, if the first names of the used entries belong to their
+/// listings and hold no backslash.
 pub fn relative_sources_compile_back()
     ensures { RelativeSource }
 {

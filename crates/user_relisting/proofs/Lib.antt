@@ -4,8 +4,11 @@ pub mod ReadBack
 pub mod Standing
 pub mod Laying
 pub mod Listed
-pub mod Compiling
+pub mod Ordering
+pub mod UserRules
+pub mod TableRules
 pub mod Related
+pub mod Compiling
 pub mod Restoring
 pub mod Telling
 pub mod RelatedTables

@@ -6,15 +6,15 @@ use Rattle.std.specs.List.{flat_map}
 use Rattle.ti_caps.specs.declared.capability.Kind.{Kind}
 use Rattle.ti_caps.specs.declared.capability.Kind.TheVariants.{Flag, Number, Text}
 use Rattle.ti_caps.specs.Tables.{Capability, IsCapability}
-use Rattle.ti_source.specs.Parsing.{reading_of_text}
-use Rattle.base_meaning.specs.Owner.{readings}
+use Rattle.ti_source.specs.declared.parsing.Rule.{Rule}
+use Rattle.base_meaning.specs.Readings.{reading_by, readings_by}
 use Rattle.base_meaning.specs.Expansion as profile
 use Rattle.ti_layout.specs.Values.{Content, content_cancelled, contents, Mention}
 use Rattle.ti_layout.specs.Laws.{without_cancel}
 use Rattle.ti_layout.specs.Reading.{Reads}
 use Rattle.ti_spelling.specs.Spelling.{AreBytes}
 use Rattle.ti_layout.specs.Image.{image, ImageFits}
-use Rattle.base_meaning.specs.Compiled.{compiled}
+use Rattle.base_meaning.specs.Compiled.{compiled_by}
 use Rattle.ti_list.specs.Items.{IsListable}
 use Rattle.ti_list.specs.RelativeSource.{first_name}
 use Rattle.ti_list.specs.declared.layout.Layout.{Layout}
@@ -29,8 +29,8 @@ use Rattle.user_listing.specs.Entries.{Extended}
 use Rattle.user_listing.specs.Names.{names_among}
 use Rattle.user_listing.specs.Listing.{extended_listing}
 use Rattle.user_listing.specs.RelativeSource.{extended_relative, first_said, user_difference}
-use Rattle.user_values.specs.Expansion.{UserMention, first_said as mentioned, expansion, owner_text}
-use Rattle.user_values.specs.Tables.{IsUserTableOf}
+use Rattle.user_values.specs.Expansion.{UserMention, first_said as mentioned, expansion_by, owner_text}
+use Rattle.user_values.specs.Tables.{IsUserTableBy}
 use Rattle.user_relisting.specs.Items.{IsUserReadAs, IsWritable}
 
 -- user-defined capabilities of a source: what an entry may have, in bytes
@@ -46,14 +46,15 @@ ListingsAreRead =
     → entry.rows ≡ as_read rows → AreOfSource rows
     → IsUserReadAs (map (λ (row : Row). says row.0 row.1) rows) (user_reading_of_text (extended_listing entry layout))
 
--- In whatever source it is, the listing of such an entry compiles without user-defined capabilities
--- to the image of what the tables have, if that is within its limit.
+-- In whatever source it is and by whatever rule that is read, the listing of such an entry compiles
+-- without user-defined capabilities to the image of what the tables have, if that is within its
+-- limit.
 abbrev pub ListingsCompileByTheProfile : Type 0
 ListingsCompileByTheProfile =
-    (entry : Extended) (names : List (List ℕ)) (rows : List Row) (layout : Layout) → IsListable entry.entry.names names → CanHaveAll entry.entry.contents
-    → entry.rows ≡ as_read rows → AreOfSource rows → ImageFits entry.entry.names entry.entry.contents
+    (rule : Rule) (entry : Extended) (names : List (List ℕ)) (rows : List Row) (layout : Layout) → IsListable entry.entry.names names
+    → CanHaveAll entry.entry.contents → entry.rows ≡ as_read rows → AreOfSource rows → ImageFits entry.entry.names entry.entry.contents
     → (texts : List (List ℕ)) (at : ℕ) → slice_get texts at ≡ Some (extended_listing entry layout)
-    → compiled texts at ≡ Some (image entry.entry.names entry.entry.contents)
+    → compiled_by rule texts at ≡ Some (image entry.entry.names entry.entry.contents)
 
 -- ---- relative source
 
@@ -135,17 +136,18 @@ ReadEntriesHaveListings =
     (bytes : List ℕ) (entry : Extended) (names : List (List ℕ)) → AreBytes bytes → Reads bytes entry.entry.names entry.entry.contents → EndsWell bytes
     → entry.rows ≡ rows_after bytes → IsListable entry.entry.names names → HasListing entry
 
--- In whatever source it is, the listing of such an entry says of each user-defined name what the
--- entry has: what the first of its rows that has a value has.
+-- In whatever source it is and by whatever rule that is read, the listing of such an entry says of
+-- each user-defined name what the entry has: what the first of its rows that has a value has.
 abbrev pub ListingsSayTheEntry : Type 0
 ListingsSayTheEntry =
-    (entry : Extended) (layout : Layout) (texts : List (List ℕ)) → HasListing entry → IsUserTableOf texts (extended_listing entry layout) (said entry.rows)
+    (rule : Rule) (entry : Extended) (layout : Layout) (texts : List (List ℕ)) → HasListing entry
+    → IsUserTableBy rule texts (extended_listing entry layout) (said entry.rows)
 
 -- And without user-defined capabilities it says of each capability of the tables what the entry has.
 abbrev pub ListingsSayTheTables : Type 0
 ListingsSayTheTables =
-    (entry : Extended) (layout : Layout) (texts : List (List ℕ)) → HasListing entry
-    → (mentions : List Mention) × (profile.expansion (readings texts) (reading_of_text (extended_listing entry layout)) ≡ Some mentions)
+    (rule : Rule) (entry : Extended) (layout : Layout) (texts : List (List ℕ)) → HasListing entry
+    → (mentions : List Mention) × (profile.expansion (readings_by rule texts) (reading_by rule (extended_listing entry layout)) ≡ Some mentions)
     × ((c : Capability) → IsCapability c → contents mentions c ≡ entry.entry.contents c)
 
 -- an entry, and the layout of its listing
@@ -163,18 +165,21 @@ pub record IsListedIn (texts : List (List ℕ)) (one : Listed) : Type 0 where
   pub owned : owner_text texts (first_name one.0.entry.names) ≡ Some (extended_listing one.0 one.1)
 
 -- In a source in which the first names of the others lead to their listings, each in any layout,
--- the relative source of an entry says of each user-defined name what the entry has, a cancel being
--- nothing.
+-- and by whatever rule the source is read, the relative source of an entry says of each user-defined
+-- name what the entry has, a cancel being nothing.
 abbrev pub RelativesSayTheEntryInASource : Type 0
 RelativesSayTheEntryInASource =
-    (entry : Extended) (layout : Layout) (listed : List Listed) (texts : List (List ℕ)) → CanBeListed entry → 0 < length texts → All (IsListedIn texts) listed
-    → (mentions : List UserMention) × (expansion texts (extended_relative entry (entries_of listed) layout) ≡ Some mentions)
+    (rule : Rule) (entry : Extended) (layout : Layout) (listed : List Listed) (texts : List (List ℕ)) → CanBeListed entry → 0 < length texts
+    → All (IsListedIn texts) listed
+    → (mentions : List UserMention) × (expansion_by rule texts (extended_relative entry (entries_of listed) layout) ≡ Some mentions)
     × ((name : List ℕ) → without_cancel (mentioned mentions name) ≡ said entry.rows name)
 
 -- And without user-defined capabilities it says of each capability of the tables what the entry has,
 -- a cancel being nothing.
 abbrev pub RelativesSayTheTablesInASource : Type 0
 RelativesSayTheTablesInASource =
-    (entry : Extended) (layout : Layout) (listed : List Listed) (texts : List (List ℕ)) → CanBeListed entry → 0 < length texts → All (IsListedIn texts) listed
-    → (mentions : List Mention) × (profile.expansion (readings texts) (reading_of_text (extended_relative entry (entries_of listed) layout)) ≡ Some mentions)
+    (rule : Rule) (entry : Extended) (layout : Layout) (listed : List Listed) (texts : List (List ℕ)) → CanBeListed entry → 0 < length texts
+    → All (IsListedIn texts) listed
+    → (mentions : List Mention)
+    × (profile.expansion (readings_by rule texts) (reading_by rule (extended_relative entry (entries_of listed) layout)) ≡ Some mentions)
     × ((c : Capability) → IsCapability c → without_cancel (contents mentions c) ≡ without_cancel (entry.entry.contents c))

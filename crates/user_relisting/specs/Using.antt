@@ -2,13 +2,14 @@
 use Rattle.std.specs.Prelude.{◌≡◌, ℕ, Bool, true, false, List, ◌∷◌, ◌++◌, All, map, Some, slice_get}
 use Rattle.std.specs.Str.{bytes_eq}
 use Rattle.ti_caps.specs.Tables.{Capability, IsCapability, same_capability}
+use Rattle.ti_source.specs.declared.parsing.Rule.{Rule}
 use Rattle.ti_source.specs.Parsing.{reading_of_text}
 use Rattle.ti_source.specs.Reading.{ReadItem, Said, said_flag, said_number, said_text, said_cancel, said_import}
 use Rattle.ti_layout.specs.Laws.{without_cancel}
 use Rattle.ti_layout.specs.Values.{Mention}
 use Rattle.base_meaning.specs.Expansion as profile
 use Rattle.base_meaning.specs.Expansion.{is_broken}
-use Rattle.base_meaning.specs.Owner.{readings}
+use Rattle.base_meaning.specs.Readings.{reading_by, readings_by}
 use Rattle.ti_list.specs.declared.layout.Layout.{Layout}
 use Rattle.user_items.specs.Parsing.{user_reading_of_text}
 use Rattle.user_items.specs.Reading.{ReadUserItem}
@@ -16,7 +17,7 @@ use Rattle.user_items.specs.Verdicts.{UserSaid, says, imports}
 use Rattle.user_extension.specs.Reading.{said}
 use Rattle.user_listing.specs.Entries.{Extended}
 use Rattle.user_listing.specs.Listing.{extended_listing}
-use Rattle.user_values.specs.Expansion.{owner_text, user_value}
+use Rattle.user_values.specs.Expansion.{owner_text, user_value_by}
 use Rattle.user_relisting.specs.ReadingBack.{HasListing}
 
 -- whether an item can give a user-defined name something: it says something of it, or is a use
@@ -58,16 +59,16 @@ pub record Uses (texts : List (List ℕ)) (at : ℕ) (used : List ℕ) (entry : 
   pub owned : owner_text texts used ≡ Some (extended_listing entry layout)
 
 -- A block that uses the listing of an entry, and by no other item can have something of a user-defined
--- name, has the entry's value of it.
+-- name, has the entry's value of it, by whatever rule the source is read.
 abbrev pub UsersHaveTheEntry : Type 0
 UsersHaveTheEntry =
-    (texts : List (List ℕ)) (at : ℕ) (used : List ℕ) (entry : Extended) (name : List ℕ) → (uses : Uses texts at used entry)
-    → IsAlone (may_give name) (imports used) (user_said_in uses.text) → user_value texts at name ≡ said entry.rows name
+    (rule : Rule) (texts : List (List ℕ)) (at : ℕ) (used : List ℕ) (entry : Extended) (name : List ℕ) → (uses : Uses texts at used entry)
+    → IsAlone (may_give name) (imports used) (user_said_in uses.text) → user_value_by rule texts at name ≡ said entry.rows name
 
 -- So it has of a capability of the tables, a cancel being nothing.
 abbrev pub UsersHaveTheTables : Type 0
 UsersHaveTheTables =
-    (texts : List (List ℕ)) (at : ℕ) (used : List ℕ) (entry : Extended) (c : Capability) → (uses : Uses texts at used entry) → IsCapability c
-    → IsAlone (may_give_table c) (said_import used) (table_said_in uses.text)
-    → (mentions : List Mention) × (profile.expansion (readings texts) (reading_of_text uses.text) ≡ Some mentions)
+    (rule : Rule) (texts : List (List ℕ)) (at : ℕ) (used : List ℕ) (entry : Extended) (c : Capability) → (uses : Uses texts at used entry)
+    → IsCapability c → IsAlone (may_give_table c) (said_import used) (table_said_in uses.text)
+    → (mentions : List Mention) × (profile.expansion (readings_by rule texts) (reading_by rule uses.text) ≡ Some mentions)
     × (profile.values mentions c ≡ without_cancel (entry.entry.contents c))

@@ -1,8 +1,9 @@
 //! A listing is read as what it lists.
 ghost use Rattle.user_relisting.specs.Items.{ItemsAreBlocks, ItemsAreRead, ItemsAreReadByTheProfile};
-ghost use Rattle.user_relisting.specs.ReadingBack.{ListingsAreRead, ListingsCompileByTheProfile, ListingsSayTheEntry, ListingsSayTheTables, ReadEntriesHaveListings};
+ghost use Rattle.user_relisting.specs.ReadingBack.{ListingsAreRead, ListingsCompileByTheProfile, ListingsSayTheEntry, ListingsSayTheTables};
 ghost use Rattle.user_relisting.specs.Using.{UsersHaveTheEntry, UsersHaveTheTables};
-ghost use Rattle.user_relisting.specs.ReadingBack.{RelativesAreRead, RelativesSayTheEntry, RelativesSayTheEntryInASource, RelativesSayTheTablesInASource};
+ghost use Rattle.user_relisting.specs.ReadingBack.{ReadEntriesHaveListings, RelativesAreRead, RelativesSayTheEntry};
+ghost use Rattle.user_relisting.specs.ReadingBack.{RelativesSayTheEntryInASource, RelativesSayTheTablesInASource};
 
 /// Each text that is laid out as a listing, whatever its layout, is read as the user-defined items
 /// and the uses that it lists, without a fault.
@@ -42,8 +43,8 @@ pub fn listings_are_read()
     items_are_read();
 }
 
-/// The listing of an entry with user-defined capabilities, in any layout and in whatever source it
-/// is, compiles without these to the image of what the tables have.
+/// The listing of an entry with user-defined capabilities, in any layout, in whatever source it is
+/// and by whatever rule that is read, compiles without these to the image of what the tables have.
 pub fn listings_compile_by_the_profile()
     ensures { ListingsCompileByTheProfile }
 {
@@ -73,8 +74,9 @@ pub fn read_entries_have_listings()
     ensures { ReadEntriesHaveListings }
 {}
 
-/// In whatever source it is, the listing of an entry with user-defined capabilities says of each
-/// user-defined name and of each capability of the tables what the entry has.
+/// In whatever source it is and by whatever rule that is read, the listing of an entry with
+/// user-defined capabilities says of each user-defined name and of each capability of the tables
+/// what the entry has.
 pub fn listings_say_the_entry()
     ensures user_defined { ListingsSayTheEntry }
     ensures tables { ListingsSayTheTables }
@@ -84,9 +86,9 @@ pub fn listings_say_the_entry()
     items_are_read_by_the_profile();
 }
 
-/// In a source in which the first names of the others lead to their listings, the relative source
-/// of an entry says of each user-defined name and of each capability of the tables what the entry
-/// has.
+/// In a source in which the first names of the others lead to their listings, and by whatever rule
+/// the source is read, the relative source of an entry says of each user-defined name and of each
+/// capability of the tables what the entry has.
 pub fn relatives_say_the_entry_in_a_source()
     ensures user_defined { RelativesSayTheEntryInASource }
     ensures tables { RelativesSayTheTablesInASource }
@@ -97,7 +99,8 @@ pub fn relatives_say_the_entry_in_a_source()
 }
 
 /// A block that uses an entry whose listing stands in its source has the entry's value of each
-/// user-defined name and of each capability of the tables that no other of its items can give it.
+/// user-defined name and of each capability of the tables that no other of its items can give it,
+/// by whatever rule the source is read.
 pub fn users_have_the_entry()
     ensures user_defined { UsersHaveTheEntry }
     ensures tables { UsersHaveTheTables }

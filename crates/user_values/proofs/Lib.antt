@@ -1,8 +1,11 @@
 pub mod Depth
+pub mod Ruling
 pub mod Saying
 pub mod Searching
+pub mod Uncancelling
 pub mod Resolving
 pub mod Making
+pub mod RuledItems
 pub mod Ordering
 pub mod Naming
 pub mod Counting

@@ -5,6 +5,7 @@ use Rattle.std.specs.Option.{option_map, IsSome}
 use Rattle.std.proofs.lemmas.List.{length-map}
 use Rattle.std.proofs.lemmas.Option.{same_Some, none-some, slice_get-map, slice_get_within}
 use Rattle.ti_text.proofs.Lists.{item_at}
+use Rattle.ti_source.specs.declared.parsing.Rule.{Rule}
 use Rattle.base_components.specs.Graph.{HasEdge, IsGraph}
 use Rattle.base_components.specs.Leading.{IsWay, Leads}
 use Rattle.base_components.specs.Components.{AreComponents, IsClosingOrder}
@@ -13,8 +14,8 @@ use Rattle.base_meaning.proofs.Owning.{nobody, somebody, owning}
 use Rattle.user_items.specs.Verdicts.{UserSaid, says, imports}
 use Rattle.user_items.specs.Reading.{ReadUserItem, UserBlock}
 use Rattle.user_items.specs.Parsing.{user_reading_of_text}
-use Rattle.user_values.specs.Expansion.{UserMention, expand, expansion}
-use Rattle.user_values.specs.Tables.{TableSeen, HasUserTable}
+use Rattle.user_values.specs.Expansion.{UserMention, expand_by, expansion_by}
+use Rattle.user_values.specs.Tables.{TableSeen, HasUserTableBy}
 use Rattle.user_values.specs.Uses.{used_block, edge_of, row_of, uses_of}
 use Rattle.user_values.specs.inside.Settling.{OwnerIsDone, OwnersAreDone}
 use Rattle.user_values.specs.inside.Walking.{AreLast, AreKept}
@@ -90,51 +91,51 @@ graph_whole texts = λ from to edge.
 
 -- ---- no block that expands is on a cycle
 
-pub record ExpandsAt (texts : List (List ℕ)) (depth at : ℕ) : Type 0 where
+pub record ExpandsAt (rule : Rule) (texts : List (List ℕ)) (depth at : ℕ) : Type 0 where
   pub text : List ℕ
   pub mentions : List UserMention
   pub stands : slice_get texts at ≡ Some text
-  pub expands_to : expand texts depth text ≡ Some mentions
+  pub expands_to : expand_by rule texts depth text ≡ Some mentions
 
-along_edge : (texts : List (List ℕ)) (depth from to : ℕ) → ExpandsAt texts depth from → HasEdge (uses_of texts) from to → (below : ℕ) × (depth ≡ suc below)
-    × ExpandsAt texts below to
-along_edge texts depth from to e edge =
+along_edge : (rule : Rule) (texts : List (List ℕ)) (depth from to : ℕ) → ExpandsAt rule texts depth from → HasEdge (uses_of texts) from to → (below : ℕ) × (depth ≡ suc below)
+    × ExpandsAt rule texts below to
+along_edge rule texts depth from to e edge =
     let u = edge_is_use texts from to edge in
     let text : u.text ≡ e.text = same_Some u.text e.text (sym u.stands ∙ e.stands) in
-    let o = used_owner texts depth e.text e.mentions u.k u.item u.name e.expands_to (ap (λ t. slice_get (user_reading_of_text t).items u.k) (sym text)
+    let o = used_owner rule texts depth e.text e.mentions u.k u.item u.name e.expands_to (ap (λ t. slice_get (user_reading_of_text t).items u.k) (sym text)
     ∙ u.here) u.used in
     let at : o.at ≡ to = same_Some o.at to (sym o.owned ∙ u.owned) in
     (o.below, o.deeper, record { text = o.text; mentions = o.mentions; stands = ap (slice_get texts) (sym at) ∙ o.stands; expands_to = o.expands_to })
 
-along_way : (texts : List (List ℕ)) (depth from : ℕ) (way : List ℕ) (to : ℕ) → ExpandsAt texts depth from → IsWay (uses_of texts) from way to → (below : ℕ)
-    × (below ≤ depth) × ExpandsAt texts below to
-along_way texts depth from [] to e w = (depth, omega arith, subst (ExpandsAt texts depth) w e)
-along_way texts depth from (next ∷ way) to e w =
-    let one = along_edge texts depth from next e w.0 in
-    let rest = along_way texts one.0 next way to one.2 w.1 in
+along_way : (rule : Rule) (texts : List (List ℕ)) (depth from : ℕ) (way : List ℕ) (to : ℕ) → ExpandsAt rule texts depth from → IsWay (uses_of texts) from way to → (below : ℕ)
+    × (below ≤ depth) × ExpandsAt rule texts below to
+along_way rule texts depth from [] to e w = (depth, omega arith, subst (ExpandsAt rule texts depth) w e)
+along_way rule texts depth from (next ∷ way) to e w =
+    let one = along_edge rule texts depth from next e w.0 in
+    let rest = along_way rule texts one.0 next way to one.2 w.1 in
     let d = one.1 in
     let l = rest.1 in
     (rest.0, omega arith, rest.2)
 
-no_cycle : (texts : List (List ℕ)) (bound depth u w : ℕ) → depth < bound → ExpandsAt texts depth u → HasEdge (uses_of texts) u w
+no_cycle : (rule : Rule) (texts : List (List ℕ)) (bound depth u w : ℕ) → depth < bound → ExpandsAt rule texts depth u → HasEdge (uses_of texts) u w
     → Leads (uses_of texts) w u → ⊥
-no_cycle texts zero depth u w l e edge back = omega arith
-no_cycle texts (suc bound) depth u w l e edge back =
-    let one = along_edge texts depth u w e edge in
-    let again = along_way texts one.0 w back.0 u one.2 back.1 in
+no_cycle rule texts zero depth u w l e edge back = omega arith
+no_cycle rule texts (suc bound) depth u w l e edge back =
+    let one = along_edge rule texts depth u w e edge in
+    let again = along_way rule texts one.0 w back.0 u one.2 back.1 in
     let d = one.1 in
     let b = again.1 in
-    no_cycle texts bound again.0 u w (omega arith) again.2 edge back
+    no_cycle rule texts bound again.0 u w (omega arith) again.2 edge back
 
 -- ---- tables made along the closing order
 
 -- a block that resolves comes after each block that it uses
-pub used_before : (texts : List (List ℕ)) (component_of order : List ℕ) (i at used : ℕ) (text : List ℕ)
+pub used_before : (rule : Rule) (texts : List (List ℕ)) (component_of order : List ℕ) (i at used : ℕ) (text : List ℕ)
     → AreComponents (uses_of texts) component_of → IsClosingOrder (uses_of texts) component_of order
-    → slice_get order i ≡ Some at → slice_get texts at ≡ Some text → IsSome (expansion texts text) → HasEdge (uses_of texts) at used
+    → slice_get order i ≡ Some at → slice_get texts at ≡ Some text → IsSome (expansion_by rule texts text) → HasEdge (uses_of texts) at used
     → (j : ℕ) × (j < i) × (slice_get order j ≡ Some used)
-used_before texts component_of order i at used text comps c o t some edge =
-    let whole = some_from (expansion texts text) some in
+used_before rule texts component_of order i at used text comps c o t some edge =
+    let whole = some_from (expansion_by rule texts text) some in
     let within = graph_whole texts at used edge in
     let below = c.nodes i at o in
     let w = c.listed used within in
@@ -143,32 +144,32 @@ used_before texts component_of order i at used text comps c o t some edge =
     let before : w.0 < i = elim (c.before i w.0 at used first.0 second.0 o w.1 first.1 second.1 edge) [
       | inl same ↦
           let both = (comps.same at used first.0 second.0 first.1 second.1).0 same in
-          absurd (no_cycle texts (suc (suc (length texts))) (suc (length texts)) at used (omega arith)
+          absurd (no_cycle rule texts (suc (suc (length texts))) (suc (length texts)) at used (omega arith)
           (record { text = text; mentions = whole.0; stands = t; expands_to = whole.1 }) edge both.1)
       | inr l ↦ l
     ] in
     (w.0, before, w.1)
 
 -- the owners of a block that resolves are made before it
-pub owners_made : (texts : List (List ℕ)) (component_of order last : List ℕ) (tables : List (Option TableSeen)) (end node : ℕ) (text : List ℕ)
+pub owners_made : (rule : Rule) (texts : List (List ℕ)) (component_of order last : List ℕ) (tables : List (Option TableSeen)) (end node : ℕ) (text : List ℕ)
     → AreComponents (uses_of texts) component_of → IsClosingOrder (uses_of texts) component_of order → AreLast (uses_of texts) order last
-    → AreKept texts order last tables end → slice_get order end ≡ Some node → slice_get texts node ≡ Some text → IsSome (expansion texts text)
-    → OwnersAreDone texts tables text
-owners_made texts component_of order last tables end node text comps c past h o t some = λ k item name s i.
-    let whole = some_from (expansion texts text) some in
-    let u = used_owner texts (suc (length texts)) text whole.0 k item name whole.1 s i in
+    → AreKept rule texts order last tables end → slice_get order end ≡ Some node → slice_get texts node ≡ Some text → IsSome (expansion_by rule texts text)
+    → OwnersAreDone rule texts tables (user_reading_of_text text).items
+owners_made rule texts component_of order last tables end node text comps c past h o t some = λ k item name s i.
+    let whole = some_from (expansion_by rule texts text) some in
+    let u = used_owner rule texts (suc (length texts)) text whole.0 k item name whole.1 s i in
     let edge = use_is_edge texts node u.at (record { text = text; k = k; item = item; name = name; stands = t; here = s; used = i; owned = u.owned }) in
     let n = graph_length texts in
     let within = slice_get_within texts u.at u.text u.stands in
-    let w = used_before texts component_of order end node u.at text comps c o t some edge in
+    let w = used_before rule texts component_of order end node u.at text comps c o t some edge in
     let made = item_at tables u.at (omega (arith, h.as_many)) in
     let l = item_at last u.at (omega (arith, past.as_many)) in
     let right = h.done w.0 u.at l.0 u.text made.0 w.1 w.2 l.1 (past.past end node u.at l.0 o edge l.1) u.stands made.1 in
-    owner_done texts tables name u.at u.text made.0 u.owned u.stands made.1 (found texts u.at u.below u.text u.mentions u.stands u.expands_to) right
+    owner_done rule texts tables name u.at u.text made.0 u.owned u.stands made.1 (found rule texts u.at u.below u.text u.mentions u.stands u.expands_to) right
   where
-    owner_done : (texts : List (List ℕ)) (tables : List (Option TableSeen)) (name : List ℕ) (at : ℕ) (text : List ℕ)
+    owner_done : (rule : Rule) (texts : List (List ℕ)) (tables : List (Option TableSeen)) (name : List ℕ) (at : ℕ) (text : List ℕ)
         (table : Option TableSeen) {ms : List UserMention} → owner (readings texts) name ≡ Some at
-        → slice_get texts at ≡ Some text → slice_get tables at ≡ Some table → expansion texts text ≡ Some ms → HasUserTable texts text table
-        → OwnerIsDone texts tables name
-    owner_done texts tables name at text None {ms} o t s e none = absurd (none-some ms (sym none ∙ e))
-    owner_done texts tables name at text (Some table) o t s e is = record { at = at; text = text; table = table; owned = o; stands = t; made = s; is = is }
+        → slice_get texts at ≡ Some text → slice_get tables at ≡ Some table → expansion_by rule texts text ≡ Some ms → HasUserTableBy rule texts text table
+        → OwnerIsDone rule texts tables name
+    owner_done rule texts tables name at text None {ms} o t s e none = absurd (none-some ms (sym none ∙ e))
+    owner_done rule texts tables name at text (Some table) o t s e is = record { at = at; text = text; table = table; owned = o; stands = t; made = s; is = is }

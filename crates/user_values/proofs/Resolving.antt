@@ -6,11 +6,11 @@ use Rattle.std.specs.Option.{option_map}
 use Rattle.std.proofs.lemmas.Bool.{false≢true, cases_Bool}
 use Rattle.std.proofs.lemmas.List.{length-map}
 use Rattle.std.proofs.lemmas.Option.{same_Some, none-some, slice_get-map}
-use Rattle.ti_text.specs.Lists.{both_lists}
 use Rattle.ti_caps.specs.Tables.{Capability}
 use Rattle.ti_caps.specs.declared.capability.Kind.{Kind}
 use Rattle.ti_caps.specs.declared.capability.Kind.TheVariants as kind
 use Rattle.ti_spelling.specs.declared.numbers.NumberError.TheVariants.{Bad, TooLarge}
+use Rattle.ti_source.specs.declared.parsing.Rule.{Rule}
 use Rattle.ti_source.specs.Folding.{PlacedByte}
 use Rattle.ti_source.specs.Items.{Statement, Claim, piece_of}
 use Rattle.ti_source.specs.Stating.{statement_of}
@@ -34,21 +34,12 @@ use Rattle.user_items.specs.Verdicts.{defining_verdict, verdict_on}
 use Rattle.user_items.specs.Reading.{items_at, items_from}
 use Rattle.user_items.specs.inside.Computed.{judged_with, judged_as, judged_of}
 use Rattle.user_items.specs.Parsing.{user_reading_of_text}
-use Rattle.user_values.specs.Expansion.{UserMention, expand_items, expand, expansion}
+use Rattle.user_values.specs.Expansion.{UserMention, expand_items, block_mentions, expand_by, expansion_by}
 use Rattle.user_values.proofs.Depth.{Names, names_at, expand_items-append, expand_same}
+use Rattle.user_values.proofs.Ruling.{joined-some, ruled-some}
 
 abbrev There : Type 0
 There = List ℕ → Option (List Mention)
-
-joined-some : {X Y : Type 0} (a b : Option (List X)) (c d : Option (List Y)) → is_some a ≡ is_some c → is_some b ≡ is_some d
-    → is_some (both_lists a b) ≡ is_some (both_lists c d)
-joined-some None b None d e f = refl
-joined-some None b (Some ys) d e f = absurd (false≢true e)
-joined-some (Some xs) b None d e f = absurd (false≢true (sym e))
-joined-some (Some xs) None (Some ys) None e f = refl
-joined-some (Some xs) None (Some ys) (Some zs) e f = absurd (false≢true f)
-joined-some (Some xs) (Some zs) (Some ys) None e f = absurd (false≢true (sym f))
-joined-some (Some xs) (Some zs) (Some ys) (Some ws) e f = refl
 
 -- ---- an item, wherever it is read
 
@@ -141,22 +132,25 @@ text_read texts at block e = mapped reading_of_text (slice_get texts at) block (
 pub read_text : (texts : List (List ℕ)) (at : ℕ) (text : List ℕ) → slice_get texts at ≡ Some text → slice_get (readings texts) at ≡ Some (reading_of_text text)
 read_text texts at text e = slice_get-map reading_of_text texts at ∙ ap (option_map reading_of_text) e
 
-pub block_some : (texts : List (List ℕ)) (depth : ℕ) (text : List ℕ) → is_some (expand texts depth text)
+-- by each rule a block resolves where it does in the profile
+pub block_some : (rule : Rule) (texts : List (List ℕ)) (depth : ℕ) (text : List ℕ) → is_some (expand_by rule texts depth text)
     ≡ is_some (expand_there (owner_block (readings texts)) depth (reading_of_text text))
-block_some texts zero text = refl
-block_some texts (suc depth) text =
+block_some rule texts zero text = refl
+block_some rule texts (suc depth) text =
     let env = owner_block (readings texts) in
-    let f = names_at texts depth in
+    let f = names_at rule texts depth in
     let g : There = λ name. option_and_then (expand_there env depth) (env name) in
     let names : (name : List ℕ) → is_some (f name) ≡ is_some (g name) = λ name. elim (owning (readings texts) name) [
       | nobody o d ↦ rw (o, d) refl
       | somebody at block o ↦
           let t = text_read texts at block o.stands in
-          rw (o.owns, o.is, t.1) (block_some texts depth t.0 ∙ ap (λ b. is_some (expand_there env depth b)) t.2)
+          rw (o.owns, o.is, t.1) (block_some rule texts depth t.0 ∙ ap (λ b. is_some (expand_there env depth b)) t.2)
     ] in
-    let rule = rule_of_text text in
-    rw rule (cond-some (is_broken (reading_of_text text)) (expand_items f (user_reading_of_text text).items) (expand_items_there g (reading_of_text text).items)
-    (ap (λ is. is_some (expand_items f is)) (items_here text) ∙ all_some f g names 0 (block_items text)
+    let profile = rule_of_text text in
+    rw profile (cond-some (is_broken (reading_of_text text)) (block_mentions rule f (user_reading_of_text text).items)
+    (expand_items_there g (reading_of_text text).items)
+    (ruled-some rule f (user_reading_of_text text).items
+    ∙ ap (λ is. is_some (expand_items f is)) (items_here text) ∙ all_some f g names 0 (block_items text)
     ∙ ap (λ is. is_some (expand_items_there g is)) (sym (items_there text))))
 
 same_length : (texts : List (List ℕ)) → length (readings texts) ≡ length texts
@@ -166,17 +160,18 @@ pub some_of : {X : Type 0} (o : Option X) → is_some o ≡ true → (x : X) × 
 some_of None e = absurd (false≢true e)
 some_of (Some x) e = (x, refl)
 
-pub as_resolved : (texts : List (List ℕ)) (text : List ℕ) → is_some (expansion texts text) ≡ resolves (readings texts) (reading_of_text text)
-as_resolved texts text =
-    block_some texts (suc (length texts)) text
+pub as_resolved : (rule : Rule) (texts : List (List ℕ)) (text : List ℕ)
+    → is_some (expansion_by rule texts text) ≡ resolves (readings texts) (reading_of_text text)
+as_resolved rule texts text =
+    block_some rule texts (suc (length texts)) text
     ∙ ap (λ n. is_some (expand_there (owner_block (readings texts)) (suc n) (reading_of_text text))) (sym (same_length texts))
 
 -- a block of the list has the expansion that some depth gives it
-pub found : (texts : List (List ℕ)) (at depth : ℕ) (text : List ℕ) (ms : List UserMention) → slice_get texts at ≡ Some text
-    → expand texts depth text ≡ Some ms → expansion texts text ≡ Some ms
-found texts at depth text ms stands e =
+pub found : (rule : Rule) (texts : List (List ℕ)) (at depth : ℕ) (text : List ℕ) (ms : List UserMention) → slice_get texts at ≡ Some text
+    → expand_by rule texts depth text ≡ Some ms → expansion_by rule texts text ≡ Some ms
+found rule texts at depth text ms stands e =
     let env = owner_block (readings texts) in
-    let there = some_of (expand_there env depth (reading_of_text text)) (sym (block_some texts depth text) ∙ ap is_some e) in
+    let there = some_of (expand_there env depth (reading_of_text text)) (sym (block_some rule texts depth text) ∙ ap is_some e) in
     let whole = found_expansions.found (readings texts) at depth (reading_of_text text) there.0 (read_text texts at text stands) there.1 in
-    let here = some_of (expansion texts text) (as_resolved texts text ∙ ap is_some whole) in
-    here.1 ∙ ap (λ xs. Some xs) (sym (expand_same texts depth (suc (length texts)) text ms here.0 e here.1))
+    let here = some_of (expansion_by rule texts text) (as_resolved rule texts text ∙ ap is_some whole) in
+    here.1 ∙ ap (λ xs. Some xs) (sym (expand_same rule texts depth (suc (length texts)) text ms here.0 e here.1))

@@ -201,7 +201,7 @@ entries_more entries k entry start old new before within is added name =
 
 -- ---- a whole table
 
-nothing_held : (held : Option (Rc EntryVec Global)) → is_some held ≡ false → held_seen held ≡ []
+pub nothing_held : (held : Option (Rc EntryVec Global)) → is_some held ≡ false → held_seen held ≡ []
 nothing_held None e = refl
 nothing_held (Some entries) e = absurd (false≢true (sym e))
 

@@ -4,9 +4,11 @@ use Rattle.std.proofs.lemmas.Bool.{cases_eq}
 use Rattle.std.proofs.lemmas.List.{length-set}
 use Rattle.std.proofs.lemmas.Option.{same_Some, none-some, slice_get_within, slice_get-get_or}
 use Rattle.ti_text.proofs.Lists.{item_at, get-set_same, get-set_other, push_cases}
+use Rattle.ti_source.specs.declared.parsing.Rule.{Rule}
+use Rattle.ti_source.specs.declared.parsing.Rule.TheVariants.{Leftmost}
 use Rattle.base_components.specs.Graph.{Rows}
 use Rattle.base_components.specs.Components.{AreComponents, IsClosingOrder}
-use Rattle.user_values.specs.Tables.{TableSeen, HasUserTable}
+use Rattle.user_values.specs.Tables.{TableSeen, HasUserTableBy}
 use Rattle.user_values.specs.Uses.{uses_of}
 use Rattle.user_values.specs.Walking.{TablesSeen, IsOrderOf, MakesNext, IsMadeLast, once_made}
 use Rattle.user_values.specs.inside.Walking.{NotesUses, AreLast, DropsUnused, AreKept, IsLatest}
@@ -38,12 +40,12 @@ order_of texts component_of order comps c =
       listed = λ at l. c.listed at (omega arith);
       below = λ i x e. let b = c.nodes i x e in omega arith;
       once = c.once;
-      after_used = λ i at used text o t some edge. used_before texts component_of order i at used text comps c o t some edge;
+      after_used = λ i at used text o t some edge. used_before Leftmost texts component_of order i at used text comps c o t some edge;
     }
 
-pub none_kept : (texts : List (List ℕ)) (order last : List ℕ) (tables : List (Option TableSeen)) → length tables ≡ length texts
-    → AreKept texts order last tables 0
-none_kept texts order last tables n = record { as_many = n; done = λ j node l text table m. absurd (omega arith) }
+pub none_kept : (rule : Rule) (texts : List (List ℕ)) (order last : List ℕ) (tables : List (Option TableSeen)) → length tables ≡ length texts
+    → AreKept rule texts order last tables 0
+none_kept rule texts order last tables n = record { as_many = n; done = λ j node l text table m. absurd (omega arith) }
 
 earlier : (order : List ℕ) (end node j other : ℕ) → slice_get order end ≡ Some node → slice_get order j ≡ Some other → (other ≡ node → ⊥) → j < end + 1
     → j < end
@@ -53,11 +55,11 @@ earlier order end node j other o e apart m =
       | inr other_place ↦ omega arith
     ]
 
-module _ (texts : List (List ℕ)) (order last : List ℕ) (old dropped : List (Option TableSeen)) (made at l : ℕ) (table : Option TableSeen) where
+module _ (rule : Rule) (texts : List (List ℕ)) (order last : List ℕ) (old dropped : List (Option TableSeen)) (made at l : ℕ) (table : Option TableSeen) where
   -- the tables after one more is made, of a block that is to be used
-  pub used_kept : AreKept texts order last old made → DropsUnused last (made + 1) old dropped → slice_get order made ≡ Some at → slice_get last at ≡ Some l
-      → at < length texts → ((text : List ℕ) → slice_get texts at ≡ Some text → HasUserTable texts text table)
-      → AreKept texts order last (set dropped at table) (made + 1)
+  pub used_kept : AreKept rule texts order last old made → DropsUnused last (made + 1) old dropped → slice_get order made ≡ Some at → slice_get last at ≡ Some l
+      → at < length texts → ((text : List ℕ) → slice_get texts at ≡ Some text → HasUserTableBy rule texts text table)
+      → AreKept rule texts order last (set dropped at table) (made + 1)
   used_kept h d o e w right = record {
     as_many = length-set dropped at table ∙ d.as_many ∙ h.as_many;
     done = λ j node k text other m oj ek needed t s. elim (cases_eq node at) [
@@ -65,7 +67,7 @@ module _ (texts : List (List ℕ)) (order last : List ℕ) (old dropped : List (
           let within : at < length dropped = omega (arith, d.as_many, h.as_many) in
           let was = item_at dropped at within in
           let here : slice_get (set dropped at table) node ≡ Some table = rw same (get-set_same dropped at was.0 table was.1) in
-          subst (HasUserTable texts text) (same_Some table other (sym here ∙ s)) (right text (rw (← same) t))
+          subst (HasUserTableBy rule texts text) (same_Some table other (sym here ∙ s)) (right text (rw (← same) t))
       | inr apart ↦
           h.done j node k text other (earlier order made at j node o oj apart m) oj ek (omega arith) t
           (sym (d.kept node k ek needed) ∙ sym (get-set_other dropped at node table apart) ∙ s)
@@ -73,8 +75,8 @@ module _ (texts : List (List ℕ)) (order last : List ℕ) (old dropped : List (
   }
 
   -- the same of one that is not
-  pub unused_kept : AreKept texts order last old made → DropsUnused last (made + 1) old dropped → slice_get order made ≡ Some at → slice_get last at ≡ Some l
-      → l < made + 1 → AreKept texts order last dropped (made + 1)
+  pub unused_kept : AreKept rule texts order last old made → DropsUnused last (made + 1) old dropped → slice_get order made ≡ Some at → slice_get last at ≡ Some l
+      → l < made + 1 → AreKept rule texts order last dropped (made + 1)
   unused_kept h d o e past = record {
     as_many = d.as_many ∙ h.as_many;
     done = λ j node k text other m oj ek needed t s. elim (cases_eq node at) [
@@ -85,8 +87,8 @@ module _ (texts : List (List ℕ)) (order last : List ℕ) (old dropped : List (
   }
 
   -- then it is the latest
-  pub latest_made : slice_get order made ≡ Some at → ((text : List ℕ) → slice_get texts at ≡ Some text → HasUserTable texts text table)
-      → IsLatest texts order last table (made + 1)
+  pub latest_made : slice_get order made ≡ Some at → ((text : List ℕ) → slice_get texts at ≡ Some text → HasUserTableBy rule texts text table)
+      → IsLatest rule texts order last table (made + 1)
   latest_made o right = λ before node k text m oj ek needed t.
       let place : made ≡ before = omega (arith, m) in
       let same : at ≡ node = same_Some at node (sym o ∙ ap (slice_get order) place ∙ oj) in
@@ -94,7 +96,7 @@ module _ (texts : List (List ℕ)) (order last : List ℕ) (old dropped : List (
 
   -- else there is none
   pub latest_used : (latest : Option TableSeen) → slice_get order made ≡ Some at → slice_get last at ≡ Some l → made + 1 ≤ l
-      → IsLatest texts order last latest (made + 1)
+      → IsLatest rule texts order last latest (made + 1)
   latest_used latest o e needed = λ before node k text m oj ek past t.
       let place : made ≡ before = omega (arith, m) in
       let same : at ≡ node = same_Some at node (sym o ∙ ap (slice_get order) place ∙ oj) in

@@ -1,9 +1,13 @@
 -- What a block says of user-defined capabilities once its uses are expanded (terminfo(5),
--- user_caps(5)): a use is replaced by all that the owner of the name says, in order, expanded in
--- the same way, and the leftmost mention of a name decides, its kind too.
-use Rattle.std.specs.Prelude.{ℕ, zero, suc, List, [], ◌∷◌, length, Option, Some, None, option_and_then, slice_get, if◌then◌else◌}
+-- user_caps(5)): a use is replaced by all that the owner of the name says, expanded in the same
+-- way, and the leftmost mention of a name decides, its kind too, or what the block says itself, as
+-- the rule of the source has it.
+use Rattle.std.specs.Prelude.{ℕ, zero, suc, List, [], ◌∷◌, ◌++◌, filter, length, Option, Some, None, is_some, option_map, option_and_then, slice_get}
+use Rattle.std.specs.Prelude.{Bool, true, false, if◌then◌else◌}
 use Rattle.std.specs.Str.{bytes_eq}
 use Rattle.ti_text.specs.Lists.{both_lists}
+use Rattle.ti_source.specs.declared.parsing.Rule.{Rule}
+use Rattle.ti_source.specs.declared.parsing.Rule.TheVariants.{Leftmost, OwnFirst}
 use Rattle.ti_source.specs.Parsing.{reading_of_text}
 use Rattle.ti_layout.specs.Values.{Content}
 use Rattle.ti_layout.specs.Laws.{without_cancel}
@@ -32,24 +36,67 @@ abbrev pub expand_items : (List ℕ → Option (List UserMention)) → List Read
 expand_items of_name [] = Some []
 expand_items of_name (item ∷ items) = both_lists (mentions_of of_name item.said) (expand_items of_name items)
 
+-- ---- the rule by which a block's items and uses give its mentions
+
+-- whether an item is a use
+abbrev pub is_use : UserSaid → Bool
+is_use (says name content) = false
+is_use (imports name) = true
+
+-- the items that are uses, in order
+abbrev pub use_items : List ReadUserItem → List ReadUserItem
+use_items [] = []
+use_items (item ∷ items) = if is_use item.said then item ∷ use_items items else use_items items
+
+-- the other items, from the last to the first
+abbrev pub own_items : List ReadUserItem → List ReadUserItem
+own_items [] = []
+own_items (item ∷ items) = if is_use item.said then own_items items else own_items items ++ item ∷ []
+
+-- the mentions of names that the first mention does not cancel
+unfoldable pub uncancelled : List UserMention → List UserMention
+uncancelled mentions = filter (λ (mention : UserMention). is_some (without_cancel (first_said mentions mention.0))) mentions
+
+-- the mentions of a block's items by a rule. What the block cancels itself remains a cancel; a
+-- cancel that a used entry has hides later uses, and is then absent
+abbrev pub block_mentions : Rule → (List ℕ → Option (List UserMention)) → List ReadUserItem → Option (List UserMention)
+block_mentions Leftmost of_name items = expand_items of_name items
+block_mentions OwnFirst of_name items =
+    both_lists (expand_items of_name (own_items items)) (option_map uncancelled (expand_items of_name (use_items items)))
+
+-- ---- the blocks of a source
+
 -- the text of the block that owns a name
 abbrev pub owner_text : List (List ℕ) → List ℕ → Option (List ℕ)
 owner_text texts name = option_and_then (slice_get texts) (owner (readings texts) name)
 
--- a block's mentions with uses expanded to at most this depth. None if the block is broken, nobody
--- owns a used name, or the depth does not suffice
-abbrev pub expand : List (List ℕ) → ℕ → List ℕ → Option (List UserMention)
-expand texts zero text = None
-expand texts (suc depth) text =
+-- a block's mentions by a rule, with uses expanded to at most this depth. None if the block is
+-- broken, nobody owns a used name, or the depth does not suffice
+abbrev pub expand_by : Rule → List (List ℕ) → ℕ → List ℕ → Option (List UserMention)
+expand_by rule texts zero text = None
+expand_by rule texts (suc depth) text =
     if is_broken (reading_of_text text) then None
-    else expand_items (λ name. option_and_then (expand texts depth) (owner_text texts name)) (user_reading_of_text text).items
+    else block_mentions rule (λ name. option_and_then (expand_by rule texts depth) (owner_text texts name)) (user_reading_of_text text).items
 
--- what a block of the list says with all its uses expanded, if it resolves
+-- what a block of the list says by a rule with all its uses expanded, if it resolves
+abbrev pub expansion_by : Rule → List (List ℕ) → List ℕ → Option (List UserMention)
+expansion_by rule texts text = expand_by rule texts (suc (length texts)) text
+
+-- the value of a name in the block at that position of a source: what its first mention gives it,
+-- and absent if that is a cancel or there is none
+abbrev pub user_value_by : Rule → List (List ℕ) → ℕ → List ℕ → Option Content
+user_value_by rule texts at name =
+    option_and_then (λ mentions. without_cancel (first_said mentions name)) (option_and_then (expansion_by rule texts) (slice_get texts at))
+
+-- ---- in the profile, where the leftmost mention decides
+
+abbrev pub expand : List (List ℕ) → ℕ → List ℕ → Option (List UserMention)
+expand texts depth text = expand_by Leftmost texts depth text
+
+-- what a block of the list says then, if it resolves
 abbrev pub expansion : List (List ℕ) → List ℕ → Option (List UserMention)
-expansion texts text = expand texts (suc (length texts)) text
+expansion texts text = expansion_by Leftmost texts text
 
--- the value of a name in the block at that position of a source: what its leftmost mention gives
--- it, and absent if that is a cancel or there is none
+-- the value of a name then
 abbrev pub user_value : List (List ℕ) → ℕ → List ℕ → Option Content
-user_value texts at name =
-    option_and_then (λ mentions. without_cancel (first_said mentions name)) (option_and_then (expansion texts) (slice_get texts at))
+user_value texts at name = user_value_by Leftmost texts at name

@@ -1,13 +1,13 @@
 //! What is said about user-defined names, in entries that tables share.
-ghost use Rattle.std.specs.Prelude.{◌≡◌, ◌≤◌, IfErr, IfOk, OnErr, OnOk, length};
-ghost use Rattle.std.specs.List.{insert};
+ghost use Rattle.std.specs.Prelude.{◌≡◌, ◌≤◌, true, IfErr, IfOk, OnErr, OnOk, length};
+ghost use Rattle.std.specs.List.{insert, list_any};
 ghost use Rattle.std.specs.Cmp.Lexicographic.{slice_cmp};
 ghost use Rattle.std.specs.Option.{option_map};
 ghost use Rattle.std.specs.Ordering.{nat_cmp};
 ghost use Rattle.std.specs.Rc.{rc_slice_items};
 ghost use Rattle.ti_layout.specs.Values.{content_of};
 ghost use Rattle.user_values.specs.Tables.{entries_seen, entry_seen, said_at, NamesRise};
-ghost use Rattle.user_values.specs.inside.Entries.{held_seen, AddsEntries, AddsEntry, IsAt, IsGapFor};
+ghost use Rattle.user_values.specs.inside.Entries.{held_seen, is_cancel, AddsEntries, AddsEntry, AddsValue, AddsValues, IsAt, IsGapFor};
 
 use std::alloc::{AllocError, Global};
 use std::cmp::Ordering;
@@ -271,5 +271,81 @@ pub(crate) fn add_all(alloc: Global, held: &mut Held, other: &Held) -> Result<()
     share(&mut all, held)?;
     add_entries(alloc, &mut all, slice_of(other))?;
     *held = all;
+    Ok(())
+}
+
+// Whether an entry is a cancel.
+fn is_cancel(entry: &Rc<UserEntry>) -> bool
+    ensures { result ≡ is_cancel (entry_seen entry.now.value).1 }
+{
+    match &entry.as_ref().value {
+        Value::Cancelled => true,
+        Value::True | Value::Number(_) | Value::Text(_) => false,
+    }
+}
+
+// Whether one of the entries is a cancel.
+fn has_cancel(entries: &[Rc<UserEntry>]) -> bool
+    ensures { result ≡ list_any (λ e. is_cancel (entry_seen e.value).1) entries.now }
+{
+    entries.iter().any(|entry| is_cancel(entry))
+}
+
+// Whether the values of another table are all of its entries, and nothing is said so far.
+fn can_share(held: &Held, other: &Held) -> bool
+    ensures { result ≡ true → AddsValues (held_seen other.now) (held_seen held.now) (held_seen other.now) }
+{
+    match held {
+        Some(_) => false,
+        None => !has_cancel(slice_of(other)),
+    }
+}
+
+// Adds an entry, unless it is a cancel or something is said about its name already.
+fn add_value(alloc: Global, held: &mut Held, entry: &Rc<UserEntry>) -> Result<(), AllocError>
+    requires { NamesRise (held_seen held.old) }
+    ensures rise { NamesRise (held_seen held.new) }
+    ensures added { OnOk result (AddsValue (entry_seen entry.now.value) (held_seen held.old) (held_seen held.new)) }
+{
+    if is_cancel(entry) {
+        return Ok(());
+    }
+    add_entry(alloc, held, entry)
+}
+
+// Adds the entries that are no cancels and whose names nothing is said about yet.
+fn add_each_value(
+    alloc: Global,
+    held: &mut Held,
+    entries: &[Rc<UserEntry>],
+) -> Result<(), AllocError>
+    requires held { NamesRise (held_seen held.old) }
+    requires entries { NamesRise (entries_seen entries.now) }
+    ensures rise { NamesRise (held_seen held.new) }
+    ensures added { OnOk result (AddsValues (entries_seen entries.now) (held_seen held.old) (held_seen held.new)) }
+{
+    for entry in entries {
+        add_value(alloc, held, entry)?;
+    }
+    Ok(())
+}
+
+/// Adds the entries of another table that are no cancels and whose names nothing is said about yet,
+/// and shares them all if nothing is said so far and none is a cancel.
+pub(crate) fn add_values(alloc: Global, held: &mut Held, other: &Held) -> Result<(), AllocError>
+    requires rise { NamesRise (held_seen held.old) }
+    requires other { NamesRise (held_seen other.now) }
+    ensures rise { NamesRise (held_seen held.new) }
+    ensures added { OnOk result (AddsValues (held_seen other.now) (held_seen held.old) (held_seen held.new)) }
+    ensures err { OnErr result (held_seen held.new ≡ held_seen held.old) }
+{
+    if can_share(held, other) {
+        return share(held, other);
+    }
+    // what memory is refused for in the midst of is not kept
+    let mut more = None;
+    share(&mut more, held)?;
+    add_each_value(alloc, &mut more, slice_of(other))?;
+    *held = more;
     Ok(())
 }

@@ -8,8 +8,9 @@
 //! }
 //! ```
 //!
-//! Where the block at a position resolves, `table` is its `UserTable`: what the leftmost mention
-//! says of each user-defined name, its kind too, or that it is cancelled.
+//! Where the block at a position resolves, `table` is its `UserTable`: what the mention that decides
+//! by the rule of the source, `ti_source::Rule`, says of each user-defined name, its kind too, or
+//! that it is cancelled.
 //!
 //! - `limit`: how many user-defined names a source has (`count_names`) and may have (`NAME_LIMIT`);
 //!   `names_found`: those that were found; `fault`: why it has no values (`ValuesError`)
@@ -18,7 +19,7 @@
 //! - `graph`: which blocks use each other
 //! - `values`: the table of one block; `walk`: the tables of all blocks (`UserTables`), each made
 //!   after those of the blocks that it uses, and kept until the last block that uses it is made
-//! - `laws`: a block has values exactly where it resolves, and its table has them
+//! - `laws`: by each rule, a block has values exactly where it resolves, and its table has them
 #![tactic(auto)]
 
 mod entries;

@@ -14,7 +14,7 @@ use crate::table::UserTable;
 use crate::values::read_all;
 use std::alloc::{AllocError, Global};
 use std::rc::RcSlice;
-use ti_base::Database;
+use ti_base::RuledDatabase;
 use ti_layout::Value;
 use user_items::{UserItem, UserItems, UserWhat};
 
@@ -90,10 +90,10 @@ pub(crate) fn check_names(alloc: Global, reads: &[UserItems]) -> Result<usize, V
 /// # Errors
 /// `TooManyNames` for a source of more than 1,024 of them, with the position of the first block by
 /// which it has more; or `Memory`.
-pub fn count_names(alloc: Global, database: &Database) -> Result<usize, ValuesError>
-    ensures count { IfOk result (λ count. count ≡ name_count database.now (length database.now)) }
-    ensures few { OnOk result (name_count database.now (length database.now) ≤ name_limit) }
-    ensures too_many { (at : ℕ) → IsErrOf result (ValuesError.TooManyNames at) → IsOverLimitAt database.now at }
+pub fn count_names(alloc: Global, database: &RuledDatabase) -> Result<usize, ValuesError>
+    ensures count { IfOk result (λ count. count ≡ name_count database.now.texts (length database.now.texts)) }
+    ensures few { OnOk result (name_count database.now.texts (length database.now.texts) ≤ name_limit) }
+    ensures too_many { (at : ℕ) → IsErrOf result (ValuesError.TooManyNames at) → IsOverLimitAt database.now.texts at }
 {
     let reads = read_all(alloc, database)?;
     check_names(alloc, &reads)

@@ -2,10 +2,11 @@
 ghost use Rattle.std.specs.Prelude.{◌≡◌, List, ℕ, None, OnErr, OnOk};
 ghost use Rattle.std.specs.Option.{option_map, option_or};
 ghost use Rattle.std.specs.Rc.{rc_slice_items};
+ghost use Rattle.ti_layout.specs.Laws.{without_cancel};
 ghost use Rattle.ti_layout.specs.Values.{content_of};
 ghost use Rattle.user_values.specs.Tables.{entries_seen, said_at, said_once, NamesRise};
 
-use crate::entries::{Held, UserEntry, add_all, add_entry, entry_of, find, slice_of};
+use crate::entries::{Held, UserEntry, add_all, add_entry, add_values, entry_of, find, slice_of};
 use std::alloc::{AllocError, Global};
 use std::marker::Model;
 use std::rc::{Rc, RcSlice};
@@ -71,6 +72,18 @@ impl UserTable {
         ensures err { OnErr result (self.new ≡ self.old) }
     {
         add_all(alloc, &mut self.entries, &other.entries)
+    }
+
+    /// Says what another table says of each name of which nothing is said yet, but for cancels.
+    ///
+    /// # Errors
+    /// Out of memory; the table is then as it was.
+    pub fn merge_values(&mut self, alloc: Global, other: &UserTable) -> Result<(), AllocError>
+        ensures said { OnOk result ((name : List ℕ) → said_at self.new name
+            ≡ option_or (said_at self.old name) (without_cancel (said_at other.now name))) }
+        ensures err { OnErr result (self.new ≡ self.old) }
+    {
+        add_values(alloc, &mut self.entries, &other.entries)
     }
 
     /// The names of which something is said, each with that, in the order of their bytes.

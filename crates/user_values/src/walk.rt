@@ -5,7 +5,7 @@ ghost use Rattle.base_components.specs.Graph.{IsGraph};
 ghost use Rattle.user_items.specs.Parsing.{user_reading_of_text};
 ghost use Rattle.user_items.specs.Reading.{user_reading_of};
 ghost use Rattle.user_values.specs.Limit.{name_count, name_limit, IsOverLimitAt};
-ghost use Rattle.user_values.specs.Walking.{IsStartOf};
+ghost use Rattle.user_values.specs.Walking.{IsStartBy};
 ghost use Rattle.user_values.specs.inside.Walking.{AreLast, DropsUnused, NotesUses};
 
 use crate::fault::ValuesError;
@@ -16,7 +16,7 @@ use crate::values::{no_tables, read_all, table_at};
 use base_components::{Components, Graph};
 use std::alloc::{AllocError, Global};
 use std::marker::Model;
-use ti_base::Database;
+use ti_base::RuledDatabase;
 use user_items::UserItems;
 
 // Notes a place at each block that the edges of a row lead to.
@@ -71,7 +71,7 @@ fn drop_unused(
 #[derive(Drop)]
 pub struct UserTables<'a> {
     alloc: Global,
-    database: &'a Database,
+    database: &'a RuledDatabase,
     reads: Vec<UserItems>,
     uses: Graph,
     components: Components,
@@ -90,19 +90,19 @@ impl<'a> Model for UserTables<'a> {
 
     ghost Value = { TablesSeen };
 
-    ghost view = { λ t. record { texts = t.database.now; order = t.components.order.items; made = t.made } };
+    ghost view = { λ t. record { rule = t.database.now.rule; texts = t.database.now.texts; order = t.components.order.items; made = t.made } };
 
-    ghost invariant = { λ t. AreUnderWay t.database.now t.reads.items t.uses t.components.component_of.items t.components.order.items t.last.items t.tables.items t.latest t.made };
+    ghost invariant = { λ t. AreUnderWay t.database.now.rule t.database.now.texts t.reads.items t.uses t.components.component_of.items t.components.order.items t.last.items t.tables.items t.latest t.made };
 }
 
 // A walk that has made no table.
 fn begin<'a>(
     alloc: Global,
-    database: &'a Database,
+    database: &'a RuledDatabase,
     reads: Vec<UserItems>,
 ) -> Result<UserTables<'a>, AllocError>
-    requires { map user_reading_of reads.items ≡ map user_reading_of_text database.now }
-    ensures { IfOk result (λ tables. IsStartOf database.now tables) }
+    requires { map user_reading_of reads.items ≡ map user_reading_of_text database.now.texts }
+    ensures { IfOk result (λ tables. IsStartBy database.now.rule database.now.texts tables) }
 {
     let uses = graph_of_uses(alloc, database, &reads)?;
     let components = Components::find(alloc, &uses)?;
@@ -122,19 +122,20 @@ fn begin<'a>(
 }
 
 impl<'a> UserTables<'a> {
-    ghost use Rattle.user_values.specs.Tables.{IsTableAt};
-    ghost use Rattle.user_values.specs.Walking.{IsMadeLast, IsStartOf, MakesNext};
+    ghost use Rattle.user_values.specs.Tables.{IsTableAtBy};
+    ghost use Rattle.user_values.specs.Walking.{IsMadeLast, IsStartBy, MakesNext};
 
     /// Reads the blocks of a source, and chooses the order of their tables, but makes none yet: each
     /// block is in the order once, and a block that resolves comes after each block that it uses.
+    /// The tables are by the rule of the source.
     ///
     /// # Errors
     /// `TooManyNames` for a source of more than 1,024 distinct user-defined names, with the
     /// position of the first block by which it has more; or `Memory`.
-    pub fn of(alloc: Global, database: &'a Database) -> Result<UserTables<'a>, ValuesError>
-        ensures start { IfOk result (λ tables. IsStartOf database.now tables) }
-        ensures few { OnOk result (name_count database.now (length database.now) ≤ name_limit) }
-        ensures too_many { (at : ℕ) → IsErrOf result (ValuesError.TooManyNames at) → IsOverLimitAt database.now at }
+    pub fn of(alloc: Global, database: &'a RuledDatabase) -> Result<UserTables<'a>, ValuesError>
+        ensures start { IfOk result (λ tables. IsStartBy database.now.rule database.now.texts tables) }
+        ensures few { OnOk result (name_count database.now.texts (length database.now.texts) ≤ name_limit) }
+        ensures too_many { (at : ℕ) → IsErrOf result (ValuesError.TooManyNames at) → IsOverLimitAt database.now.texts at }
     {
         let reads = read_all(alloc, database)?;
         match check_names(alloc, &reads) {
@@ -173,7 +174,7 @@ impl<'a> UserTables<'a> {
     /// block does not resolve.
     pub fn table(&self, at: usize) -> &Option<UserTable>
         requires { IsMadeLast self.now at }
-        ensures { IsTableAt self.now.texts at result.now }
+        ensures { IsTableAtBy self.now.rule self.now.texts at result.now }
     {
         if self.last[at] < self.made {
             &self.latest

@@ -1,5 +1,5 @@
 -- Where the entry of a name is, or would be, in a table (own).
-use Rattle.std.specs.Prelude.{ℕ, ◌≡◌, ◌<◌, ◌≤◌, List, [], length, slice_index_or, Option, Some, None}
+use Rattle.std.specs.Prelude.{ℕ, ◌≡◌, ◌<◌, ◌≤◌, Bool, true, false, List, [], length, slice_index_or, Option, Some, None}
 use Rattle.std.specs.Option.{option_or}
 use Rattle.std.specs.Cmp.Lexicographic.{slice_cmp}
 use Rattle.std.specs.Ordering.{nat_cmp}
@@ -7,6 +7,8 @@ use Rattle.std.specs.declared.cmp.Ordering.TheVariants.{Less}
 use Rattle.std.specs.declared.alloc.Global.{Global}
 use Rattle.std.specs.declared.rc.Rc.{Rc}
 use Rattle.std.specs.declared.vec.Vec.{Vec}
+use Rattle.ti_layout.specs.Values.{Content, content_true, content_number, content_text, content_cancelled}
+use Rattle.ti_layout.specs.Laws.{without_cancel}
 use Rattle.user_values.specs.Expansion.{UserMention}
 use Rattle.user_values.specs.Tables.{TableSeen, entries_seen, said_at, said_once}
 use Rattle.user_values.specs.declared.entries.UserEntry.{UserEntry}
@@ -23,6 +25,21 @@ AddsEntry entry old new = (name : List ℕ) → said_at new name ≡ option_or (
 -- so is what each entry of a table says
 abbrev pub AddsEntries : TableSeen → TableSeen → TableSeen → Type 0
 AddsEntries entries old new = (name : List ℕ) → said_at new name ≡ option_or (said_at old name) (said_at entries name)
+
+-- so is what an entry says, unless that is a cancel
+abbrev pub AddsValue : UserMention → TableSeen → TableSeen → Type 0
+AddsValue entry old new = (name : List ℕ) → said_at new name ≡ option_or (said_at old name) (without_cancel (said_once entry.0 entry.1 name))
+
+-- so is each value of a table, but no cancel
+abbrev pub AddsValues : TableSeen → TableSeen → TableSeen → Type 0
+AddsValues entries old new = (name : List ℕ) → said_at new name ≡ option_or (said_at old name) (without_cancel (said_at entries name))
+
+-- whether a content is a cancel
+abbrev pub is_cancel : Content → Bool
+is_cancel content_true = false
+is_cancel (content_number n) = false
+is_cancel (content_text text) = false
+is_cancel content_cancelled = true
 
 -- the entry of the name is at i
 pub record IsAt (table : TableSeen) (name : List ℕ) (i : ℕ) : Type 0 where

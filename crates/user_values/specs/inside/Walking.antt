@@ -2,10 +2,11 @@
 use Rattle.std.specs.Prelude.{ℕ, ◌≡◌, ◌<◌, ◌≤◌, ◌⊎◌, suc, List, length, map, Option, Some, slice_get}
 use Rattle.base_components.specs.Graph.{Rows, HasEdge}
 use Rattle.base_components.specs.Components.{AreComponents, IsClosingOrder}
+use Rattle.ti_source.specs.declared.parsing.Rule.{Rule}
 use Rattle.user_items.specs.declared.reading.UserItems.{UserItems}
 use Rattle.user_items.specs.Parsing.{user_reading_of_text}
 use Rattle.user_items.specs.Reading.{user_reading_of}
-use Rattle.user_values.specs.Tables.{TableSeen, HasUserTable}
+use Rattle.user_values.specs.Tables.{TableSeen, HasUserTableBy}
 use Rattle.user_values.specs.Uses.{uses_of}
 
 -- a place was noted at each block that the edges of a row lead to, and no other was
@@ -25,24 +26,24 @@ pub record DropsUnused (last : List ℕ) (made : ℕ) (old new : List (Option Ta
   pub kept : (at l : ℕ) → slice_get last at ≡ Some l → made ≤ l → slice_get new at ≡ slice_get old at
 
 -- the tables of blocks that are still to be used are there
-pub record AreKept (texts : List (List ℕ)) (order last : List ℕ) (tables : List (Option TableSeen)) (made : ℕ) : Type 0 where
+pub record AreKept (rule : Rule) (texts : List (List ℕ)) (order last : List ℕ) (tables : List (Option TableSeen)) (made : ℕ) : Type 0 where
   pub as_many : length tables ≡ length texts
   pub done : (j node l : ℕ) (text : List ℕ) (table : Option TableSeen) → j < made → slice_get order j ≡ Some node → slice_get last node ≡ Some l → made ≤ l
-      → slice_get texts node ≡ Some text → slice_get tables node ≡ Some table → HasUserTable texts text table
+      → slice_get texts node ≡ Some text → slice_get tables node ≡ Some table → HasUserTableBy rule texts text table
 
 -- the table that was made last is there, if its block is not to be used
-abbrev pub IsLatest : List (List ℕ) → List ℕ → List ℕ → Option TableSeen → ℕ → Type 0
-IsLatest texts order last latest made =
+abbrev pub IsLatest : Rule → List (List ℕ) → List ℕ → List ℕ → Option TableSeen → ℕ → Type 0
+IsLatest rule texts order last latest made =
     (before node l : ℕ) (text : List ℕ) → made ≡ suc before → slice_get order before ≡ Some node → slice_get last node ≡ Some l → l < made
-    → slice_get texts node ≡ Some text → HasUserTable texts text latest
+    → slice_get texts node ≡ Some text → HasUserTableBy rule texts text latest
 
 -- so many tables are made of those of a source
-pub record AreUnderWay (texts : List (List ℕ)) (reads : List UserItems) (uses : Rows) (component_of order last : List ℕ) (tables : List (Option TableSeen))
-    (latest : Option TableSeen) (made : ℕ) : Type 0 where
+pub record AreUnderWay (rule : Rule) (texts : List (List ℕ)) (reads : List UserItems) (uses : Rows) (component_of order last : List ℕ)
+    (tables : List (Option TableSeen)) (latest : Option TableSeen) (made : ℕ) : Type 0 where
   pub read : map user_reading_of reads ≡ map user_reading_of_text texts
   pub graph : uses ≡ uses_of texts
   pub components : AreComponents (uses_of texts) component_of
   pub closing : IsClosingOrder (uses_of texts) component_of order
   pub are_last : AreLast (uses_of texts) order last
-  pub are_kept : AreKept texts order last tables made
-  pub is_latest : IsLatest texts order last latest made
+  pub are_kept : AreKept rule texts order last tables made
+  pub is_latest : IsLatest rule texts order last latest made

@@ -12,7 +12,7 @@ pub returns-clause-held : goal.returns-clause-held
 returns-clause-held c =
     let same = ap with_last_newline (c.as_slice.ensures.value ∙ c.in_ok-ended.ensures)
     ∙ newline_changes_nothing c.args.source.now (sym c.is_ended.ensures ∙ c.if-is_ended.false) in
-    subst (λ (ended : List ℕ). IfOk c.database_of_ended-2.result (λ database. database ≡ blocks_from_head 10 ended)) same c.database_of_ended-2.ensures.held
+    subst (λ (ended : List ℕ). IfOk c.database_of_ended-2.result (λ database. database.texts ≡ blocks_from_head 10 ended)) same c.database_of_ended-2.ensures.held
 
 pub returns-clause-taken : goal.returns-clause-taken
 returns-clause-taken c =

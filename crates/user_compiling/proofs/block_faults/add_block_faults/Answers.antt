@@ -3,7 +3,7 @@ use Rattle.std.specs.List.{take-map}
 use Rattle.std.proofs.lemmas.List.Elements.{All-append, All-take}
 use Rattle.ti_text.proofs.Lists.{item_at}
 use Rattle.ti_source.specs.Parsing.{reading_of_text}
-use Rattle.base_meaning.specs.Owner.{readings}
+use Rattle.base_meaning.specs.Readings.{readings_by}
 use Rattle.base_meaning.specs.Usable.{IsPlaced}
 use Rattle.base_meaning.specs.Faults.{SourceFault, fault_seen as profile_fault_seen, local_faults, name_faults, entry_faults}
 use Rattle.user_items.specs.Parsing.{user_reading_of_text}
@@ -17,9 +17,9 @@ use Rattle.user_compiling.proofs.block_faults.add_block_faults.Goals as goal
 
 pub returns-clause-added : goal.returns-clause-added
 returns-clause-added c = λ text state stands found.
-    let db = c.args.database.now in
+    let db = c.args.database.now.texts in
     let at = c.args.at in
-    let blocks = readings db in
+    let blocks = readings_by c.args.database.now.rule db in
     let block = reading_of_text text in
     let old = map fault_seen c.args.faults.now.items in
     let seen = map profile_fault_seen c.split_at.result.0.now in
@@ -37,7 +37,7 @@ returns-clause-added c = λ text state stands found.
 
 pub returns-clause-placed : goal.returns-clause-placed
 returns-clause-placed c = λ profile_placed old_placed.
-    let db = c.args.database.now in
+    let db = c.args.database.now.texts in
     let at = c.args.at in
     let n = length db in
     let item = item_at db at c.requires.within in

@@ -12,7 +12,7 @@ use Rattle.user_compiling.proofs.block_faults.push_too_large.Goals as goal
 
 pub returns : goal.returns
 returns c = λ text stands.
-    let there = read_text c.args.database.now c.args.at text stands in
+    let there = read_text c.args.database.now.texts c.args.at text stands in
     let names : map rc_slice_items c.names.result.now ≡ (reading_of_text text).names =
     same_Some (map rc_slice_items c.names.result.now) (reading_of_text text).names (sym c.names.ensures
     ∙ ap (option_map (λ (block : Reading). block.names)) there) in

@@ -24,33 +24,45 @@ loop-all-smaller c =
 
 pub loop-all-preserved-in_ok-state : goal.loop-all-preserved-in_ok-state
 loop-all-preserved-in_ok-state c =
-    let db = c.args.database.now in
+    let db = c.args.database.now.texts in
+    let rule = c.args.database.now.rule in
     let old = c.loop-all.tables in
     let all = c.loop-all.all.items in
     let inv = c.loop-all.invariant in
     let next = c.in_ok-at.ensures.next in
     let listed : slice_get old.order old.made ≡ Some c.in-Some.at = sym next.next ∙ c.in-Some.is in
-    let below = inv.1.below old.made c.in-Some.at listed in
-    subst (λ (s : TablesSeen). (s.texts ≡ db) × IsOrderOf db s.order × AreFoundBefore db s.order (set all c.in-Some.at c.in_ok-state.state) s.made)
-    (sym (next.is ∙ ap (once_made old) c.in-Some.is))
-    (inv.0, inv.1, one_found db old.order all old.made c.in-Some.at c.in_ok-state.state inv.2 listed (omega (arith, inv.2.as_many, below)) c.in_ok-state.ensures)
+    let below = inv.2.below old.made c.in-Some.at listed in
+    subst (λ (s : TablesSeen). (s.rule ≡ rule) × (s.texts ≡ db) × IsOrderOf db s.order
+    × AreFoundBefore rule db s.order (set all c.in-Some.at c.in_ok-state.state) s.made)
+    (sym (next.is ∙ ap (once_made old) c.in-Some.is)) (
+      inv.0,
+      inv.1,
+      inv.2,
+      one_found rule db old.order all old.made c.in-Some.at c.in_ok-state.state inv.3 listed (omega (arith, inv.3.as_many, below)) c.in_ok-state.ensures,
+    )
 
 pub loop-all-preserved : goal.loop-all-preserved
 loop-all-preserved c =
-    let db = c.args.database.now in
+    let db = c.args.database.now.texts in
+    let rule = c.args.database.now.rule in
     let old = c.loop-all.tables in
     let all = c.loop-all.all.items in
     let inv = c.loop-all.invariant in
     let next = c.in_ok-at.ensures.next in
     let listed : slice_get old.order old.made ≡ Some c.in-Some.at = sym next.next ∙ c.in-Some.is in
-    let below = inv.1.below old.made c.in-Some.at listed in
-    subst (λ (s : TablesSeen). (s.texts ≡ db) × IsOrderOf db s.order × AreFoundBefore db s.order (set all c.in-Some.at c.in_ok-state.state) s.made)
-    (sym (next.is ∙ ap (once_made old) c.in-Some.is))
-    (inv.0, inv.1, one_found db old.order all old.made c.in-Some.at c.in_ok-state.state inv.2 listed (omega (arith, inv.2.as_many, below)) c.in_ok-state.ensures)
+    let below = inv.2.below old.made c.in-Some.at listed in
+    subst (λ (s : TablesSeen). (s.rule ≡ rule) × (s.texts ≡ db) × IsOrderOf db s.order
+    × AreFoundBefore rule db s.order (set all c.in-Some.at c.in_ok-state.state) s.made)
+    (sym (next.is ∙ ap (once_made old) c.in-Some.is)) (
+      inv.0,
+      inv.1,
+      inv.2,
+      one_found rule db old.order all old.made c.in-Some.at c.in_ok-state.state inv.3 listed (omega (arith, inv.3.as_many, below)) c.in_ok-state.ensures,
+    )
 
 pub returns : goal.returns
 returns c =
     let old = c.loop-all.tables in
     let inv = c.loop-all.invariant in
     let next = c.in_ok-at.ensures.next in
-    all_found c.args.database.now old.order c.loop-all.all.items old.made inv.1 (end_of old.order old.made (sym c.in_default.is ∙ next.next)) inv.2
+    all_found c.args.database.now.rule c.args.database.now.texts old.order c.loop-all.all.items old.made inv.2 (end_of old.order old.made (sym c.in_default.is ∙ next.next)) inv.3

@@ -13,7 +13,7 @@ use Rattle.user_compiling.proofs.own_codes.codes_of.Goals as goal
 
 pub own_codes-requires : goal.own_codes-requires
 own_codes-requires c =
-    let db = c.args.database.now in
+    let db = c.args.database.now.texts in
     let text = c.text.result.now in
     subst OneBlock (get_or_from_slice_get db c.args.at text text c.text.ensures) (c.requires.one c.args.at text c.requires.within)
 
@@ -24,7 +24,7 @@ returns-then-has_user_warning c = λ text stands.
 
 pub returns : goal.returns
 returns c = λ text stands.
-    let there = read_text c.args.database.now c.args.at text stands in
+    let there = read_text c.args.database.now.texts c.args.at text stands in
     let faults : map fault_of c.local_faults.result.now ≡ (reading_of_text text).faults =
     same_Some (map fault_of c.local_faults.result.now) (reading_of_text text).faults (sym c.local_faults.ensures
     ∙ ap (option_map (λ (block : Reading). block.faults)) there) in

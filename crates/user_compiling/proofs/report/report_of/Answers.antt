@@ -12,7 +12,7 @@ use Rattle.user_compiling.proofs.report.report_of.Goals as goal
 
 pub index-requires : goal.index-requires
 index-requires c =
-    let db = c.args.database.now in
+    let db = c.args.database.now.texts in
     let within : c.loop-fault.fault-index < length c.args.faults.now = omega arith in
     let is_placed = All-map_item (IsExtendedPlaced (length db)) fault_seen c.args.faults.now c.loop-fault.fault-index c.fault-item.result within
     c.fault-item.is c.requires.placed in
@@ -23,7 +23,7 @@ index-requires c =
 
 pub overflow_add-number : goal.overflow_add-number
 overflow_add-number c =
-    let db = c.args.database.now in
+    let db = c.args.database.now.texts in
     let within : c.loop-fault.fault-index < length c.args.faults.now = omega arith in
     let is_placed = All-map_item (IsExtendedPlaced (length db)) fault_seen c.args.faults.now c.loop-fault.fault-index c.fault-item.result within
     c.fault-item.is c.requires.placed in
@@ -37,7 +37,7 @@ overflow_add-number c =
 
 pub overflow_add-number-in-loop-fault : goal.overflow_add-number-in-loop-fault
 overflow_add-number-in-loop-fault c =
-    let db = c.args.database.now in
+    let db = c.args.database.now.texts in
     let within : c.loop-fault.fault-index < length c.args.faults.now = omega arith in
     let is_placed = All-map_item (IsExtendedPlaced (length db)) fault_seen c.args.faults.now c.loop-fault.fault-index c.fault-item.result within
     c.fault-item.is c.requires.placed in
@@ -51,7 +51,7 @@ overflow_add-number-in-loop-fault c =
 
 pub overflow_sub-number : goal.overflow_sub-number
 overflow_sub-number c =
-    let db = c.args.database.now in
+    let db = c.args.database.now.texts in
     let within : c.loop-fault.fault-index < length c.args.faults.now = omega arith in
     let is_placed = All-map_item (IsExtendedPlaced (length db)) fault_seen c.args.faults.now c.loop-fault.fault-index c.fault-item.result within
     c.fault-item.is c.requires.placed in
@@ -62,7 +62,7 @@ overflow_sub-number c =
 
 pub loop-fault-preserved : goal.loop-fault-preserved
 loop-fault-preserved c =
-    let db = c.args.database.now in
+    let db = c.args.database.now.texts in
     let within : c.loop-fault.fault-index < length c.args.faults.now = omega arith in
     let is_placed = All-map_item (IsExtendedPlaced (length db)) fault_seen c.args.faults.now c.loop-fault.fault-index c.fault-item.result within
     c.fault-item.is c.requires.placed in
@@ -85,5 +85,5 @@ loop-fault-init c = c.new-out.ensures.items
 
 pub returns : goal.returns
 returns c =
-    let lines = flat_map (extended_line c.args.database.now c.args.first_line) in
+    let lines = flat_map (extended_line c.args.database.now.texts c.args.first_line) in
     c.loop-fault.invariant ∙ ap (λ faults. lines (map fault_seen faults)) (take_all c.loop-fault.fault-index c.args.faults.now (omega arith))

@@ -5,4 +5,4 @@ use Rattle.user_compiling.specs.Report.{extended_line}
 use Rattle.user_compiling.proofs.report.report_of.Given as goal
 
 abbrev pub invariant-loop-fault : goal.invariant-loop-fault
-invariant-loop-fault l = l.out.items ≡ flat_map (extended_line l.database l.first_line) (map fault_seen (take l.fault-index l.faults))
+invariant-loop-fault l = l.out.items ≡ flat_map (extended_line l.database.texts l.first_line) (map fault_seen (take l.fault-index l.faults))

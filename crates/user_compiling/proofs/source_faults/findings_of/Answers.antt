@@ -11,6 +11,6 @@ loop-at-preserved c =
     let there = slice_get-map_item state_seen compiled c.loop-at.at c.index-compiled-at.result c.loop-at-test.true c.index-compiled-at.is in
     record {
       as_many = (let n = i.as_many in omega (arith, c.in_ok-push.ensures.len, n));
-      first = one_more_found c.args.database.now (map state_seen compiled) c.loop-at.findings.items c.push.new.self.items c.in_ok-of.field-0 c.loop-at.at
+      first = one_more_found c.args.database.now.texts (map state_seen compiled) c.loop-at.findings.items c.push.new.self.items c.in_ok-of.field-0 c.loop-at.at
           (state_seen c.index-compiled-at.result) i.first c.in_ok-push.ensures.items (sym i.as_many) there c.in_ok-of.ensures;
     }

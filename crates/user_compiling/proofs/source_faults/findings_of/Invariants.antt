@@ -6,5 +6,5 @@ use Rattle.user_compiling.proofs.source_faults.findings_of.Given as goal
 abbrev pub invariant-loop-at : goal.invariant-loop-at
 invariant-loop-at l = record {
   as_many : length l.findings.items ≡ l.at;
-  first : AreFirst l.database (map state_seen l.compiled) l.findings.items;
+  first : AreFirst l.database.texts (map state_seen l.compiled) l.findings.items;
 }

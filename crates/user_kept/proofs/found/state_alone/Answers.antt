@@ -1,5 +1,6 @@
 use Rattle.std.proofs.Common.{subst}
 use Rattle.std.proofs.lemmas.Option.{same_Some}
+use Rattle.ti_source.specs.declared.parsing.Rule.TheVariants.{Leftmost}
 use Rattle.ti_source.specs.Parsing.{reading_of_text}
 use Rattle.user_values.proofs.Making.{resolved}
 use Rattle.user_values.proofs.Resolving.{read_text}
@@ -18,4 +19,4 @@ returns-then-is_none c = λ state e text stands.
 pub table_alone-requires-clause-whole : goal.table_alone-requires-clause-whole
 table_alone-requires-clause-whole c = λ text stands.
     let db = c.args.database.now in
-    resolved db text (λ table. table.now) c.values.result c.if-is_none.ensures (c.values.ensures (reading_of_text text) (read_text db c.args.at text stands))
+    resolved Leftmost db text (λ table. table.now) c.values.result c.if-is_none.ensures (c.values.ensures (reading_of_text text) (read_text db c.args.at text stands))

@@ -4,4 +4,4 @@ use Rattle.user_values.specs.Uses.{row_of}
 use Rattle.user_values.proofs.graph.add_row.Given as goal
 
 abbrev pub invariant-loop-item : goal.invariant-loop-item
-invariant-loop-item l = l.uses ≡ l.fn.uses ++ row_of l.database (map user_item_of (take l.item-index l.items)) ∷ []
+invariant-loop-item l = l.uses ≡ l.fn.uses ++ row_of l.database.texts (map user_item_of (take l.item-index l.items)) ∷ []

@@ -10,4 +10,4 @@ returns-clause-too_many c = λ at e.
     let Over : List UserItems → Type 0 = λ rs. (at < length rs) × (length (distinct_after [] (names_in (map user_reading_of (take at rs)))) ≤ name_limit)
     × (name_limit < length (distinct_after [] (names_in (map user_reading_of (take (at + 1) rs))))) in
     let over : Over c.in_ok-reads.reads.items = subst Over c.deref.ensures.value (c.check_names.ensures.too_many at e) in
-    over_limit c.in_ok-reads.reads.items c.args.database.now at c.in_ok-reads.ensures over.0 over.1 over.2
+    over_limit c.in_ok-reads.reads.items c.args.database.now.texts at c.in_ok-reads.ensures over.0 over.1 over.2

@@ -19,15 +19,15 @@ known part texts at text x stands e =
 
 pub known_user_items-requires-clause-items : goal.known_user_items-requires-clause-items
 known_user_items-requires-clause-items c =
-    known (λ (block : Reading). block.items) c.args.database.now c.loop-at.at c.text.result.now _ c.text.ensures c.items.ensures
+    known (λ (block : Reading). block.items) c.args.database.now.texts c.loop-at.at c.text.result.now _ c.text.ensures c.items.ensures
 
 pub known_user_items-requires-clause-faults : goal.known_user_items-requires-clause-faults
 known_user_items-requires-clause-faults c =
-    known (λ (block : Reading). block.faults) c.args.database.now c.loop-at.at c.text.result.now _ c.text.ensures c.local_faults.ensures
+    known (λ (block : Reading). block.faults) c.args.database.now.texts c.loop-at.at c.text.result.now _ c.text.ensures c.local_faults.ensures
 
 pub loop-at-preserved : goal.loop-at-preserved
 loop-at-preserved c =
-    let db = c.args.database.now in
+    let db = c.args.database.now.texts in
     let at = c.loop-at.at in
     let text = c.text.result.now in
     let within : at < length db = slice_get_within db at text c.text.ensures in

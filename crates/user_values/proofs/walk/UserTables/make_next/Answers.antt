@@ -14,7 +14,7 @@ table_at-requires-clause-owners c = λ text stands some.
     let listed : slice_get i.components.order.items i.made ≡ Some c.in-Some.at.now =
     found_at i.components.order.items c.deref.result.now i.made c.in-Some.at.now c.deref.ensures.value c.in-Some.ensures.lookup.1 c.in-Some.ensures.lookup.3.0 in
     rw c.deref-2.ensures.value
-    (owners_made i.database.now i.components.component_of.items i.components.order.items i.last.items i.tables.items i.made c.in-Some.at.now text
+    (owners_made i.database.now.rule i.database.now.texts i.components.component_of.items i.components.order.items i.last.items i.tables.items i.made c.in-Some.at.now text
     inv.components inv.closing inv.are_last inv.are_kept listed stands some)
 
 pub row-requires : goal.row-requires
@@ -30,7 +30,7 @@ drop_unused-requires-clause-within c = λ k to e.
     let i = c.self.inside in
     let inv = c.self.invariant in
     let edge : HasEdge i.uses c.in-Some.at.now to = record { row = c.row.result.now; place = k; stands = c.row.ensures; leads = e } in
-    let within = graph_whole i.database.now c.in-Some.at.now to (subst (λ (g : Rows). HasEdge g c.in-Some.at.now to) inv.graph edge) in
+    let within = graph_whole i.database.now.texts c.in-Some.at.now to (subst (λ (g : Rows). HasEdge g c.in-Some.at.now to) inv.graph edge) in
     rw c.deref-4.ensures.value (omega (arith, inv.are_last.as_many, within))
 
 pub index-requires : goal.index-requires
@@ -49,7 +49,7 @@ index_mut-requires c =
     let listed : slice_get i.components.order.items i.made ≡ Some c.in-Some.at.now =
     found_at i.components.order.items c.deref.result.now i.made c.in-Some.at.now c.deref.ensures.value c.in-Some.ensures.lookup.1 c.in-Some.ensures.lookup.3.0 in
     let below = inv.closing.nodes i.made c.in-Some.at.now listed in
-    omega (arith, c.drop_unused.new.tables.ok.0, c.drop_unused.ensures.as_many, inv.are_kept.as_many, graph_length i.database.now, below)
+    omega (arith, c.drop_unused.new.tables.ok.0, c.drop_unused.ensures.as_many, inv.are_kept.as_many, graph_length i.database.now.texts, below)
 
 pub invariant_of-self : goal.invariant_of-self
 invariant_of-self c =
@@ -68,10 +68,10 @@ invariant_of-self c =
       components = inv.components;
       closing = inv.closing;
       are_last = inv.are_last;
-      are_kept = unused_kept i.database.now order i.last.items i.tables.items new i.made at c.index.result.now table inv.are_kept dropped listed
+      are_kept = unused_kept i.database.now.rule i.database.now.texts order i.last.items i.tables.items new i.made at c.index.result.now table inv.are_kept dropped listed
           (found_in i.last.items at c.index.result.now c.index.ensures (omega (arith, inv.are_last.as_many, inv.closing.nodes i.made at listed)))
           (omega (arith, c.if-index-self.true));
-      is_latest = latest_made i.database.now order i.last.items i.tables.items new i.made at c.index.result.now table listed c.in_ok-table.ensures;
+      is_latest = latest_made i.database.now.rule i.database.now.texts order i.last.items i.tables.items new i.made at c.index.result.now table listed c.in_ok-table.ensures;
     }
 
 pub invariant_of-self-then-index-self-2 : goal.invariant_of-self-then-index-self-2
@@ -91,10 +91,10 @@ invariant_of-self-then-index-self-2 c =
       components = inv.components;
       closing = inv.closing;
       are_last = inv.are_last;
-      are_kept = unused_kept i.database.now order i.last.items i.tables.items new i.made at c.index.result.now table inv.are_kept dropped listed
+      are_kept = unused_kept i.database.now.rule i.database.now.texts order i.last.items i.tables.items new i.made at c.index.result.now table inv.are_kept dropped listed
           (found_in i.last.items at c.index.result.now c.index.ensures (omega (arith, inv.are_last.as_many, inv.closing.nodes i.made at listed)))
           (omega (arith, c.if-index-self.true));
-      is_latest = latest_made i.database.now order i.last.items i.tables.items new i.made at c.index.result.now table listed c.in_ok-table.ensures;
+      is_latest = latest_made i.database.now.rule i.database.now.texts order i.last.items i.tables.items new i.made at c.index.result.now table listed c.in_ok-table.ensures;
     }
 
 pub invariant_of-self-then-index-self-3 : goal.invariant_of-self-then-index-self-3
@@ -114,10 +114,10 @@ invariant_of-self-then-index-self-3 c =
       components = inv.components;
       closing = inv.closing;
       are_last = inv.are_last;
-      are_kept = unused_kept i.database.now order i.last.items i.tables.items new i.made at c.index.result.now table inv.are_kept dropped listed
+      are_kept = unused_kept i.database.now.rule i.database.now.texts order i.last.items i.tables.items new i.made at c.index.result.now table inv.are_kept dropped listed
           (found_in i.last.items at c.index.result.now c.index.ensures (omega (arith, inv.are_last.as_many, inv.closing.nodes i.made at listed)))
           (omega (arith, c.if-index-self.true));
-      is_latest = latest_made i.database.now order i.last.items i.tables.items new i.made at c.index.result.now table listed c.in_ok-table.ensures;
+      is_latest = latest_made i.database.now.rule i.database.now.texts order i.last.items i.tables.items new i.made at c.index.result.now table listed c.in_ok-table.ensures;
     }
 
 pub invariant_of-self-else-index-self : goal.invariant_of-self-else-index-self
@@ -137,10 +137,10 @@ invariant_of-self-else-index-self c =
       components = inv.components;
       closing = inv.closing;
       are_last = inv.are_last;
-      are_kept = used_kept i.database.now order i.last.items i.tables.items new i.made at c.index.result.now table inv.are_kept dropped listed
+      are_kept = used_kept i.database.now.rule i.database.now.texts order i.last.items i.tables.items new i.made at c.index.result.now table inv.are_kept dropped listed
           (found_in i.last.items at c.index.result.now c.index.ensures (omega (arith, inv.are_last.as_many, inv.closing.nodes i.made at listed)))
-          (omega (arith, inv.closing.nodes i.made at listed, graph_length i.database.now)) c.in_ok-table.ensures;
-      is_latest = latest_used i.database.now order i.last.items i.tables.items new i.made at c.index.result.now table i.latest listed
+          (omega (arith, inv.closing.nodes i.made at listed, graph_length i.database.now.texts)) c.in_ok-table.ensures;
+      is_latest = latest_used i.database.now.rule i.database.now.texts order i.last.items i.tables.items new i.made at c.index.result.now table i.latest listed
           (found_in i.last.items at c.index.result.now c.index.ensures (omega (arith, inv.are_last.as_many, inv.closing.nodes i.made at listed)))
           (omega (arith, c.if-index-self.false));
     }
@@ -162,10 +162,10 @@ invariant_of-self-else-index-self-2 c =
       components = inv.components;
       closing = inv.closing;
       are_last = inv.are_last;
-      are_kept = used_kept i.database.now order i.last.items i.tables.items new i.made at c.index.result.now table inv.are_kept dropped listed
+      are_kept = used_kept i.database.now.rule i.database.now.texts order i.last.items i.tables.items new i.made at c.index.result.now table inv.are_kept dropped listed
           (found_in i.last.items at c.index.result.now c.index.ensures (omega (arith, inv.are_last.as_many, inv.closing.nodes i.made at listed)))
-          (omega (arith, inv.closing.nodes i.made at listed, graph_length i.database.now)) c.in_ok-table.ensures;
-      is_latest = latest_used i.database.now order i.last.items i.tables.items new i.made at c.index.result.now table i.latest listed
+          (omega (arith, inv.closing.nodes i.made at listed, graph_length i.database.now.texts)) c.in_ok-table.ensures;
+      is_latest = latest_used i.database.now.rule i.database.now.texts order i.last.items i.tables.items new i.made at c.index.result.now table i.latest listed
           (found_in i.last.items at c.index.result.now c.index.ensures (omega (arith, inv.are_last.as_many, inv.closing.nodes i.made at listed)))
           (omega (arith, c.if-index-self.false));
     }
@@ -187,10 +187,10 @@ invariant_of-self-else-index-self-3 c =
       components = inv.components;
       closing = inv.closing;
       are_last = inv.are_last;
-      are_kept = used_kept i.database.now order i.last.items i.tables.items new i.made at c.index.result.now table inv.are_kept dropped listed
+      are_kept = used_kept i.database.now.rule i.database.now.texts order i.last.items i.tables.items new i.made at c.index.result.now table inv.are_kept dropped listed
           (found_in i.last.items at c.index.result.now c.index.ensures (omega (arith, inv.are_last.as_many, inv.closing.nodes i.made at listed)))
-          (omega (arith, inv.closing.nodes i.made at listed, graph_length i.database.now)) c.in_ok-table.ensures;
-      is_latest = latest_used i.database.now order i.last.items i.tables.items new i.made at c.index.result.now table i.latest listed
+          (omega (arith, inv.closing.nodes i.made at listed, graph_length i.database.now.texts)) c.in_ok-table.ensures;
+      is_latest = latest_used i.database.now.rule i.database.now.texts order i.last.items i.tables.items new i.made at c.index.result.now table i.latest listed
           (found_in i.last.items at c.index.result.now c.index.ensures (omega (arith, inv.are_last.as_many, inv.closing.nodes i.made at listed)))
           (omega (arith, c.if-index-self.false));
     }

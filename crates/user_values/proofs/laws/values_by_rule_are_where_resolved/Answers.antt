@@ -1,0 +1,5 @@
+use Rattle.user_values.proofs.Resolving.{as_resolved}
+use Rattle.user_values.proofs.laws.values_by_rule_are_where_resolved.Goals as goal
+
+pub returns : goal.returns
+returns c = as_resolved
