@@ -6,10 +6,7 @@ import struct
 # the causes that docs/COMPARED.md names
 CAUSES = {
     "spelled otherwise", "cancelled values", "absent user-defined names", "names over 127 bytes", "over 4,096 bytes",
-    "an item after a use", "a cancel that comes by a use",
 }
-# the causes that the bytes do not show, of entries of known sources
-KNOWN = {"d/dvtm-256color": "an item after a use", "h/hterm-256color": "a cancel that comes by a use"}
 # the values of a boolean, a number and an offset that is cancelled
 CANCELLED = {"flag": 0xFE, "number": -2, "string": -2}
 
@@ -115,14 +112,13 @@ def alone(theirs):
     return "over 4,096 bytes" if len(theirs) > 4096 else "written by tic alone"
 
 
-def cause_of(file, ours, theirs):
+def cause_of(ours, theirs):
     """Why the entries of a file differ, None if they are alike."""
     if theirs is None:
         return "written by ti-tic alone"
     if ours is None:
         return alone(theirs)
-    cause = difference(ours, theirs)
-    return KNOWN.get("/".join(file.split("/")[-2:]), cause) if cause else None
+    return difference(ours, theirs)
 
 
 def is_entry(content):

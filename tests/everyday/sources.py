@@ -20,7 +20,7 @@ SOURCES = {
 # how many hints of each code are on a source as this release has it
 HINTS_RELEASE = "bookworm"
 HINTS = {
-    "foot": {}, "dvtm": {"N4": 1}, "rxvt-unicode": {}, "kitty": {}, "xterm": {}, "ncurses": {"N2": 5, "N7": 7},
+    "foot": {}, "dvtm": {"N3": 4, "N4": 1}, "rxvt-unicode": {}, "kitty": {}, "xterm": {}, "ncurses": {"N2": 5, "N7": 7},
 }
 LISTS = ("/etc/apt/sources.list.d/debian.sources", "/etc/apt/sources.list")
 

@@ -7,6 +7,7 @@ use Rattle.std.proofs.lemmas.List.{length-append}
 use Rattle.std.proofs.lemmas.Bool.{eq-eqb}
 use Rattle.std.proofs.lemmas.List.Elements.{All-contains_itself, All-from_recursion, All-head, All-weaker, recursion_from_All}
 use Rattle.std.proofs.lemmas.Option.{same_Some, none-some, slice_get-get_or}
+use Rattle.ti_source.specs.declared.parsing.Rule.TheVariants.{OwnFirst}
 use Rattle.ti_source.specs.Cutting.{EachHasCut, IsOnlyCut, OneBlock, blocks_from_head, front_of, last_byte}
 use Rattle.base_meaning.specs.Compiled.{EntryState, unresolved, oversized, written}
 use Rattle.base_meaning.specs.Owner.{readings}
@@ -20,12 +21,12 @@ use Rattle.tools_sources.specs.declared.source_error.SourceError.TheVariants.{Bl
 use Rattle.user_base.proofs.Keeping.{zip_at}
 use Rattle.user_listing.specs.Entries.{Extended}
 use Rattle.user_listing.specs.Listing.{extended_listing}
-use Rattle.user_compiling.specs.Entries.{AreStates, IsStateOf, entry_in}
+use Rattle.user_compiling.specs.Entries.{AreStatesBy, IsStateBy, entry_in}
 use Rattle.user_compiling.specs.ReadBack.{EntriesReadBack}
 use Rattle.user_recompiling.specs.Entries.{CompilesTo, IsEntry, Relisting, RelistingAnywhere}
 use Rattle.everyday_sources.specs.Selection.{is_chosen}
 use Rattle.everyday_sources.specs.Used.{ProblemSeen, PutsIn, SourcesComeFirst, TakesFound, TakesName, TakesNames, TakesUsed, missing_names}
-use Rattle.everyday_tic.specs.Entries.{AreStatesBy, block_files, entry_at, first_files}
+use Rattle.everyday_tic.specs.Entries.{BecomeThese, block_files, entry_at, first_files}
 use Rattle.everyday_tic.specs.Outcomes.{Asked, ComesOf, ComesOfPlain, Made, refusal_of}
 use Rattle.everyday_recompiling.specs.WrittenFiles.{IsEntryFile, IsShownOf, ListedFilesComeBack, WrittenFilesAreRead, WrittenFilesCompileBack}
 
@@ -97,9 +98,9 @@ module _ (known : EntriesReadBack) (files : Option Files) (directories : List (L
   abbrev IsFile : FileAt → Type 0
   IsFile file = IsEntryFile files directories directory source before after file
 
-  module _ (texts : List (List ℕ)) (problems : List ProblemSeen) (used : TakesUsed true files directories (source_texts source) before after texts problems)
+  module _ (texts : List (List ℕ)) (problems : List ProblemSeen) (used : TakesUsed OwnFirst true files directories (source_texts source) before after texts problems)
       (blocks : All OneBlock texts) (others : List (List ℕ)) (first : texts ≡ source_texts source ++ others) (states : List EntryState)
-      (are : AreStates texts states)
+      (are : AreStatesBy OwnFirst texts states)
     where
       -- those of a block, one for each name that it owns
       named : (at : ℕ) (image : List ℕ) → at < length (source_texts source) → slice_get states at ≡ Some (written image)
@@ -120,8 +121,8 @@ module _ (known : EntriesReadBack) (files : Option Files) (directories : List (L
           stands : slice_get texts at ≡ Some text
           stands = slice_get-get_or texts at [] low
 
-          is : IsStateOf texts text (written image)
-          is = zip_at (IsStateOf texts) texts states at text (written image) are stands state
+          is : IsStateBy OwnFirst texts text (written image)
+          is = zip_at (IsStateBy OwnFirst texts) texts states at text (written image) are stands state
 
           each-named : (ns : List (List ℕ)) → AllByRecursion (Contains names) ns → AllByRecursion (λ (name : List ℕ). IsFile (path_of directory name, image)) ns
           each-named [] has = tt
@@ -139,7 +140,7 @@ module _ (known : EntriesReadBack) (files : Option Files) (directories : List (L
               name = name;
               owned = has.0;
               path = refl;
-              reads = known texts at text image blocks stands is;
+              reads = known OwnFirst texts at text image blocks stands is;
             },
             each-named ns has.1,
           )
@@ -176,17 +177,17 @@ module _ (known : EntriesReadBack) (come_first : SourcesComeFirst) (asked : Aske
     (directories : List (List ℕ)) (file source : List ℕ) (before after : ℕ)
   where
     of-all : (texts : List (List ℕ)) (problems : List ProblemSeen) (made : Made) → AreTaken (source_texts source)
-        → TakesUsed true files directories (source_texts source) before after texts problems
-        → ComesOf asked file (first_line source) texts (length (source_texts source)) problems made
+        → TakesUsed OwnFirst true files directories (source_texts source) before after texts problems
+        → ComesOf OwnFirst asked file (first_line source) texts (length (source_texts source)) problems made
         → AreFiles files directories asked.directory source before after made.files
     of-all texts problems made taken used (inl refused) =
         subst (λ (m : Made). AreFiles files directories asked.directory source before after m.files) (sym refused.3) tt
     of-all texts problems made taken used (inr (few, states, are, is)) =
         let blocks : AllByRecursion OneBlock texts =
-        take-names true files directories (source_texts source) (missing_names (source_texts source)) before after texts problems
+        take-names true files directories (source_texts source) (missing_names OwnFirst (source_texts source)) before after texts problems
         (are-blocks (source_texts source) taken) used in
-        let behind = come_first true files directories (source_texts source) before after texts problems used in
-        let there : AreStates texts states = subst (λ (b : Bool). AreStatesBy b texts states) user are in
+        let behind = come_first OwnFirst true files directories (source_texts source) before after texts problems used in
+        let there : AreStatesBy OwnFirst texts states = subst (λ (b : Bool). BecomeThese OwnFirst b texts states) user are in
         subst (λ (m : Made). AreFiles files directories asked.directory source before after m.files) (sym is)
         (of-source known files directories asked.directory source before after texts problems used (All-from_recursion OneBlock texts blocks) behind.0 behind.1
         states there asked.check asked.entries)
@@ -202,7 +203,8 @@ module _ (known : EntriesReadBack) (come_first : SourcesComeFirst) (asked : Aske
     of-plain made (inr (taken, inl termcap)) =
         subst (λ (m : Made). AreFiles files directories asked.directory source before after m.files) (sym termcap.3) tt
     of-plain made (inr (taken, inr (none, texts, problems, used, comes))) =
-        of-all texts problems made taken (subst (λ (b : Bool). TakesUsed b files directories (source_texts source) before after texts problems) user used) comes
+        of-all texts problems made taken
+        (subst (λ (b : Bool). TakesUsed OwnFirst b files directories (source_texts source) before after texts problems) user used) comes
 
 pub files_are_read : EntriesReadBack → SourcesComeFirst → WrittenFilesAreRead
 files_are_read known come_first asked files directories file source before after made user comes =
@@ -215,6 +217,7 @@ files_are_read known come_first asked files directories file source before after
 entry-of : (files : Option Files) (directories : List (List ℕ)) (directory source : List ℕ) (before after : ℕ) (file : FileAt) (shown : Extended)
     → (is : IsEntryFile files directories directory source before after file) → IsShownOf is.texts file.1 shown → IsEntry file.1 shown
 entry-of files directories directory source before after file shown is shows = record {
+  rule = OwnFirst;
   texts = is.texts;
   at = is.at;
   text = is.text;
@@ -229,7 +232,7 @@ entry-of files directories directory source before after file shown is shows = r
 pub files_compile_back : Relisting → WrittenFilesCompileBack
 files_compile_back relisting files directories directory source before after file shown layout is shows =
     let entry = entry-of files directories directory source before after file shown is shows in
-    let back = relisting file.1 shown layout entry in
+    let back = relisting OwnFirst file.1 shown layout entry in
     (entry, back.0, back.1)
 
 -- a block is a source of one block
@@ -254,17 +257,17 @@ same-bytes : (one other : List ℕ) → written one ≡ written other → one �
 same-bytes one other is = same_Some one other (ap entry_in is)
 
 module _ (each : EachHasCut) (only : IsOnlyCut) (come_first : SourcesComeFirst) (files : Option Files) (directories : List (List ℕ)) (directory : List ℕ)
-    (listing bytes : List ℕ) (before after : ℕ) (one : OneBlock listing) (compiles : (texts : List (List ℕ)) → CompilesTo texts listing bytes)
+    (listing bytes : List ℕ) (before after : ℕ) (one : OneBlock listing) (compiles : (texts : List (List ℕ)) → CompilesTo OwnFirst texts listing bytes)
   where
     -- a file that comes of a listing has the bytes to which this compiles
     comes-back : (file : FileAt) → IsEntryFile files directories directory listing before after file → file.1 ≡ bytes
     comes-back file is =
         let of_source : source_texts listing ≡ listing ∷ [] = one-text each only listing one in
-        let behind = come_first true files directories (source_texts listing) before after is.texts is.problems is.used in
+        let behind = come_first OwnFirst true files directories (source_texts listing) before after is.texts is.problems is.used in
         let within : is.at < 1 = subst (λ (ts : List (List ℕ)). is.at < length ts) of_source is.own in
         let first : is.texts ≡ listing ∷ behind.0 = behind.1 ∙ ap (λ (ts : List (List ℕ)). ts ++ behind.0) of_source in
         let same : is.text ≡ listing = only-one is.texts behind.0 listing is.text is.at first within is.stands in
-        let state : IsStateOf is.texts listing (written file.1) = subst (λ (t : List ℕ). IsStateOf is.texts t (written file.1)) same is.is in
+        let state : IsStateBy OwnFirst is.texts listing (written file.1) = subst (λ (t : List ℕ). IsStateBy OwnFirst is.texts t (written file.1)) same is.is in
         same-bytes file.1 bytes ((compiles is.texts (written file.1)).0 state)
 
 pub files_come_back : EntriesReadBack → SourcesComeFirst → EachHasCut → IsOnlyCut → Relisting → RelistingAnywhere → ListedFilesComeBack
@@ -272,7 +275,7 @@ files_come_back known come_first each only relisting anywhere files directories 
     name start end made user comes =
     let entry = entry-of files directories directory source before after file shown is shows in
     let listing = extended_listing shown layout in
-    let one : OneBlock listing = All-head OneBlock listing [] (relisting file.1 shown layout entry).0.single in
+    let one : OneBlock listing = All-head OneBlock listing [] (relisting OwnFirst file.1 shown layout entry).0.single in
     All-weaker (IsEntryFile there places asked.directory listing start end) (λ (again : FileAt). again.1 ≡ file.1)
-    (comes-back each only come_first there places asked.directory listing file.1 start end one (λ texts. anywhere file.1 shown layout texts entry)) made.files
+    (comes-back each only come_first there places asked.directory listing file.1 start end one (λ texts. anywhere OwnFirst file.1 shown layout texts entry)) made.files
     (files_are_read known come_first asked there places name listing start end made user comes)

@@ -3,6 +3,7 @@
 use Rattle.std.specs.Prelude.{◌≡◌, ◌<◌, ℕ, true, List, [], ◌∷◌, All, Contains, length, Option, Some, slice_get}
 use Rattle.ti_text.specs.Texts.{AreBytes}
 use Rattle.ti_source.specs.Cutting.{OneBlock}
+use Rattle.ti_source.specs.declared.parsing.Rule.TheVariants.{OwnFirst}
 use Rattle.ti_layout.specs.Reading.{Reads}
 use Rattle.ti_list.specs.declared.layout.Layout.{Layout}
 use Rattle.base_meaning.specs.Compiled.{written}
@@ -16,7 +17,7 @@ use Rattle.tools_sources.specs.Sources.{source_texts}
 use Rattle.user_extension.specs.Reading.{rows_after}
 use Rattle.user_listing.specs.Entries.{Extended}
 use Rattle.user_listing.specs.Listing.{extended_listing}
-use Rattle.user_compiling.specs.Entries.{IsStateOf}
+use Rattle.user_compiling.specs.Entries.{IsStateBy}
 use Rattle.user_compiling.specs.ReadBack.{ReadsBack}
 use Rattle.user_recompiling.specs.Entries.{CompilesTo, IsEntry}
 use Rattle.everyday_sources.specs.Used.{ProblemSeen, TakesUsed}
@@ -24,21 +25,21 @@ use Rattle.everyday_tic.specs.Outcomes.{Asked, ComesOfPlain, Made}
 
 -- a file holds the entry of a block of a source with user-defined capabilities, with the installed
 -- entries that the source uses as further blocks after its own, and is that of a name which the
--- block owns; the entry is read as what the block says
+-- block owns; the entry is read as what the block says, by the rule of `ti-tic`
 pub record IsEntryFile (files : Option Files) (directories : List (List ℕ)) (directory source : List ℕ) (before after : ℕ) (file : FileAt) : Type 0 where
   pub texts : List (List ℕ)
   pub problems : List ProblemSeen
-  pub used : TakesUsed true files directories (source_texts source) before after texts problems
+  pub used : TakesUsed OwnFirst true files directories (source_texts source) before after texts problems
   pub blocks : All OneBlock texts
   pub at : ℕ
   pub own : at < length (source_texts source)
   pub text : List ℕ
   pub stands : slice_get texts at ≡ Some text
-  pub is : IsStateOf texts text (written file.1)
+  pub is : IsStateBy OwnFirst texts text (written file.1)
   pub name : List ℕ
   pub owned : Contains (own_names (readings texts) at (names_at texts at)) name
   pub path : file.0 ≡ path_of directory name
-  pub reads : ReadsBack texts at text file.1
+  pub reads : ReadsBack OwnFirst texts at text file.1
 
 -- Each file that comes of a source with `-x` is so.
 abbrev pub WrittenFilesAreRead : Type 0
@@ -63,7 +64,7 @@ WrittenFilesCompileBack =
     → (is : IsEntryFile files directories directory source before after file) → IsShownOf is.texts file.1 shown
     → IsEntry file.1 shown
     × IsSourceOf (extended_listing shown layout) (extended_listing shown layout ∷ [])
-    × CompilesTo (extended_listing shown layout ∷ []) (extended_listing shown layout) file.1
+    × CompilesTo OwnFirst (extended_listing shown layout ∷ []) (extended_listing shown layout) file.1
 
 -- So each file that comes of the listing with `-x`, wherever and with whatever else is asked for,
 -- has the same bytes.

@@ -2,7 +2,7 @@
 ghost use Rattle.std.specs.Prelude.{◌<◌, length};
 ghost use Rattle.everyday_report.specs.inside.Blocks.{IsBlockAt};
 
-use ti_base::Database;
+use ti_base::RuledDatabase;
 use ti_source::{Item, Local};
 
 /// A block of a source, with what was read of it.
@@ -19,9 +19,9 @@ pub(crate) struct ReadBlock<'a> {
 }
 
 /// The block at a position.
-pub(crate) fn block_at(database: &Database, at: usize) -> ReadBlock<'_>
-    requires { at < length database.now }
-    ensures { IsBlockAt database.now at result }
+pub(crate) fn block_at(database: &RuledDatabase, at: usize) -> ReadBlock<'_>
+    requires { at < length database.now.texts }
+    ensures { IsBlockAt database.now.texts at result }
 {
     database.each_is_one_block();
     ReadBlock {

@@ -18,7 +18,7 @@ use crate::places::{Places, detail_of};
 use crate::sentences::{BAD_USER_DEFINED, sentence};
 use std::alloc::{AllocError, Global};
 use std::fmt::Write;
-use ti_base::{Database, Fault, write_detail};
+use ti_base::{Fault, RuledDatabase, write_detail};
 use ti_source::Code;
 use user_compiling::ExtendedFault;
 
@@ -227,15 +227,15 @@ fn write_next<'a>(
 pub fn write_faults(
     alloc: Global,
     out: &mut Vec<u8>,
-    database: &Database,
+    database: &RuledDatabase,
     faults: &[ExtendedFault],
     count: usize,
     file: &str,
     first_line: u64,
 ) -> Result<(), AllocError>
-    requires placed { All (IsExtendedPlaced (length database.now)) (map fault_seen faults.now) }
+    requires placed { All (IsExtendedPlaced (length database.now.texts)) (map fault_seen faults.now) }
     requires first { first_line ≤ 9223372036854775808 }
-    ensures { OnOk result (out.new.items ≡ out.old.items ++ fault_lines file.now database.now first_line count (map fault_seen faults.now)) }
+    ensures { OnOk result (out.new.items ≡ out.old.items ++ fault_lines file.now database.now.texts first_line count (map fault_seen faults.now)) }
 {
     let Some(first) = faults.first() else {
         return Ok(());

@@ -172,5 +172,5 @@ module _ (first : FindsTheFirst) (reading : FilesHaveOneReading) (headers : Head
       (later.0, g.6 ∙ ap (λ ps. ps ++ g.3) same.1 ∙ ap (λ ps. h.2 ++ ps) later.1 ∙ sym h.6)
 
 pub used_entries_are_determined : FindsTheFirst → FilesHaveOneReading → HeadersHaveOneReading → UsedEntriesAreDetermined
-used_entries_are_determined first reading headers user_defined files directories texts before since one other problems others g h =
-    one_end first reading headers user_defined files directories texts (missing_names texts) before since one other problems others g h
+used_entries_are_determined first reading headers rule user_defined files directories texts before since one other problems others g h =
+    one_end first reading headers user_defined files directories texts (missing_names rule texts) before since one other problems others g h

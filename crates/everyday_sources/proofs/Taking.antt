@@ -9,6 +9,7 @@ use Rattle.std.specs.Prelude.{All, IfOk}
 use Rattle.std.specs.Str.{IsAscii}
 use Rattle.std.proofs.lemmas.List.Elements.{All-head, All-tail}
 use Rattle.std.proofs.lemmas.Option.{none-some}
+use Rattle.ti_source.specs.declared.parsing.Rule.{Rule}
 use Rattle.ti_source.specs.Header.{IsNameByte}
 use Rattle.ti_source.specs.Parsing.{reading_of_text}
 use Rattle.base_meaning.specs.Edits.{Change, IsRefusal, IsSoundEdit}
@@ -121,8 +122,8 @@ all_taken user_defined files directories texts (name ∷ names) before after las
     (all_taken user_defined files directories t.0 names t.1 after last t.3 t.5)
 
 pub sources_come_first : SourcesComeFirst
-sources_come_first user_defined files directories texts before after last problems t =
-    all_taken user_defined files directories texts (missing_names texts) before after last problems t
+sources_come_first rule user_defined files directories texts before after last problems t =
+    all_taken user_defined files directories texts (missing_names rule texts) before after last problems t
 
 -- ---- the faults
 
@@ -137,18 +138,18 @@ same_blocks texts last others is many =
     is ∙ ap (λ ts. texts ++ ts) (none_after others none) ∙ append-nil texts
 
 -- the faults of the source, if no block was put after it
-pub keeps_faults : (user_defined : Bool) (files : Option Files) (directories texts names last : List (List ℕ)) (before after : ℕ)
+pub keeps_faults : (rule : Rule) (user_defined : Bool) (files : Option Files) (directories texts names last : List (List ℕ)) (before after : ℕ)
     (problems : List ProblemSeen) (found : Vec Fault) (given : Option (Vec Fault))
     → TakesNames user_defined files directories texts names before after last problems
-    → AreFaults texts found.items → given ≡ cond (length last == length texts) (Some found) None → KeepsFaults texts last given
-keeps_faults user_defined files directories texts names last before after problems found given taken are is =
-    subst (KeepsFaults texts last) (sym is) (by_test (length last == length texts) refl)
+    → AreFaults rule texts found.items → given ≡ cond (length last == length texts) (Some found) None → KeepsFaults rule texts last given
+keeps_faults rule user_defined files directories texts names last before after problems found given taken are is =
+    subst (KeepsFaults rule texts last) (sym is) (by_test (length last == length texts) refl)
   where
     extends : Extends texts last
     extends = all_taken user_defined files directories texts names before after last problems taken
 
-    by_test : (b : Bool) → (length last == length texts) ≡ b → KeepsFaults texts last (cond b (Some found) None)
+    by_test : (b : Bool) → (length last == length texts) ≡ b → KeepsFaults rule texts last (cond b (Some found) None)
     by_test true same =
         let many : length last ≡ length texts = eqb-true (length last) (length texts) same in
-        (many, subst (λ ts. AreFaults ts found.items) (sym (same_blocks texts last extends.0 extends.1 many)) are)
+        (many, subst (λ ts. AreFaults rule ts found.items) (sym (same_blocks texts last extends.0 extends.1 many)) are)
     by_test false other = λ many. true≢false (sym ((Decides-eqb (length last) (length texts)).1 many) ∙ other)

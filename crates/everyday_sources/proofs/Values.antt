@@ -6,7 +6,6 @@ use Rattle.std.proofs.lemmas.Option.{same_Some}
 use Rattle.ti_caps.specs.Tables.{Capability, IsCapability}
 use Rattle.ti_caps.specs.declared.capability.Kind.{Kind}
 use Rattle.ti_caps.specs.declared.capability.Kind.TheVariants.{Flag, Number, Text}
-use Rattle.ti_source.specs.Parsing.{reading_of_text}
 use Rattle.ti_layout.specs.Laws.{without_cancel}
 use Rattle.ti_layout.specs.declared.layout.Format.{Format}
 use Rattle.ti_layout.specs.declared.layout.Format.TheVariants.{Legacy}
@@ -15,12 +14,12 @@ use Rattle.ti_layout.specs.Reading.{Reads, says, stored_flag, stored_number, sto
 use Rattle.ti_layout.specs.Values.{Content, Contents, Mention, content_number, content_text, content_true, contents}
 use Rattle.ti_layout.specs.View.{entry_seen}
 use Rattle.base_meaning.specs.Expansion as profile
-use Rattle.base_meaning.specs.Owner.{readings}
+use Rattle.base_meaning.specs.Readings.{reading_by, readings_by}
 use Rattle.tools_devices.specs.Tree.{FileAt, Files}
 use Rattle.user_extension.specs.Reading.{said}
 use Rattle.user_extension.specs.View.{read_rows}
 use Rattle.user_listing.specs.Entries.{Extended}
-use Rattle.user_values.specs.Tables.{IsUserTableOf}
+use Rattle.user_values.specs.Tables.{IsUserTableBy}
 use Rattle.user_relisting.specs.ReadingBack.{HasListing, ListingsSayTheEntry, ListingsSayTheTables, ReadEntriesHaveListings}
 use Rattle.user_relisting.specs.Using as using
 use Rattle.everyday_sources.specs.Installed.{layout}
@@ -90,8 +89,8 @@ module _ (files : Option Files) (directories : List (List ℕ)) where
   none-after (first ∷ texts) (suc at) text low e = none-after texts at text (omega (arith, low)) e
 
 pub further_blocks : FurtherBlocksStandForEntries
-further_blocks files directories texts before after last problems at text taken low here =
-    take-names files directories (length texts) texts (missing_names texts) before after last problems (none-after files directories texts) taken at text low here
+further_blocks rule files directories texts before after last problems at text taken low here =
+    take-names files directories (length texts) texts (missing_names rule texts) before after last problems (none-after files directories texts) taken at text low here
 
 -- ---- what they say
 
@@ -104,15 +103,15 @@ has-listing known text entry well =
     (ap (λ (e : Extended). e.rows) is.entry_is ∙ read.rows) well.listable
 
 pub blocks_say : ReadEntriesHaveListings → ListingsSayTheEntry → StandingBlocksSayTheEntry
-blocks_say known say texts text entry well =
-    subst (λ t. IsUserTableOf texts t (said entry.rows)) (sym well.is.text_is)
-    (say entry layout texts (has-listing known text entry well))
+blocks_say known say rule texts text entry well =
+    subst (λ t. IsUserTableBy rule texts t (said entry.rows)) (sym well.is.text_is)
+    (say rule entry layout texts (has-listing known text entry well))
 
 pub blocks_say_tables : ReadEntriesHaveListings → ListingsSayTheTables → StandingBlocksSayTheTables
-blocks_say_tables known say texts text entry well =
-    subst (λ t. (mentions : List Mention) × (profile.expansion (readings texts) (reading_of_text t) ≡ Some mentions)
+blocks_say_tables known say rule texts text entry well =
+    subst (λ t. (mentions : List Mention) × (profile.expansion (readings_by rule texts) (reading_by rule t) ≡ Some mentions)
     × ((c : Capability) → IsCapability c → contents mentions c ≡ entry.entry.contents c)) (sym well.is.text_is)
-    (say entry layout texts (has-listing known text entry well))
+    (say rule entry layout texts (has-listing known text entry well))
 
 -- ---- the blocks that use them
 
@@ -128,7 +127,7 @@ uses-listing known texts at used entry uses = record {
 }
 
 pub users_have : ReadEntriesHaveListings → using.UsersHaveTheEntry → UsersHaveTheEntry
-users_have known have texts at used entry name uses only = have texts at used entry name (uses-listing known texts at used entry uses) only
+users_have known have rule texts at used entry name uses only = have rule texts at used entry name (uses-listing known texts at used entry uses) only
 
 -- no capability of an entry that is read is cancelled
 flag-plain : (b : ℕ) → without_cancel (stored_flag b) ≡ stored_flag b
@@ -163,8 +162,8 @@ read-plain bytes names table r c =
     subst (λ (t : Contents). without_cancel (t c) ≡ t c) (sym r.held) (says-plain r.format s.flags s.numbers s.offsets s.strings c.kind c.index)
 
 pub users_have_tables : ReadEntriesHaveListings → using.UsersHaveTheTables → UsersHaveTheTables
-users_have_tables known have texts at used entry c uses valid only =
-    let of_block = have texts at used entry c (uses-listing known texts at used entry uses) valid only in
+users_have_tables known have rule texts at used entry c uses valid only =
+    let of_block = have rule texts at used entry c (uses-listing known texts at used entry uses) valid only in
     let is = uses.well.is in
     let reads = subst (λ (e : Extended). Reads is.bytes e.entry.names e.entry.contents) (sym is.entry_is) is.opens.1.reads in
     (of_block.0, of_block.1, of_block.2 ∙ read-plain is.bytes entry.entry.names entry.entry.contents reads c)

@@ -9,9 +9,11 @@ use Rattle.std.specs.String.{string_bytes}
 use Rattle.ti_source.specs.Header.{is_lookup_name}
 use Rattle.ti_source.specs.declared.code.Code.{Code}
 use Rattle.ti_source.specs.declared.code.Code.TheVariants.{MissingUse}
+use Rattle.ti_source.specs.declared.parsing.Rule.{Rule}
 use Rattle.base_meaning.specs.Edits.{IsSoundEdit, insertion}
 use Rattle.base_meaning.specs.Faults.{SourceFault, fault_seen, faults}
 use Rattle.base_meaning.specs.Owner.{owner, readings}
+use Rattle.base_meaning.specs.Readings.{readings_by}
 use Rattle.base_meaning.specs.Usable.{IsPlaced}
 use Rattle.base_meaning.specs.declared.faults.Fault.{Fault}
 use Rattle.tools_devices.specs.Tree.{FileAt, Files}
@@ -34,8 +36,8 @@ abbrev pub missing_name : SourceFault → List (List ℕ)
 missing_name fault = if is_missing fault.code then option_to_list fault.detail else []
 
 -- the names that items use and no block has, in the order of the faults
-abbrev pub missing_names : List (List ℕ) → List (List ℕ)
-missing_names texts = flat_map missing_name (faults (readings texts))
+abbrev pub missing_names : Rule → List (List ℕ) → List (List ℕ)
+missing_names rule texts = flat_map missing_name (faults (readings_by rule texts))
 
 -- ---- what is found and taken
 
@@ -90,21 +92,21 @@ TakesNames user_defined files directories texts (name ∷ names) before after la
     × TakesNames user_defined files directories next names between after last others
     × (problems ≡ first ++ others)
 
--- the source with the entries that it uses, and the problems with their files
-abbrev pub TakesUsed : Bool → Option Files → List (List ℕ) → List (List ℕ) → ℕ → ℕ → List (List ℕ) → List ProblemSeen → Type 0
-TakesUsed user_defined files directories texts before after last problems =
-    TakesNames user_defined files directories texts (missing_names texts) before after last problems
+-- the source, read by a rule, with the entries that it uses, and the problems with their files
+abbrev pub TakesUsed : Rule → Bool → Option Files → List (List ℕ) → List (List ℕ) → ℕ → ℕ → List (List ℕ) → List ProblemSeen → Type 0
+TakesUsed rule user_defined files directories texts before after last problems =
+    TakesNames user_defined files directories texts (missing_names rule texts) before after last problems
 
 -- ---- the faults
 
 -- faults in memory are those of these blocks
-abbrev pub AreFaults : List (List ℕ) → List Fault → Type 0
-AreFaults texts found = (map fault_seen found ≡ faults (readings texts)) × All (IsPlaced (length texts)) (map fault_seen found)
+abbrev pub AreFaults : Rule → List (List ℕ) → List Fault → Type 0
+AreFaults rule texts found = (map fault_seen found ≡ faults (readings_by rule texts)) × All (IsPlaced (length texts)) (map fault_seen found)
 
 -- the faults of the blocks of a source are given exactly if none was put after them
-abbrev pub KeepsFaults : List (List ℕ) → List (List ℕ) → Option (Vec Fault) → Type 0
-KeepsFaults texts last (Some found) = (length last ≡ length texts) × AreFaults last found.items
-KeepsFaults texts last None = length last ≢ length texts
+abbrev pub KeepsFaults : Rule → List (List ℕ) → List (List ℕ) → Option (Vec Fault) → Type 0
+KeepsFaults rule texts last (Some found) = (length last ≡ length texts) × AreFaults rule last found.items
+KeepsFaults rule texts last None = length last ≢ length texts
 
 -- ---- laws
 
@@ -116,14 +118,15 @@ OwnNamesWin =
 -- The blocks of the source come first, whatever is found.
 abbrev pub SourcesComeFirst : Type 0
 SourcesComeFirst =
-    (user_defined : Bool) (files : Option Files) (directories texts : List (List ℕ)) (before after : ℕ) (last : List (List ℕ)) (problems : List ProblemSeen)
-    → TakesUsed user_defined files directories texts before after last problems → (others : List (List ℕ)) × (last ≡ texts ++ others)
+    (rule : Rule) (user_defined : Bool) (files : Option Files) (directories texts : List (List ℕ)) (before after : ℕ) (last : List (List ℕ))
+    (problems : List ProblemSeen)
+    → TakesUsed rule user_defined files directories texts before after last problems → (others : List (List ℕ)) × (last ≡ texts ++ others)
 
 -- Of a source, with directories and files that are known and with no read that failed, there is only
 -- one list of blocks with the entries that it uses, and only one list of problems with their files.
 abbrev pub UsedEntriesAreDetermined : Type 0
 UsedEntriesAreDetermined =
-    (user_defined : Bool) (files : Files) (directories texts : List (List ℕ)) (before since : ℕ) (one other : List (List ℕ))
+    (rule : Rule) (user_defined : Bool) (files : Files) (directories texts : List (List ℕ)) (before since : ℕ) (one other : List (List ℕ))
     (problems others : List ProblemSeen)
-    → TakesUsed user_defined (Some files) directories texts before before one problems
-    → TakesUsed user_defined (Some files) directories texts since since other others → (one ≡ other) × (problems ≡ others)
+    → TakesUsed rule user_defined (Some files) directories texts before before one problems
+    → TakesUsed rule user_defined (Some files) directories texts since since other others → (one ≡ other) × (problems ≡ others)

@@ -2,6 +2,7 @@
 use Rattle.std.specs.Prelude.{◌≡◌, ℕ, ◌≤◌, true, false, List, length, Option, Some, Ok, slice_get}
 use Rattle.ti_text.specs.Texts.{AreBytes}
 use Rattle.ti_caps.specs.Tables.{Capability, IsCapability}
+use Rattle.ti_source.specs.declared.parsing.Rule.{Rule}
 use Rattle.ti_source.specs.Parsing.{reading_of_text}
 use Rattle.ti_source.specs.Reading.{said_import}
 use Rattle.ti_layout.specs.Values.{Mention, contents}
@@ -9,7 +10,7 @@ use Rattle.ti_layout.specs.View.{entry_seen}
 use Rattle.ti_layout.specs.declared.view.View.{View}
 use Rattle.ti_list.specs.Items.{IsListable}
 use Rattle.base_meaning.specs.Expansion as profile
-use Rattle.base_meaning.specs.Owner.{readings}
+use Rattle.base_meaning.specs.Readings.{reading_by, readings_by}
 use Rattle.tools_devices.specs.Searching.{file_bytes_max}
 use Rattle.tools_devices.specs.Tree.{FileAt, Files}
 use Rattle.tools_directories.specs.Finding.{Finds}
@@ -21,8 +22,8 @@ use Rattle.user_extension.specs.View.{read_rows}
 use Rattle.user_extension.specs.declared.view.Extension.{Extension}
 use Rattle.user_listing.specs.Entries.{Extended}
 use Rattle.user_listing.specs.Listing.{extended_listing}
-use Rattle.user_values.specs.Expansion.{owner_text, user_value}
-use Rattle.user_values.specs.Tables.{IsUserTableOf}
+use Rattle.user_values.specs.Expansion.{owner_text, user_value_by}
+use Rattle.user_values.specs.Tables.{IsUserTableBy}
 use Rattle.user_relisting.specs.Using.{IsAlone, may_give, may_give_table, table_said_in, user_said_in}
 use Rattle.everyday_sources.specs.Installed.{HasName, layout}
 use Rattle.everyday_sources.specs.Used.{ProblemSeen, TakesUsed}
@@ -57,20 +58,21 @@ pub record IsInstalled (files : Option Files) (directories : List (List ℕ)) (t
 -- With user-defined capabilities each block after the source stands for an entry that is installed.
 abbrev pub FurtherBlocksStandForEntries : Type 0
 FurtherBlocksStandForEntries =
-    (files : Option Files) (directories texts : List (List ℕ)) (before after : ℕ) (last : List (List ℕ)) (problems : List ProblemSeen) (at : ℕ) (text : List ℕ)
-    → TakesUsed true files directories texts before after last problems → length texts ≤ at → slice_get last at ≡ Some text
+    (rule : Rule) (files : Option Files) (directories texts : List (List ℕ)) (before after : ℕ) (last : List (List ℕ)) (problems : List ProblemSeen) (at : ℕ)
+    (text : List ℕ) → TakesUsed rule true files directories texts before after last problems → length texts ≤ at → slice_get last at ≡ Some text
     → (entry : Extended) × IsInstalled files directories text entry
 
 -- Among whatever blocks, one that stands for an entry says of each user-defined name what the entry
 -- has: the value of the first of its rows that is present.
 abbrev pub StandingBlocksSayTheEntry : Type 0
-StandingBlocksSayTheEntry = (texts : List (List ℕ)) (text : List ℕ) (entry : Extended) → StandsWell text entry → IsUserTableOf texts text (said entry.rows)
+StandingBlocksSayTheEntry =
+    (rule : Rule) (texts : List (List ℕ)) (text : List ℕ) (entry : Extended) → StandsWell text entry → IsUserTableBy rule texts text (said entry.rows)
 
 -- So it says of each capability of the tables.
 abbrev pub StandingBlocksSayTheTables : Type 0
 StandingBlocksSayTheTables =
-    (texts : List (List ℕ)) (text : List ℕ) (entry : Extended) → StandsWell text entry
-    → (mentions : List Mention) × (profile.expansion (readings texts) (reading_of_text text) ≡ Some mentions)
+    (rule : Rule) (texts : List (List ℕ)) (text : List ℕ) (entry : Extended) → StandsWell text entry
+    → (mentions : List Mention) × (profile.expansion (readings_by rule texts) (reading_by rule text) ≡ Some mentions)
     × ((c : Capability) → IsCapability c → contents mentions c ≡ entry.entry.contents c)
 
 -- a block without errors of its own uses a name that leads to one that stands for an entry
@@ -86,13 +88,13 @@ pub record UsesEntry (texts : List (List ℕ)) (at : ℕ) (used : List ℕ) (ent
 -- its items can give it.
 abbrev pub UsersHaveTheEntry : Type 0
 UsersHaveTheEntry =
-    (texts : List (List ℕ)) (at : ℕ) (used : List ℕ) (entry : Extended) (name : List ℕ) → (uses : UsesEntry texts at used entry)
-    → IsAlone (may_give name) (imports used) (user_said_in uses.text) → user_value texts at name ≡ said entry.rows name
+    (rule : Rule) (texts : List (List ℕ)) (at : ℕ) (used : List ℕ) (entry : Extended) (name : List ℕ) → (uses : UsesEntry texts at used entry)
+    → IsAlone (may_give name) (imports used) (user_said_in uses.text) → user_value_by rule texts at name ≡ said entry.rows name
 
 -- So it has of each capability of the tables.
 abbrev pub UsersHaveTheTables : Type 0
 UsersHaveTheTables =
-    (texts : List (List ℕ)) (at : ℕ) (used : List ℕ) (entry : Extended) (c : Capability) → (uses : UsesEntry texts at used entry) → IsCapability c
-    → IsAlone (may_give_table c) (said_import used) (table_said_in uses.text)
-    → (mentions : List Mention) × (profile.expansion (readings texts) (reading_of_text uses.text) ≡ Some mentions)
+    (rule : Rule) (texts : List (List ℕ)) (at : ℕ) (used : List ℕ) (entry : Extended) (c : Capability) → (uses : UsesEntry texts at used entry)
+    → IsCapability c → IsAlone (may_give_table c) (said_import used) (table_said_in uses.text)
+    → (mentions : List Mention) × (profile.expansion (readings_by rule texts) (reading_by rule uses.text) ≡ Some mentions)
     × (profile.values mentions c ≡ entry.entry.contents c)

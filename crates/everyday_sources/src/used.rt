@@ -15,7 +15,7 @@ use crate::problem::{Cause, Problem};
 use std::alloc::{AllocError, Global};
 use std::rc::RcSlice;
 use std::str;
-use ti_base::{Database, EditError, Fault};
+use ti_base::{EditError, Fault, RuledDatabase};
 use ti_source::{Code, is_lookup_name};
 use tools_devices::{ToolError, Tree};
 use tools_directories::{Found, find};
@@ -96,11 +96,12 @@ fn look_up<T: Tree>(
 
 // Puts a listing at the end, or says what is wrong with its file.
 fn put_in(
-    database: &mut Database,
+    database: &mut RuledDatabase,
     listing: &[u8],
     path: String,
 ) -> Result<Option<Problem>, AllocError>
-    ensures { IfOk result (λ problem. PutsIn database.old (string_bytes path) listing.now database.new (problems_of problem)) }
+    ensures taken { IfOk result (λ problem. PutsIn database.old.texts (string_bytes path) listing.now database.new.texts (problems_of problem)) }
+    ensures rule { database.new.rule ≡ database.old.rule }
 {
     match database.insert(database.len(), listing) {
         Ok(_) => Ok(None),
@@ -115,12 +116,13 @@ fn put_in(
 // Takes a file, if one was found for a name.
 fn take(
     alloc: Global,
-    database: &mut Database,
+    database: &mut RuledDatabase,
     name: &[u8],
     found: Option<Found>,
     user_defined: bool,
 ) -> Result<Option<Problem>, AllocError>
-    ensures { IfOk result (λ problem. TakesFound user_defined database.old name.now (option_map file_of found) database.new (problems_of problem)) }
+    ensures taken { IfOk result (λ problem. TakesFound user_defined database.old.texts name.now (option_map file_of found) database.new.texts (problems_of problem)) }
+    ensures rule { database.new.rule ≡ database.old.rule }
 {
     let Some(Found { path, bytes }) = found else {
         return Ok(None);
@@ -136,13 +138,14 @@ fn take_one<T: Tree>(
     alloc: Global,
     tree: &mut T,
     directories: &[String],
-    database: &mut Database,
+    database: &mut RuledDatabase,
     name: &[u8],
     user_defined: bool,
 ) -> Result<Option<Problem>, AllocError>
-    ensures taken { IfOk result (λ problem. TakesName user_defined (T.files tree.old) (map string_bytes directories.now) database.old name.now
-        (T.failures tree.old) (T.failures tree.new) database.new (problems_of problem)) }
+    ensures taken { IfOk result (λ problem. TakesName user_defined (T.files tree.old) (map string_bytes directories.now) database.old.texts name.now
+        (T.failures tree.old) (T.failures tree.new) database.new.texts (problems_of problem)) }
     ensures kept { T.files tree.new ≡ T.files tree.old }
+    ensures rule { database.new.rule ≡ database.old.rule }
 {
     if database.owner(name).is_some() {
         return Ok(None);
@@ -166,13 +169,14 @@ fn take_all<T: Tree>(
     alloc: Global,
     tree: &mut T,
     directories: &[String],
-    database: &mut Database,
+    database: &mut RuledDatabase,
     names: &[RcSlice<u8>],
     user_defined: bool,
 ) -> Result<Vec<Problem>, AllocError>
-    ensures taken { IfOk result (λ problems. spec.TakesNames user_defined (T.files tree.old) (map string_bytes directories.now) database.old (map rc_slice_items names.now)
-        (T.failures tree.old) (T.failures tree.new) database.new (map problem_seen problems.items)) }
+    ensures taken { IfOk result (λ problems. spec.TakesNames user_defined (T.files tree.old) (map string_bytes directories.now) database.old.texts (map rc_slice_items names.now)
+        (T.failures tree.old) (T.failures tree.new) database.new.texts (map problem_seen problems.items)) }
     ensures kept { T.files tree.new ≡ T.files tree.old }
+    ensures rule { database.new.rule ≡ database.old.rule }
 {
     let mut problems = Vec::new(alloc);
     for name in names {
@@ -190,8 +194,8 @@ fn take_all<T: Tree>(
 }
 
 // The faults of the blocks, if there are as many as when they were found.
-fn kept_faults(database: &Database, count: usize, faults: Vec<Fault>) -> Option<Vec<Fault>>
-    ensures { result ≡ (if length database.now == count then Some faults else None) }
+fn kept_faults(database: &RuledDatabase, count: usize, faults: Vec<Fault>) -> Option<Vec<Fault>>
+    ensures { result ≡ (if length database.now.texts == count then Some faults else None) }
 {
     if database.len() == count {
         Some(faults)
@@ -213,13 +217,14 @@ pub fn take_used<T: Tree>(
     alloc: Global,
     tree: &mut T,
     directories: &[String],
-    database: &mut Database,
+    database: &mut RuledDatabase,
     user_defined: bool,
 ) -> Result<UsedEntries, AllocError>
-    ensures taken { IfOk result (λ used. TakesUsed user_defined (T.files tree.old) (map string_bytes directories.now) database.old
-        (T.failures tree.old) (T.failures tree.new) database.new (map problem_seen used.problems.items)) }
-    ensures faults { IfOk result (λ used. KeepsFaults database.old database.new used.faults) }
+    ensures taken { IfOk result (λ used. TakesUsed database.old.rule user_defined (T.files tree.old) (map string_bytes directories.now) database.old.texts
+        (T.failures tree.old) (T.failures tree.new) database.new.texts (map problem_seen used.problems.items)) }
+    ensures faults { IfOk result (λ used. KeepsFaults database.old.rule database.old.texts database.new.texts used.faults) }
     ensures kept { T.files tree.new ≡ T.files tree.old }
+    ensures rule { database.new.rule ≡ database.old.rule }
 {
     let faults = database.faults()?;
     let names = missing_names(alloc, &faults)?;

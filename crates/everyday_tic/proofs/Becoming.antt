@@ -6,10 +6,12 @@ use Rattle.std.specs.Prelude.{IfOk}
 use Rattle.std.proofs.lemmas.List.{drop_all, length-append}
 use Rattle.std.proofs.lemmas.List.Elements.{All-map}
 use Rattle.std.proofs.lemmas.Slice.Zip.{AllZip-long}
+use Rattle.ti_source.specs.declared.parsing.Rule.{Rule}
+use Rattle.ti_source.specs.declared.parsing.Rule.TheVariants.{OwnFirst}
 use Rattle.base_meaning.specs.Faults.{SourceFault}
 use Rattle.base_meaning.specs.Usable.{IsPlaced}
 use Rattle.base_meaning.specs.declared.faults.Fault.{Fault}
-use Rattle.user_compiling.specs.Entries.{AreStates, IsStateOf, state_seen}
+use Rattle.user_compiling.specs.Entries.{AreStatesBy, IsStateBy, state_seen}
 use Rattle.user_compiling.specs.Faults.{of_profile}
 use Rattle.user_compiling.specs.Report.{IsExtendedPlaced}
 use Rattle.user_compiling.specs.declared.compiled.Compiled.{Compiled}
@@ -25,8 +27,9 @@ use Rattle.everyday_tic.specs.declared.options.TicOutcome.{TicOutcome}
 use Rattle.everyday_tic.specs.inside.Found.{AreFoundFaults}
 
 -- something becomes of each block
-pub as_many : (texts : List (List ℕ)) (compiled : List Compiled) → AreStates texts (map state_seen compiled) → length (map state_seen compiled) ≡ length texts
-as_many texts compiled states = AllZip-long (IsStateOf texts) texts (map state_seen compiled) states
+pub as_many : (rule : Rule) (texts : List (List ℕ)) (compiled : List Compiled) → AreStatesBy rule texts (map state_seen compiled)
+    → length (map state_seen compiled) ≡ length texts
+as_many rule texts compiled states = AllZip-long (IsStateBy rule texts) texts (map state_seen compiled) states
 
 module _ {X Y Z : Type 0} (see : X → Y) (f : Y → Z) where
   -- after one was appended, what is still to come is as it was
@@ -50,9 +53,10 @@ both_ok (Ok x) P Q p q = (p, q)
 both_ok (Err e) P Q p q = tt
 
 -- the faults that were given are those of the blocks
-pub found_before : (texts last : List (List ℕ)) (given : Option (Vec Fault)) → KeepsFaults texts last given → AreFoundFaults last given
-found_before texts last None kept = tt
-found_before texts last (Some found) kept = kept.1
+pub found_before : (rule : Rule) (texts last : List (List ℕ)) (given : Option (Vec Fault)) → KeepsFaults rule texts last given
+    → AreFoundFaults rule last given
+found_before rule texts last None kept = tt
+found_before rule texts last (Some found) kept = kept.1
 
 -- ---- what comes of a source
 
@@ -60,26 +64,28 @@ found_before texts last (Some found) kept = kept.1
 pub within_all : (texts last others : List (List ℕ)) (count : ℕ) → last ≡ texts ++ others → count ≡ length texts → count ≤ length last
 within_all texts last others count is same = omega (arith, ap length is, length-append texts others)
 
-module _ {E : Type 0} (asked : Asked) (files : Option Files) (directories : List (List ℕ)) (file : List ℕ) where
+module _ {E : Type 0} (rule : Rule) (asked : Asked) (files : Option Files) (directories : List (List ℕ)) (file : List ℕ) where
   -- of blocks, by what is found for them
   pub comes_of_all : (first count : ℕ) (texts last : List (List ℕ)) (before after : ℕ) (problems : List Problem) (result : Result TicOutcome E)
-      → count ≡ length texts → TakesUsed asked.user_defined files directories texts before after last (map problem_seen problems)
-      → IfOk result (λ outcome. ComesOf asked file first last count (map problem_seen problems) (made_of outcome))
-      → IfOk result (λ outcome. (ts : List (List ℕ)) × (ps : List ProblemSeen) × TakesUsed asked.user_defined files directories texts before after ts ps
-      × ComesOf asked file first ts (length texts) ps (made_of outcome))
+      → count ≡ length texts → TakesUsed rule asked.user_defined files directories texts before after last (map problem_seen problems)
+      → IfOk result (λ outcome. ComesOf rule asked file first last count (map problem_seen problems) (made_of outcome))
+      → IfOk result (λ outcome. (ts : List (List ℕ)) × (ps : List ProblemSeen)
+      × TakesUsed rule asked.user_defined files directories texts before after ts ps
+      × ComesOf rule asked file first ts (length texts) ps (made_of outcome))
   comes_of_all first count texts last before after problems (Ok outcome) many taken h = (
     last,
     map problem_seen problems,
     taken,
-    subst (λ (n : ℕ). ComesOf asked file first last n (map problem_seen problems) (made_of outcome)) many h,
+    subst (λ (n : ℕ). ComesOf rule asked file first last n (map problem_seen problems) (made_of outcome)) many h,
   )
   comes_of_all first count texts last before after problems (Err e) many taken h = tt
 
   -- of blocks of which none is termcap
   pub none_comes : (first : ℕ) (blocks : List (List ℕ)) (before after : ℕ) (result : Result TicOutcome E) → IsFirstTermcap blocks None
-      → IfOk result (λ outcome. (ts : List (List ℕ)) × (ps : List ProblemSeen) × TakesUsed asked.user_defined files directories blocks before after ts ps
-      × ComesOf asked file first ts (length blocks) ps (made_of outcome))
-      → IfOk result (λ outcome. ComesOfBlocks asked files directories file first blocks before after (made_of outcome))
+      → IfOk result (λ outcome. (ts : List (List ℕ)) × (ps : List ProblemSeen)
+      × TakesUsed rule asked.user_defined files directories blocks before after ts ps
+      × ComesOf rule asked file first ts (length blocks) ps (made_of outcome))
+      → IfOk result (λ outcome. ComesOfBlocks rule asked files directories file first blocks before after (made_of outcome))
   none_comes first blocks before after (Ok outcome) none h = inr (none, h.0, h.1, h.2, h.3)
   none_comes first blocks before after (Err e) none h = tt
 
@@ -87,20 +93,22 @@ module _ {E : Type 0} (asked : Asked) (files : Option Files) (directories : List
   pub some_comes : (first at : ℕ) (blocks : List (List ℕ)) (before after : ℕ) (result : Result TicOutcome E) → IsFirstTermcap blocks (Some at)
       → after ≡ before
       → IfOk result (λ outcome. made_of outcome ≡ termcap_refusal file first blocks at)
-      → IfOk result (λ outcome. ComesOfBlocks asked files directories file first blocks before after (made_of outcome))
+      → IfOk result (λ outcome. ComesOfBlocks rule asked files directories file first blocks before after (made_of outcome))
   some_comes first at blocks before after (Ok outcome) is same h = inl (at, is, same, h)
   some_comes first at blocks before after (Err e) is same h = tt
 
+module _ {E : Type 0} (asked : Asked) (files : Option Files) (directories : List (List ℕ)) (file : List ℕ) where
   -- of a source that a database takes
-  pub plain_comes : (source : List ℕ) (before after first : ℕ) (texts : List (List ℕ)) (result : Result TicOutcome E)
-      → texts ≡ source_texts source → AreTaken (source_texts source) → first ≡ first_line source
-      → IfOk result (λ outcome. ComesOfBlocks asked files directories file first texts before after (made_of outcome))
+  pub plain_comes : (rule : Rule) (source : List ℕ) (before after first : ℕ) (texts : List (List ℕ)) (result : Result TicOutcome E)
+      → rule ≡ OwnFirst → texts ≡ source_texts source → AreTaken (source_texts source) → first ≡ first_line source
+      → IfOk result (λ outcome. ComesOfBlocks rule asked files directories file first texts before after (made_of outcome))
       → IfOk result (λ outcome. ComesOfPlain asked files directories file source before after (made_of outcome))
-  plain_comes source before after first texts (Ok outcome) held taken number h =
-      let by_texts = subst (λ (xs : List (List ℕ)). ComesOfBlocks asked files directories file first xs before after (made_of outcome)) held h in
-      let by_line = subst (λ (n : ℕ). ComesOfBlocks asked files directories file n (source_texts source) before after (made_of outcome)) number by_texts in
+  plain_comes rule source before after first texts (Ok outcome) ruled held taken number h =
+      let by_rule = subst (λ (r : Rule). ComesOfBlocks r asked files directories file first texts before after (made_of outcome)) ruled h in
+      let by_texts = subst (λ (xs : List (List ℕ)). ComesOfBlocks OwnFirst asked files directories file first xs before after (made_of outcome)) held by_rule in
+      let by_line = subst (λ (n : ℕ). ComesOfBlocks OwnFirst asked files directories file n (source_texts source) before after (made_of outcome)) number by_texts in
       inr (taken, by_line)
-  plain_comes source before after first texts (Err e) held taken number h = tt
+  plain_comes rule source before after first texts (Err e) ruled held taken number h = tt
 
   -- of a source as it is read
   pub read_plain : (source text : List ℕ) (before after : ℕ) (result : Result TicOutcome E) → text ≡ plain_source source

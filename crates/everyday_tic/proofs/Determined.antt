@@ -1,5 +1,7 @@
 -- Only one outcome comes of a source, when no read fails.
 use Rattle.std.proofs.Common.{◌≡◌, ◌⊎◌, ◌+◌, ◌<◌, ◌≤◌, inl, inr, ℕ, zero, suc, Bool, true, false, List, [], ◌∷◌, take, map, length, None, Some, sym, ap, ◌∙◌, subst, arith, true≢false}
+use Rattle.ti_source.specs.declared.parsing.Rule.{Rule}
+use Rattle.ti_source.specs.declared.parsing.Rule.TheVariants.{OwnFirst}
 use Rattle.base_meaning.specs.Compiled.{EntryState}
 use Rattle.tools_devices.specs.Tree.{Files}
 use Rattle.tools_sources.specs.Sources.{SourcesHaveOneRefusal, TakenSourcesAreNotRefused, first_line, source_texts}
@@ -9,7 +11,7 @@ use Rattle.user_values.specs.Limit.{IsOverLimitAt, distinct_after, name_count, n
 use Rattle.user_values.proofs.Naming.{distinct_after-append, distinct_after-longer}
 use Rattle.source_plain.specs.Reading.{plain_source}
 use Rattle.everyday_sources.specs.Used.{ProblemSeen, UsedEntriesAreDetermined}
-use Rattle.everyday_tic.specs.Entries.{AreStatesBy}
+use Rattle.everyday_tic.specs.Entries.{BecomeThese}
 use Rattle.everyday_tic.specs.Laws.{OutcomesAreDetermined}
 use Rattle.everyday_tic.specs.Outcomes.{Asked, ComesOf, ComesOfBlocks, ComesOfPlain, Made, compilation, made_of, names_refusal, refusal_of, termcap_refusal}
 use Rattle.everyday_tic.specs.Termcap.{IsFirstTermcap}
@@ -84,37 +86,38 @@ not_termcap blocks at is none = absurd (true≢false (sym is.0.2 ∙ none at is.
 
 -- ---- what becomes of the blocks
 
-one_list : StatesAreDetermined → (user_defined : Bool) (texts : List (List ℕ)) (states others : List EntryState) → AreStatesBy user_defined texts states
-    → AreStatesBy user_defined texts others → states ≡ others
-one_list determined true texts states others g h = determined texts states others g h
-one_list determined false texts states others g h = g ∙ sym h
+one_list : StatesAreDetermined → (rule : Rule) (user_defined : Bool) (texts : List (List ℕ)) (states others : List EntryState)
+    → BecomeThese rule user_defined texts states → BecomeThese rule user_defined texts others → states ≡ others
+one_list determined rule true texts states others g h = determined rule texts states others g h
+one_list determined rule false texts states others g h = g ∙ sym h
 
 -- ---- what comes of the source
 
-module _ (determined : StatesAreDetermined) (asked : Asked) (file : List ℕ) where
+module _ (determined : StatesAreDetermined) (rule : Rule) (asked : Asked) (file : List ℕ) where
   one_of_all : (first : ℕ) (texts : List (List ℕ)) (count : ℕ) (problems : List ProblemSeen) (one other : Made)
-      → ComesOf asked file first texts count problems one → ComesOf asked file first texts count problems other → one ≡ other
+      → ComesOf rule asked file first texts count problems one → ComesOf rule asked file first texts count problems other → one ≡ other
   one_of_all first texts count problems one other (inl g) (inl h) =
       g.3 ∙ ap (names_refusal file first texts) (one_place texts g.1 h.1 g.2 h.2) ∙ sym h.3
   one_of_all first texts count problems one other (inl g) (inr h) = not_few texts g.1 g.2 (h.0 g.0)
   one_of_all first texts count problems one other (inr g) (inl h) = not_few texts h.1 h.2 (g.0 h.0)
   one_of_all first texts count problems one other (inr g) (inr h) =
-      g.3 ∙ ap (λ states. compilation asked file first texts count states problems) (one_list determined asked.user_defined texts g.1 h.1 g.2 h.2)
+      g.3 ∙ ap (λ states. compilation rule asked file first texts count states problems) (one_list determined rule asked.user_defined texts g.1 h.1 g.2 h.2)
       ∙ sym h.3
 
   one_of_blocks : UsedEntriesAreDetermined → (files : Files) (directories : List (List ℕ)) (first : ℕ) (blocks : List (List ℕ)) (before since : ℕ)
-      (one other : Made) → ComesOfBlocks asked (Some files) directories file first blocks before before one
-      → ComesOfBlocks asked (Some files) directories file first blocks since since other → one ≡ other
+      (one other : Made) → ComesOfBlocks rule asked (Some files) directories file first blocks before before one
+      → ComesOfBlocks rule asked (Some files) directories file first blocks since since other → one ≡ other
   one_of_blocks used files directories first blocks before since one other (inl g) (inl h) =
       g.3 ∙ ap (termcap_refusal file first blocks) (one_termcap blocks g.0 h.0 g.1 h.1) ∙ sym h.3
   one_of_blocks used files directories first blocks before since one other (inl g) (inr h) = not_termcap blocks g.0 g.1 h.0
   one_of_blocks used files directories first blocks before since one other (inr g) (inl h) = not_termcap blocks h.0 h.1 g.0
   one_of_blocks used files directories first blocks before since one other (inr g) (inr h) =
-      let same = used asked.user_defined files directories blocks before since g.1 h.1 g.2 h.2 g.3 h.3 in
-      let by_texts = subst (λ ts. ComesOf asked file first ts (length blocks) h.2 other) (sym same.0) h.4 in
-      let by_problems = subst (λ ps. ComesOf asked file first g.1 (length blocks) ps other) (sym same.1) by_texts in
+      let same = used rule asked.user_defined files directories blocks before since g.1 h.1 g.2 h.2 g.3 h.3 in
+      let by_texts = subst (λ ts. ComesOf rule asked file first ts (length blocks) h.2 other) (sym same.0) h.4 in
+      let by_problems = subst (λ ps. ComesOf rule asked file first g.1 (length blocks) ps other) (sym same.1) by_texts in
       one_of_all first g.1 (length blocks) g.2 one other g.4 by_problems
 
+module _ (determined : StatesAreDetermined) (asked : Asked) (file : List ℕ) where
   one_of_plain : SourcesHaveOneRefusal → TakenSourcesAreNotRefused → UsedEntriesAreDetermined → (files : Files) (directories : List (List ℕ))
       (source : List ℕ) (before since : ℕ) (one other : Made) → ComesOfPlain asked (Some files) directories file source before before one
       → ComesOfPlain asked (Some files) directories file source since since other → one ≡ other
@@ -125,7 +128,7 @@ module _ (determined : StatesAreDetermined) (asked : Asked) (file : List ℕ) wh
   one_of_plain refused not_refused used files directories source before since one other (inr g) (inl h) =
       absurd (not_refused source h.0 g.0 h.1)
   one_of_plain refused not_refused used files directories source before since one other (inr g) (inr h) =
-      one_of_blocks used files directories (first_line source) (source_texts source) before since one other g.1 h.1
+      one_of_blocks determined OwnFirst asked file used files directories (first_line source) (source_texts source) before since one other g.1 h.1
 
 pub outcomes_are_determined : SourcesHaveOneRefusal → TakenSourcesAreNotRefused → UsedEntriesAreDetermined → StatesAreDetermined → OutcomesAreDetermined
 outcomes_are_determined refused not_refused used determined asked files directories file source before since one other g h =

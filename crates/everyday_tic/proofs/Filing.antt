@@ -7,16 +7,16 @@ use Rattle.std.specs.Option.{option_map_or}
 use Rattle.std.proofs.lemmas.List.{length-append, length-map}
 use Rattle.std.proofs.lemmas.Option.{slice_get-get_or, slice_get-map}
 use Rattle.std.proofs.lemmas.List.Sums.{sum_by-append, sum_by-cons}
-use Rattle.ti_source.specs.Parsing.{reading_of_text}
-use Rattle.base_meaning.specs.Owner.{readings}
+use Rattle.ti_source.specs.declared.parsing.Rule.{Rule}
+use Rattle.base_meaning.specs.Readings.{reading_by, readings_by}
 use Rattle.tools_devices.specs.Tree.{FileAt}
-use Rattle.base_meaning.specs.Compiled.{EntryState, compiled, state_of}
+use Rattle.base_meaning.specs.Compiled.{EntryState, compiled_by, state_of}
 use Rattle.tools_devices.specs.Placing.{entries, placed_entry}
 use Rattle.tools_devices.specs.declared.placing.File.{File}
 use Rattle.tools_sources.specs.EntryFiles.{entry_files, names_at}
 use Rattle.tools_sources.proofs.Filing.{range_more}
 use Rattle.user_compiling.specs.Entries.{entry_in, state_seen}
-use Rattle.user_compiling.specs.Laws.{PlainSourcesAreAsInTheProfile, profile_states}
+use Rattle.user_compiling.specs.Laws.{PlainSourcesAreAsInTheProfile, profile_states_by}
 use Rattle.user_compiling.specs.declared.compiled.Compiled.{Compiled}
 use Rattle.user_compiling.proofs.Lines.{slice_get-map_item}
 use Rattle.everyday_tic.specs.Entries.{block_files, entry_at}
@@ -36,14 +36,14 @@ one_more_counted p old new at so_far added =
 -- ---- the entry and the files of a block
 
 -- the entry of the profile is that of what becomes of the block
-pub profile_entry : PlainSourcesAreAsInTheProfile → (texts : List (List ℕ)) (at : ℕ) (found : Option (List ℕ)) → at < length texts → found ≡ compiled texts at
-    → found ≡ entry_at (profile_states texts) at
-profile_entry law texts at found within is =
+pub profile_entry : PlainSourcesAreAsInTheProfile → (rule : Rule) (texts : List (List ℕ)) (at : ℕ) (found : Option (List ℕ)) → at < length texts
+    → found ≡ compiled_by rule texts at → found ≡ entry_at (profile_states_by rule texts) at
+profile_entry law rule texts at found within is =
     let text = get_or texts at [] in
     let stands = slice_get-get_or texts at [] within in
-    let state : slice_get (profile_states texts) at ≡ Some (state_of (readings texts) (reading_of_text text)) =
-    rw (slice_get-map (λ t. state_of (readings texts) (reading_of_text t)) texts at, stands) refl in
-    is ∙ sym (law.entries texts at text stands) ∙ sym (ap (option_and_then entry_in) state)
+    let state : slice_get (profile_states_by rule texts) at ≡ Some (state_of (readings_by rule texts) (reading_by rule text)) =
+    rw (slice_get-map (λ t. state_of (readings_by rule texts) (reading_by rule t)) texts at, stands) refl in
+    is ∙ sym (law.entries rule texts at text stands) ∙ sym (ap (option_and_then entry_in) state)
 
 -- the entry of a block that was compiled with user-defined capabilities
 pub extended_entry : (states : List Compiled) (at : ℕ) (state : Compiled) (found : Option (List ℕ)) → at < length states → state ≡ get_or states at state

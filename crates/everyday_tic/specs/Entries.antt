@@ -3,18 +3,19 @@ use Rattle.std.specs.Prelude.{◌≡◌, ℕ, ◌==◌, Bool, true, false, not, 
 use Rattle.std.specs.Prelude.{if◌then◌else◌}
 use Rattle.std.specs.List.{flat_map, range_with_len}
 use Rattle.std.specs.Option.{option_map_or}
+use Rattle.ti_source.specs.declared.parsing.Rule.{Rule}
 use Rattle.base_meaning.specs.Compiled.{EntryState}
 use Rattle.tools_devices.specs.Tree.{FileAt}
 use Rattle.tools_sources.specs.EntryFiles.{entry_files, names_at}
-use Rattle.user_compiling.specs.Entries.{AreStates, entry_in}
-use Rattle.user_compiling.specs.Laws.{profile_states}
+use Rattle.user_compiling.specs.Entries.{AreStatesBy, entry_in}
+use Rattle.user_compiling.specs.Laws.{profile_states_by}
 use Rattle.everyday_sources.specs.Selection.{is_chosen}
 
--- what becomes of each block: as `user_compiling` says if user-defined capabilities are kept, else
--- as in the profile
-abbrev pub AreStatesBy : Bool → List (List ℕ) → List EntryState → Type 0
-AreStatesBy true texts states = AreStates texts states
-AreStatesBy false texts states = states ≡ profile_states texts
+-- what becomes of each block of a source that is read by a rule: as `user_compiling` says if
+-- user-defined capabilities are kept, else as in the profile
+abbrev pub BecomeThese : Rule → Bool → List (List ℕ) → List EntryState → Type 0
+BecomeThese rule true texts states = AreStatesBy rule texts states
+BecomeThese rule false texts states = states ≡ profile_states_by rule texts
 
 -- the entry of the block at a position, if it has one
 abbrev pub entry_at : List EntryState → ℕ → Option (List ℕ)

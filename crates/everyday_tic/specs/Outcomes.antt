@@ -1,18 +1,20 @@
 -- What `ti-tic` makes of a source (tic(1)): files, what is said on standard error, and a status.
 use Rattle.std.specs.Prelude.{◌≡◌, ◌⊎◌, ℕ, ◌+◌, ◌≤◌, ◌==◌, ◌||◌, Bool, true, false, not, List, [], ◌++◌, length, map, codes, Option, Some, None, if◌then◌else◌}
 use Rattle.std.specs.List.{flat_map}
+use Rattle.ti_source.specs.declared.parsing.Rule.{Rule}
+use Rattle.ti_source.specs.declared.parsing.Rule.TheVariants.{OwnFirst}
 use Rattle.base_meaning.specs.Compiled.{EntryState}
 use Rattle.base_meaning.specs.Faults.{faults}
-use Rattle.base_meaning.specs.Owner.{readings}
+use Rattle.base_meaning.specs.Readings.{readings_by}
 use Rattle.base_meaning.specs.Report.{lines_before}
 use Rattle.tools_devices.specs.Placing.{entries}
 use Rattle.tools_devices.specs.Tree.{FileAt, Files}
 use Rattle.tools_sources.specs.Sources.{AreTaken, IsSourceRefusal, first_line, source_texts}
 use Rattle.tools_sources.specs.declared.source_error.SourceError.{SourceError}
 use Rattle.tools_sources.specs.declared.source_error.SourceError.TheVariants.{BlockTooLong, TooManyBlocks}
-use Rattle.user_compiling.specs.Faults.{ExtendedSourceFault, extended_faults, of_profile}
+use Rattle.user_compiling.specs.Faults.{ExtendedSourceFault, extended_faults_by, of_profile}
 use Rattle.user_values.specs.Limit.{IsOverLimitAt, name_count, name_limit}
-use Rattle.everyday_tic.specs.Entries.{AreStatesBy, entry_count, first_files}
+use Rattle.everyday_tic.specs.Entries.{BecomeThese, entry_count, first_files}
 use Rattle.everyday_tic.specs.Messages.{problem_line, unknown_lines}
 use Rattle.everyday_tic.specs.Termcap.{IsFirstTermcap, termcap_source}
 use Rattle.everyday_report.specs.Report.{fault_lines, has_error, said}
@@ -83,23 +85,24 @@ names_refusal file first texts at = refusal file (first + lines_before texts at)
 
 -- ---- a source that is compiled
 
--- its faults: those of `user_compiling` if user-defined capabilities are kept, else those of the
--- profile
-abbrev pub faults_by : Bool → List (List ℕ) → List EntryState → List ExtendedSourceFault
-faults_by true texts states = extended_faults texts states
-faults_by false texts states = map of_profile (faults (readings texts))
+-- its faults, read by a rule: those of `user_compiling` if user-defined capabilities are kept, else
+-- those of the profile
+abbrev pub faults_by : Rule → Bool → List (List ℕ) → List EntryState → List ExtendedSourceFault
+faults_by rule true texts states = extended_faults_by rule texts states
+faults_by rule false texts states = map of_profile (faults (readings_by rule texts))
 
 -- what is said before its faults: of the files that were found, and of names that no block has
 abbrev pub front_lines : Asked → List (List ℕ) → ℕ → List ProblemSeen → List ℕ
 front_lines asked texts count problems = flat_map problem_line problems ++ unknown_lines texts count asked.entries
 
--- what comes of the first blocks of these, of that many; the others are installed entries
-abbrev pub compilation : Asked → List ℕ → ℕ → List (List ℕ) → ℕ → List EntryState → List ProblemSeen → Made
-compilation asked file first texts count states problems = record {
+-- what comes of the first blocks of these, of that many, read by a rule; the others are installed
+-- entries
+abbrev pub compilation : Rule → Asked → List ℕ → ℕ → List (List ℕ) → ℕ → List EntryState → List ProblemSeen → Made
+compilation rule asked file first texts count states problems = record {
   files = if asked.check then [] else first_files asked.directory asked.entries texts states count;
   entries = if asked.check then 0 else entry_count asked.directory asked.entries texts states count;
-  report = front_lines asked texts count problems ++ fault_lines file texts first count (faults_by asked.user_defined texts states);
-  status = if not (length (front_lines asked texts count problems) == 0) || has_error count (faults_by asked.user_defined texts states) then 1 else 0;
+  report = front_lines asked texts count problems ++ fault_lines file texts first count (faults_by rule asked.user_defined texts states);
+  status = if not (length (front_lines asked texts count problems) == 0) || has_error count (faults_by rule asked.user_defined texts states) then 1 else 0;
 }
 
 -- there are at most as many user-defined names as may be, if they are kept
@@ -108,28 +111,30 @@ FewNames user_defined texts = user_defined ≡ true → name_count texts (length
 
 -- The same of a source with the entries that it uses after it: it has one user-defined name too
 -- many, or each block becomes something.
-abbrev pub ComesOf : Asked → List ℕ → ℕ → List (List ℕ) → ℕ → List ProblemSeen → Made → Type 0
-ComesOf asked file first texts count problems made =
+abbrev pub ComesOf : Rule → Asked → List ℕ → ℕ → List (List ℕ) → ℕ → List ProblemSeen → Made → Type 0
+ComesOf rule asked file first texts count problems made =
     ((asked.user_defined ≡ true) × (at : ℕ) × IsOverLimitAt texts at × (made ≡ names_refusal file first texts at))
     ⊎ (FewNames asked.user_defined texts
-    × (states : List EntryState) × AreStatesBy asked.user_defined texts states × (made ≡ compilation asked file first texts count states problems))
+    × (states : List EntryState) × BecomeThese rule asked.user_defined texts states
+    × (made ≡ compilation rule asked file first texts count states problems))
 
--- what comes of the blocks of a source, the first on the line of that number: it is refused if one of
--- them is termcap
-abbrev pub ComesOfBlocks : Asked → Option Files → List (List ℕ) → List ℕ → ℕ → List (List ℕ) → ℕ → ℕ → Made → Type 0
-ComesOfBlocks asked files directories file first blocks before after made =
+-- what comes of the blocks of a source, read by a rule, the first on the line of that number: it is
+-- refused if one of them is termcap
+abbrev pub ComesOfBlocks : Rule → Asked → Option Files → List (List ℕ) → List ℕ → ℕ → List (List ℕ) → ℕ → ℕ → Made → Type 0
+ComesOfBlocks rule asked files directories file first blocks before after made =
     ((at : ℕ) × IsFirstTermcap blocks (Some at) × (after ≡ before) × (made ≡ termcap_refusal file first blocks at))
     ⊎ (IsFirstTermcap blocks None × (texts : List (List ℕ)) × (problems : List ProblemSeen)
-    × TakesUsed asked.user_defined files directories blocks before after texts problems
-    × ComesOf asked file first texts (length blocks) problems made)
+    × TakesUsed rule asked.user_defined files directories blocks before after texts problems
+    × ComesOf rule asked file first texts (length blocks) problems made)
 
--- what comes of a source without a mark and without CR LF, by the files of the tree and how often it
--- failed before and after
+-- What comes of a source without a mark and without CR LF, by the files of the tree and how often it
+-- failed before and after. The value of a capability is that of ncurses's tic: what a block says
+-- itself decides before its uses.
 abbrev pub ComesOfPlain : Asked → Option Files → List (List ℕ) → List ℕ → List ℕ → ℕ → ℕ → Made → Type 0
 ComesOfPlain asked files directories file source before after made =
     ((error : SourceError) × IsSourceRefusal source error × (after ≡ before) × (made ≡ refusal_of file error))
     ⊎ (AreTaken (source_texts source)
-    × ComesOfBlocks asked files directories file (first_line source) (source_texts source) before after made)
+    × ComesOfBlocks OwnFirst asked files directories file (first_line source) (source_texts source) before after made)
 
 -- what comes of a source
 abbrev pub Comes : Asked → Option Files → List (List ℕ) → List ℕ → List ℕ → ℕ → ℕ → TicOutcome → Type 0

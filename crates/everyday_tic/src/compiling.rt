@@ -11,12 +11,12 @@ ghost use Rattle.user_compiling.specs.Report.{IsExtendedPlaced};
 ghost use Rattle.user_values.specs.Limit.{IsOverLimitAt};
 ghost use Rattle.user_values.specs.declared.fault.ValuesError.{ValuesError};
 ghost use Rattle.user_values.specs.declared.fault.ValuesError.TheVariants.{TooManyNames};
-ghost use Rattle.everyday_tic.specs.Entries.{AreStatesBy, entry_count, first_files};
+ghost use Rattle.everyday_tic.specs.Entries.{BecomeThese, entry_count, first_files};
 ghost use Rattle.everyday_tic.specs.Messages.{unknown_lines};
 ghost use Rattle.everyday_tic.specs.Outcomes as spec;
 ghost use Rattle.everyday_tic.specs.Outcomes.{Comes, ComesOf, ComesOfBlocks, ComesOfPlain, FewNames, asked_of, compilation, made_of};
 ghost use Rattle.everyday_report.specs.Report as report;
-ghost use Rattle.base_meaning.specs.Owner.{readings};
+ghost use Rattle.base_meaning.specs.Readings.{readings_by};
 ghost use Rattle.base_meaning.specs.Report.{lines_before};
 ghost use Rattle.std.specs.Option.{is_some};
 ghost use Rattle.base_meaning.specs.Faults as profile;
@@ -35,9 +35,10 @@ use everyday_sources::{UsedEntries, chosen_names, take_used};
 use source_plain::plain;
 use std::alloc::{AllocError, Global};
 use std::rc::RcSlice;
-use ti_base::{Database, Fault};
+use ti_base::{Fault, RuledDatabase};
+use ti_source::Rule;
 use tools_devices::Tree;
-use tools_sources::{SourceError, check, database_of, first_line};
+use tools_sources::{SourceError, check, database_by, first_line};
 use user_compiling::{Compiled, ExtendedFault, compile, faults};
 use user_values::ValuesError;
 
@@ -92,14 +93,14 @@ fn refused_source(alloc: Global, file: &str, source: &[u8]) -> Result<TicOutcome
 // What becomes of each block if user-defined capabilities are kept; `None` if not.
 fn compile_if(
     alloc: Global,
-    database: &Database,
+    database: &RuledDatabase,
     user_defined: bool,
 ) -> Result<Option<Vec<Compiled>>, ValuesError>
-    ensures few { OnOk result (FewNames user_defined database.now) }
-    ensures states { IfOk result (λ compiled. AreStatesBy user_defined database.now (states_of database.now (option_map (λ c. c.items) compiled))) }
-    ensures as_many { IfOk result (λ compiled. length (states_of database.now (option_map (λ c. c.items) compiled)) ≡ length database.now) }
+    ensures few { OnOk result (FewNames user_defined database.now.texts) }
+    ensures states { IfOk result (λ compiled. BecomeThese database.now.rule user_defined database.now.texts (states_of database.now.rule database.now.texts (option_map (λ c. c.items) compiled))) }
+    ensures as_many { IfOk result (λ compiled. length (states_of database.now.rule database.now.texts (option_map (λ c. c.items) compiled)) ≡ length database.now.texts) }
     ensures kept { IfOk result (λ compiled. user_defined ≡ is_some compiled) }
-    ensures too_many { (at : ℕ) → IsErrOf result (TooManyNames at) → IsOverLimitAt database.now at }
+    ensures too_many { (at : ℕ) → IsErrOf result (TooManyNames at) → IsOverLimitAt database.now.texts at }
     ensures too_many_kept { (at : ℕ) → IsErrOf result (TooManyNames at) → user_defined ≡ true }
 {
     if !user_defined {
@@ -146,9 +147,12 @@ fn copy_faults(alloc: Global, faults: &[Fault]) -> Result<Vec<ExtendedFault>, Al
 }
 
 // The faults of the profile: those that were found, or else those that the database finds.
-fn found_or_sought(database: &Database, found: Option<Vec<Fault>>) -> Result<Vec<Fault>, AllocError>
-    requires { AreFoundFaults database.now found }
-    ensures { IfOk result (λ all. AreFaults database.now all.items) }
+fn found_or_sought(
+    database: &RuledDatabase,
+    found: Option<Vec<Fault>>,
+) -> Result<Vec<Fault>, AllocError>
+    requires { AreFoundFaults database.now.rule database.now.texts found }
+    ensures { IfOk result (λ all. AreFaults database.now.rule database.now.texts all.items) }
 {
     match found {
         Some(found) => Ok(found),
@@ -159,12 +163,12 @@ fn found_or_sought(database: &Database, found: Option<Vec<Fault>>) -> Result<Vec
 // The faults of the profile among those of both kinds.
 fn profile_faults(
     alloc: Global,
-    database: &Database,
+    database: &RuledDatabase,
     found: Option<Vec<Fault>>,
 ) -> Result<Vec<ExtendedFault>, AllocError>
-    requires { AreFoundFaults database.now found }
-    ensures all { IfOk result (λ all. map fault_seen all.items ≡ map of_profile (profile.faults (readings database.now))) }
-    ensures placed { IfOk result (λ all. All (IsExtendedPlaced (length database.now)) (map fault_seen all.items)) }
+    requires { AreFoundFaults database.now.rule database.now.texts found }
+    ensures all { IfOk result (λ all. map fault_seen all.items ≡ map of_profile (profile.faults (readings_by database.now.rule database.now.texts))) }
+    ensures placed { IfOk result (λ all. All (IsExtendedPlaced (length database.now.texts)) (map fault_seen all.items)) }
 {
     let faults = found_or_sought(database, found)?;
     copy_faults(alloc, faults.as_slice())
@@ -173,15 +177,15 @@ fn profile_faults(
 // The faults of all blocks; of those of the profile it may be that they were found before.
 fn faults_of(
     alloc: Global,
-    database: &Database,
+    database: &RuledDatabase,
     compiled: Option<&[Compiled]>,
     found: Option<Vec<Fault>>,
 ) -> Result<Vec<ExtendedFault>, AllocError>
-    requires as_many { length (states_of database.now (option_map (λ c. c.now) compiled)) ≡ length database.now }
-    requires found { AreFoundFaults database.now found }
+    requires as_many { length (states_of database.now.rule database.now.texts (option_map (λ c. c.now) compiled)) ≡ length database.now.texts }
+    requires found { AreFoundFaults database.now.rule database.now.texts found }
     ensures all { IfOk result (λ all. map fault_seen all.items
-        ≡ spec.faults_by (is_some compiled.entry) database.now (states_of database.now (option_map (λ c. c.now) compiled.entry))) }
-    ensures placed { IfOk result (λ all. All (IsExtendedPlaced (length database.now)) (map fault_seen all.items)) }
+        ≡ spec.faults_by database.now.rule (is_some compiled.entry) database.now.texts (states_of database.now.rule database.now.texts (option_map (λ c. c.now) compiled.entry))) }
+    ensures placed { IfOk result (λ all. All (IsExtendedPlaced (length database.now.texts)) (map fault_seen all.items)) }
 {
     match compiled {
         Some(compiled) => faults(alloc, database, compiled),
@@ -217,18 +221,18 @@ fn status_of(is_silent: bool, faults: &[ExtendedFault], count: usize) -> u8
 // The files of the entries, none if they are only checked.
 fn files_of(
     alloc: Global,
-    database: &Database,
+    database: &RuledDatabase,
     compiled: Option<&[Compiled]>,
     count: usize,
     options: &TicOptions<'_>,
 ) -> Result<EntryFiles, AllocError>
-    requires within { count ≤ length database.now }
+    requires within { count ≤ length database.now.texts }
     ensures files { IfOk result (λ made. entries made.files.items
-        ≡ (if options.now.check then [] else first_files options.now.directory.now (option_map (λ e. e.now) options.now.entries) database.now
-        (states_of database.now (option_map (λ c. c.now) compiled.entry)) count)) }
+        ≡ (if options.now.check then [] else first_files options.now.directory.now (option_map (λ e. e.now) options.now.entries) database.now.texts
+        (states_of database.now.rule database.now.texts (option_map (λ c. c.now) compiled.entry)) count)) }
     ensures entries { IfOk result (λ made. made.entries
-        ≡ (if options.now.check then 0 else entry_count options.now.directory.now (option_map (λ e. e.now) options.now.entries) database.now
-        (states_of database.now (option_map (λ c. c.now) compiled.entry)) count)) }
+        ≡ (if options.now.check then 0 else entry_count options.now.directory.now (option_map (λ e. e.now) options.now.entries) database.now.texts
+        (states_of database.now.rule database.now.texts (option_map (λ c. c.now) compiled.entry)) count)) }
 {
     if options.check {
         return Ok(EntryFiles {
@@ -243,11 +247,11 @@ fn files_of(
 fn write_unknown_names(
     alloc: Global,
     out: &mut Vec<u8>,
-    database: &Database,
+    database: &RuledDatabase,
     count: usize,
     entries: Option<&[u8]>,
 ) -> Result<(), AllocError>
-    ensures { OnOk result (out.new.items ≡ out.old.items ++ unknown_lines database.now count (option_map (λ e. e.now) entries.entry)) }
+    ensures { OnOk result (out.new.items ≡ out.old.items ++ unknown_lines database.now.texts count (option_map (λ e. e.now) entries.entry)) }
 {
     match entries {
         None => Ok(()),
@@ -263,20 +267,20 @@ fn outcome(
     alloc: Global,
     file: &str,
     first_line: u64,
-    database: &Database,
+    database: &RuledDatabase,
     count: usize,
     used: UsedEntries,
     compiled: Option<&[Compiled]>,
     options: &TicOptions<'_>,
 ) -> Result<TicOutcome, AllocError>
-    requires within { count ≤ length database.now }
-    requires found { AreFoundFaults database.now used.faults }
-    requires as_many { length (states_of database.now (option_map (λ c. c.now) compiled)) ≡ length database.now }
+    requires within { count ≤ length database.now.texts }
+    requires found { AreFoundFaults database.now.rule database.now.texts used.faults }
+    requires as_many { length (states_of database.now.rule database.now.texts (option_map (λ c. c.now) compiled)) ≡ length database.now.texts }
     requires first { first_line ≤ 9223372036854775808 }
     requires kept { options.now.user_defined ≡ is_some compiled }
     ensures { IfOk result (λ outcome. made_of outcome
-        ≡ compilation (asked_of options.now) file.now first_line database.now count
-        (states_of database.now (option_map (λ c. c.now) compiled.entry)) (map problem_seen used.problems.items)) }
+        ≡ compilation database.now.rule (asked_of options.now) file.now first_line database.now.texts count
+        (states_of database.now.rule database.now.texts (option_map (λ c. c.now) compiled.entry)) (map problem_seen used.problems.items)) }
 {
     let UsedEntries { problems, faults } = used;
     let faults = faults_of(alloc, database, compiled, faults)?;
@@ -307,14 +311,14 @@ fn refused_at(
     alloc: Global,
     file: &str,
     first_line: u64,
-    database: &Database,
+    database: &RuledDatabase,
     at: usize,
     sentence: &str,
     word: &str,
 ) -> Result<TicOutcome, AllocError>
-    requires within { at < length database.now }
+    requires within { at < length database.now.texts }
     requires first { first_line ≤ 9223372036854775808 }
-    ensures { IfOk result (λ outcome. made_of outcome ≡ spec.refusal file.now (first_line + lines_before database.now at) sentence.now word.now) }
+    ensures { IfOk result (λ outcome. made_of outcome ≡ spec.refusal file.now (first_line + lines_before database.now.texts at) sentence.now word.now) }
 {
     let starts = database.line_starts()?;
     let line = first_line + starts[at];
@@ -326,12 +330,12 @@ fn not_compiled(
     alloc: Global,
     file: &str,
     first_line: u64,
-    database: &Database,
+    database: &RuledDatabase,
     error: ValuesError,
 ) -> Result<TicOutcome, AllocError>
-    requires over { (at : ℕ) → error ≡ TooManyNames at → IsOverLimitAt database.now at }
+    requires over { (at : ℕ) → error ≡ TooManyNames at → IsOverLimitAt database.now.texts at }
     requires first { first_line ≤ 9223372036854775808 }
-    ensures { IfOk result (λ outcome. (at : ℕ) × (error ≡ TooManyNames at) × (made_of outcome ≡ spec.names_refusal file.now first_line database.now at)) }
+    ensures { IfOk result (λ outcome. (at : ℕ) × (error ≡ TooManyNames at) × (made_of outcome ≡ spec.names_refusal file.now first_line database.now.texts at)) }
 {
     match error {
         ValuesError::TooManyNames(at) => refused_at(
@@ -363,15 +367,15 @@ fn compile_all(
     alloc: Global,
     file: &str,
     first_line: u64,
-    database: &Database,
+    database: &RuledDatabase,
     count: usize,
     used: UsedEntries,
     options: &TicOptions<'_>,
 ) -> Result<TicOutcome, AllocError>
-    requires within { count ≤ length database.now }
-    requires found { AreFoundFaults database.now used.faults }
+    requires within { count ≤ length database.now.texts }
+    requires found { AreFoundFaults database.now.rule database.now.texts used.faults }
     requires first { first_line ≤ 9223372036854775808 }
-    ensures { IfOk result (λ outcome. ComesOf (asked_of options.now) file.now first_line database.now count (map problem_seen used.problems.items) (made_of outcome)) }
+    ensures { IfOk result (λ outcome. ComesOf database.now.rule (asked_of options.now) file.now first_line database.now.texts count (map problem_seen used.problems.items) (made_of outcome)) }
 {
     match compile_if(alloc, database, options.user_defined) {
         Ok(compiled) => outcome(
@@ -395,14 +399,14 @@ fn compile_terminfo<T: Tree>(
     directories: &[String],
     file: &str,
     first_line: u64,
-    database: Database,
+    database: RuledDatabase,
     options: &TicOptions<'_>,
 ) -> Result<TicOutcome, AllocError>
     requires first { first_line ≤ 9223372036854775808 }
     ensures comes { IfOk result (λ outcome. (texts : List (List ℕ)) × (problems : List ProblemSeen)
-        × TakesUsed options.now.user_defined (T.files tree.old) (map string_bytes directories.now) database
+        × TakesUsed database.rule options.now.user_defined (T.files tree.old) (map string_bytes directories.now) database.texts
         (T.failures tree.old) (T.failures tree.new) texts problems
-        × ComesOf (asked_of options.now) file.now first_line texts (length database) problems (made_of outcome)) }
+        × ComesOf database.rule (asked_of options.now) file.now first_line texts (length database.texts) problems (made_of outcome)) }
     ensures kept { T.files tree.new ≡ T.files tree.old }
 {
     // A law, with no code: the blocks of the source come first.
@@ -426,12 +430,12 @@ fn compile_blocks<T: Tree>(
     directories: &[String],
     file: &str,
     first_line: u64,
-    database: Database,
+    database: RuledDatabase,
     options: &TicOptions<'_>,
 ) -> Result<TicOutcome, AllocError>
     requires first { first_line ≤ 9223372036854775808 }
-    ensures comes { IfOk result (λ outcome. ComesOfBlocks (asked_of options.now) (T.files tree.old) (map string_bytes directories.now) file.now first_line
-        database (T.failures tree.old) (T.failures tree.new) (made_of outcome)) }
+    ensures comes { IfOk result (λ outcome. ComesOfBlocks database.rule (asked_of options.now) (T.files tree.old) (map string_bytes directories.now) file.now first_line
+        database.texts (T.failures tree.old) (T.failures tree.new) (made_of outcome)) }
     ensures kept { T.files tree.new ≡ T.files tree.old }
 {
     match first_termcap(&database) {
@@ -469,7 +473,7 @@ fn compile_plain<T: Tree>(
         (T.failures tree.old) (T.failures tree.new) (made_of outcome)) }
     ensures kept { T.files tree.new ≡ T.files tree.old }
 {
-    match database_of(alloc, source) {
+    match database_by(alloc, Rule::OwnFirst, source) {
         Ok(database) => {
             let first = first_line(source) as u64;
             compile_blocks(alloc, tree, directories, file, first, database, options)
@@ -481,6 +485,9 @@ fn compile_plain<T: Tree>(
 
 /// What `ti-tic` makes of a source, the terminals' descriptions of terminfo(5): the files of its
 /// entries, what is said on standard error, and a status.
+///
+/// The value of a capability is what ncurses's tic makes it: what a block says itself decides,
+/// wherever its uses are, and the last of it; else the first of its uses that says something.
 ///
 /// A byte order mark in front and the CR of lines that end in CR LF are left out, and a missing
 /// newline at the end is added. The entry of a name that an item uses and that no block has is

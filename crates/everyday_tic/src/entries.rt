@@ -9,7 +9,7 @@ ghost use Rattle.everyday_tic.specs.inside.States.{states_of};
 use crate::options::TicOptions;
 use everyday_sources::is_chosen;
 use std::alloc::{AllocError, Global};
-use ti_base::Database;
+use ti_base::RuledDatabase;
 use tools_devices::File;
 use tools_sources::add_entry_files;
 use user_compiling::Compiled;
@@ -36,12 +36,12 @@ fn extended_entry(compiled: &[Compiled], at: usize) -> Option<&[u8]>
 // The entry of the block at a position, as the profile has it or as it was compiled with its
 // user-defined capabilities.
 fn entry_at<'a>(
-    database: &'a Database,
+    database: &'a RuledDatabase,
     compiled: Option<&'a [Compiled]>,
     at: usize,
 ) -> Option<&'a [u8]>
-    requires within { at < length database.now }
-    ensures { option_map (λ bytes. bytes.now) result ≡ spec.entry_at (states_of database.now (option_map (λ c. c.now) compiled.entry)) at }
+    requires within { at < length database.now.texts }
+    ensures { option_map (λ bytes. bytes.now) result ≡ spec.entry_at (states_of database.now.rule database.now.texts (option_map (λ c. c.now) compiled.entry)) at }
 {
     // A law, with no code: the entries of the profile are those of what becomes of its blocks.
     user_compiling::laws::plain_sources_are_as_in_the_profile();
@@ -55,15 +55,15 @@ fn entry_at<'a>(
 fn add_block(
     alloc: Global,
     files: &mut Vec<File>,
-    database: &Database,
+    database: &RuledDatabase,
     compiled: Option<&[Compiled]>,
     at: usize,
     options: &TicOptions<'_>,
 ) -> Result<(), AllocError>
-    requires within { at < length database.now }
+    requires within { at < length database.now.texts }
     ensures { OnOk result (entries files.new.items ≡ entries files.old.items
-        ++ block_files options.now.directory.now (option_map (λ e. e.now) options.now.entries) database.now
-        (states_of database.now (option_map (λ c. c.now) compiled.entry)) at) }
+        ++ block_files options.now.directory.now (option_map (λ e. e.now) options.now.entries) database.now.texts
+        (states_of database.now.rule database.now.texts (option_map (λ c. c.now) compiled.entry)) at) }
 {
     let names = database.names(at);
     if !is_chosen(options.entries, names) {
@@ -87,18 +87,18 @@ fn added(before: usize, now: usize) -> usize
 /// The files of the first blocks, `count` of them.
 pub(crate) fn entry_files(
     alloc: Global,
-    database: &Database,
+    database: &RuledDatabase,
     compiled: Option<&[Compiled]>,
     count: usize,
     options: &TicOptions<'_>,
 ) -> Result<EntryFiles, AllocError>
-    requires within { count ≤ length database.now }
+    requires within { count ≤ length database.now.texts }
     ensures files { IfOk result (λ made. entries made.files.items
-        ≡ first_files options.now.directory.now (option_map (λ e. e.now) options.now.entries) database.now
-        (states_of database.now (option_map (λ c. c.now) compiled.entry)) count) }
+        ≡ first_files options.now.directory.now (option_map (λ e. e.now) options.now.entries) database.now.texts
+        (states_of database.now.rule database.now.texts (option_map (λ c. c.now) compiled.entry)) count) }
     ensures entries { IfOk result (λ made. made.entries
-        ≡ entry_count options.now.directory.now (option_map (λ e. e.now) options.now.entries) database.now
-        (states_of database.now (option_map (λ c. c.now) compiled.entry)) count) }
+        ≡ entry_count options.now.directory.now (option_map (λ e. e.now) options.now.entries) database.now.texts
+        (states_of database.now.rule database.now.texts (option_map (λ c. c.now) compiled.entry)) count) }
 {
     let mut files = Vec::new(alloc);
     let mut entries = 0;

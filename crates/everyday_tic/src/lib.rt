@@ -1,6 +1,6 @@
-//! What `ti-tic` does (tic(1)): a source is compiled, with installed entries for the names that its
-//! items use, with the entries that are chosen, and with user-defined capabilities if they are
-//! wanted.
+//! What `ti-tic` does (tic(1)): a source is compiled by the rule of ncurses, `Rule::OwnFirst`, with
+//! installed entries for the names that its items use, with the entries that are chosen, and with
+//! user-defined capabilities if they are wanted.
 //!
 //! ```text
 //! let options = TicOptions { user_defined: true, check: false, entries: None, directory: "out" };

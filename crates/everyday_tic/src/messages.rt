@@ -8,7 +8,7 @@ ghost use Rattle.everyday_tic.specs.Messages as messages;
 use everyday_report::append_parts;
 use everyday_sources::{Cause, Problem};
 use std::alloc::{AllocError, Global};
-use ti_base::{Database, write_detail};
+use ti_base::{RuledDatabase, write_detail};
 use ti_layout::ReadError;
 use user_extension::ExtensionError;
 
@@ -97,8 +97,8 @@ fn write_unknown(alloc: Global, out: &mut Vec<u8>, name: &[u8]) -> Result<(), Al
 }
 
 // Whether one of the first blocks, `count` of them, has a name.
-fn is_of_source(database: &Database, name: &[u8], count: usize) -> bool
-    ensures { result ≡ messages.is_of_source database.now count name.now }
+fn is_of_source(database: &RuledDatabase, name: &[u8], count: usize) -> bool
+    ensures { result ≡ messages.is_of_source database.now.texts count name.now }
 {
     match database.owner(name) {
         Some(at) => at < count,
@@ -110,11 +110,11 @@ fn is_of_source(database: &Database, name: &[u8], count: usize) -> bool
 fn write_if_unknown(
     alloc: Global,
     out: &mut Vec<u8>,
-    database: &Database,
+    database: &RuledDatabase,
     name: &[u8],
     count: usize,
 ) -> Result<(), AllocError>
-    ensures { OnOk result (out.new.items ≡ out.old.items ++ messages.unknown_if database.now count name.now) }
+    ensures { OnOk result (out.new.items ≡ out.old.items ++ messages.unknown_if database.now.texts count name.now) }
 {
     if is_of_source(database, name, count) {
         return Ok(());
@@ -126,11 +126,11 @@ fn write_if_unknown(
 pub(crate) fn write_unknowns(
     alloc: Global,
     out: &mut Vec<u8>,
-    database: &Database,
+    database: &RuledDatabase,
     names: &[&[u8]],
     count: usize,
 ) -> Result<(), AllocError>
-    ensures { OnOk result (out.new.items ≡ out.old.items ++ flat_map (messages.unknown_if database.now count) (map (λ name. name.now) names.now)) }
+    ensures { OnOk result (out.new.items ≡ out.old.items ++ flat_map (messages.unknown_if database.now.texts count) (map (λ name. name.now) names.now)) }
 {
     for name in names {
         write_if_unknown(alloc, out, database, name, count)?;

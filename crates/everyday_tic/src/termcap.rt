@@ -3,7 +3,7 @@ ghost use Rattle.std.specs.Prelude.{◌≡◌, ◌<◌, ℕ, Some, length};
 ghost use Rattle.everyday_tic.specs.Termcap as spec;
 ghost use Rattle.everyday_tic.specs.Termcap.{IsFirstTermcap};
 
-use ti_base::Database;
+use ti_base::RuledDatabase;
 
 /// What is reported about termcap source.
 pub(crate) const TERMCAP_SOURCE: &str =
@@ -26,9 +26,9 @@ fn is_termcap(text: &[u8]) -> bool
 }
 
 /// The position of the first block that is termcap, if one is.
-pub(crate) fn first_termcap(database: &Database) -> Option<usize>
-    ensures first { IsFirstTermcap database.now result }
-    ensures within { (at : ℕ) → result ≡ Some at → at < length database.now }
+pub(crate) fn first_termcap(database: &RuledDatabase) -> Option<usize>
+    ensures first { IsFirstTermcap database.now.texts result }
+    ensures within { (at : ℕ) → result ≡ Some at → at < length database.now.texts }
 {
     for at in 0..database.len() {
         if is_termcap(database.text(at)) {

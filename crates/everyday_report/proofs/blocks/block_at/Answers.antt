@@ -4,7 +4,7 @@ use Rattle.everyday_report.proofs.blocks.block_at.Goals as goal
 
 pub returns : goal.returns
 returns c =
-    let db = c.args.database.now in
+    let db = c.args.database.now.texts in
     record {
       position = refl;
       stands = c.text.ensures;

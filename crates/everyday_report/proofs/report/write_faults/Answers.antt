@@ -11,7 +11,7 @@ use Rattle.everyday_report.proofs.report.write_faults.Goals.{then-at-count+in_ok
 
 pub block_at-requires : goal.block_at-requires
 block_at-requires c =
-    let placed = first_placed (length c.args.database.now) c.args.faults.now c.in-Some.first.now c.in-Some.ensures.value c.requires.placed in
+    let placed = first_placed (length c.args.database.now.texts) c.args.faults.now c.in-Some.first.now c.in-Some.ensures.value c.requires.placed in
     omega (arith, placed, c.block.ensures)
 
 pub of-requires : goal.of-requires
@@ -19,20 +19,20 @@ of-requires c = c.block_at.ensures.read
 
 pub loop-fault-init : goal.loop-fault-init
 loop-fault-init c =
-    none_said c.args.file.now c.args.database.now c.args.first_line _ c.args.out.now.items c.block_at.result.text.now
+    none_said c.args.file.now c.args.database.now.texts c.args.first_line _ c.args.out.now.items c.block_at.result.text.now
     c.in_ok-places.places c.block_at.result.at c.block.result
     c.in_ok-places.ensures c.block_at.ensures.position c.block_at.ensures.stands
 
 pub index-requires : goal.index-requires
 index-requires c =
-    let db = c.args.database.now in
+    let db = c.args.database.now.texts in
     let placed = block_placed (length db) c.args.faults.now c.loop-fault.fault-index c.fault-item.result (omega arith) c.fault-item.is c.requires.placed in
     let starts = length_starts db c.in_ok-starts.starts.items (length db) c.in_ok-starts.ensures.starts in
     omega (arith, placed, starts, c.in_ok-starts.starts.ok.0, c.block-at.ensures)
 
 pub overflow_add-start : goal.overflow_add-start
 overflow_add-start c =
-    let db = c.args.database.now in
+    let db = c.args.database.now.texts in
     let placed = block_placed (length db) c.args.faults.now c.loop-fault.fault-index c.fault-item.result (omega arith) c.fault-item.is c.requires.placed in
     let starts = length_starts db c.in_ok-starts.starts.items (length db) c.in_ok-starts.ensures.starts in
     let there : c.block-at.result < length c.in_ok-starts.starts.items = omega (arith, placed, starts, c.block-at.ensures) in
@@ -42,7 +42,7 @@ overflow_add-start c =
 
 pub block_at-block-requires : goal.block_at-block-requires
 block_at-block-requires c =
-    let placed = block_placed (length c.args.database.now) c.args.faults.now c.loop-fault.fault-index c.fault-item.result (omega arith) c.fault-item.is
+    let placed = block_placed (length c.args.database.now.texts) c.args.faults.now c.loop-fault.fault-index c.fault-item.result (omega arith) c.fault-item.is
     c.requires.placed in
     omega (arith, placed, c.block-at.ensures)
 
@@ -51,15 +51,15 @@ write_next-requires-clause-read c = c.block_at-block.ensures.read
 
 pub write_next-requires-clause-line : goal.write_next-requires-clause-line
 write_next-requires-clause-line c =
-    (line_placed (length c.args.database.now) c.args.faults.now c.loop-fault.fault-index c.fault-item.result (omega arith) c.fault-item.is c.requires.placed).0
+    (line_placed (length c.args.database.now.texts) c.args.faults.now c.loop-fault.fault-index c.fault-item.result (omega arith) c.fault-item.is c.requires.placed).0
 
 pub write_next-requires-clause-small : goal.write_next-requires-clause-small
 write_next-requires-clause-small c =
-    (line_placed (length c.args.database.now) c.args.faults.now c.loop-fault.fault-index c.fault-item.result (omega arith) c.fault-item.is c.requires.placed).1
+    (line_placed (length c.args.database.now.texts) c.args.faults.now c.loop-fault.fault-index c.fault-item.result (omega arith) c.fault-item.is c.requires.placed).1
 
 pub write_next-requires-clause-start : goal.write_next-requires-clause-start
 write_next-requires-clause-start c =
-    let db = c.args.database.now in
+    let db = c.args.database.now.texts in
     let placed = block_placed (length db) c.args.faults.now c.loop-fault.fault-index c.fault-item.result (omega arith) c.fault-item.is c.requires.placed in
     let starts = length_starts db c.in_ok-starts.starts.items (length db) c.in_ok-starts.ensures.starts in
     let there : c.block-at.result < length c.in_ok-starts.starts.items = omega (arith, placed, starts, c.block-at.ensures) in
@@ -69,7 +69,7 @@ write_next-requires-clause-start c =
 
 pub loop-fault-preserved : goal.loop-fault-preserved
 loop-fault-preserved c =
-    let db = c.args.database.now in
+    let db = c.args.database.now.texts in
     let at = c.block-at.result in
     let fault = fault_seen c.fault-item.result in
     let low : c.loop-fault.fault-index < length c.args.faults.now = omega arith in
@@ -101,5 +101,5 @@ loop-fault-preserved c =
 
 pub returns : goal.returns
 returns c =
-    all_said fault_seen c.args.file.now c.args.database.now c.args.first_line c.args.count c.args.faults.now c.loop-fault.fault-index c.loop-fault.places
+    all_said fault_seen c.args.file.now c.args.database.now.texts c.args.first_line c.args.count c.args.faults.now c.loop-fault.fault-index c.loop-fault.places
     c.loop-fault.out.items _ (omega arith) c.loop-fault.invariant

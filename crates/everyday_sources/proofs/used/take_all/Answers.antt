@@ -15,23 +15,25 @@ loop-name-preserved g c =
     let step = rw (c.loop-name.invariant.kept, c.as_slice.ensures.value) at c.in_ok-problem.ensures.taken in
     record {
       rest = λ after last others later.
-          subst (TakesNames c.args.user_defined files dirs c.args.database.now (map rc_slice_items names) (g.T.Tree.failures c.args.tree.now) after last)
+          subst (TakesNames c.args.user_defined files dirs c.args.database.now.texts (map rc_slice_items names) (g.T.Tree.failures c.args.tree.now) after last)
           (sym (ap (λ ps. ps ++ others) c.in_ok-push_problem.ensures ∙ append_assoc (map problem_seen c.loop-name.problems.items) first others))
           (c.loop-name.invariant.rest after last (first ++ others)
-          (one_taken rc_slice_items c.args.user_defined files dirs names c.loop-name.name-index c.name-item.result c.loop-name.database _ last _ _ after
+          (one_taken rc_slice_items c.args.user_defined files dirs names c.loop-name.name-index c.name-item.result c.loop-name.database.texts _ last _ _ after
           first others
           (omega arith) c.name-item.is step later));
       kept = c.take_one.ensures.kept ∙ c.loop-name.invariant.kept;
+      ruled = c.take_one.ensures.rule ∙ c.loop-name.invariant.ruled;
     }
 
 pub returns : goal.returns
 returns g c = record {
   taken =
-      subst (TakesNames c.args.user_defined (g.T.Tree.files c.args.tree.now) (map string_bytes c.args.directories.now) c.args.database.now
-      (map rc_slice_items c.args.names.now) (g.T.Tree.failures c.args.tree.now) (g.T.Tree.failures c.loop-name.tree) c.loop-name.database)
+      subst (TakesNames c.args.user_defined (g.T.Tree.files c.args.tree.now) (map string_bytes c.args.directories.now) c.args.database.now.texts
+      (map rc_slice_items c.args.names.now) (g.T.Tree.failures c.args.tree.now) (g.T.Tree.failures c.loop-name.tree) c.loop-name.database.texts)
       (append-nil (map problem_seen c.loop-name.problems.items))
-      (c.loop-name.invariant.rest (g.T.Tree.failures c.loop-name.tree) c.loop-name.database []
+      (c.loop-name.invariant.rest (g.T.Tree.failures c.loop-name.tree) c.loop-name.database.texts []
       (none_left rc_slice_items c.args.user_defined (g.T.Tree.files c.args.tree.now) (map string_bytes c.args.directories.now) c.args.names.now
-      c.loop-name.name-index c.loop-name.database (g.T.Tree.failures c.loop-name.tree) (omega arith)));
+      c.loop-name.name-index c.loop-name.database.texts (g.T.Tree.failures c.loop-name.tree) (omega arith)));
   kept = c.loop-name.invariant.kept;
+  rule = c.loop-name.invariant.ruled;
 }

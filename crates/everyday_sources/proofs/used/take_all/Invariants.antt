@@ -8,10 +8,11 @@ use Rattle.everyday_sources.proofs.used.take_all.Given as goal
 abbrev pub invariant-loop-name : goal.invariant-loop-name
 invariant-loop-name g l = record {
   rest : (after : ℕ) (last : List (List ℕ)) (others : List ProblemSeen)
-      → TakesNames l.user_defined (g.T.Tree.files l.initial.tree) (map string_bytes l.directories) l.database
+      → TakesNames l.user_defined (g.T.Tree.files l.initial.tree) (map string_bytes l.directories) l.database.texts
       (map rc_slice_items (drop l.name-index l.names)) (g.T.Tree.failures l.tree) after last others
-      → TakesNames l.user_defined (g.T.Tree.files l.initial.tree) (map string_bytes l.directories) l.initial.database (map rc_slice_items l.names)
+      → TakesNames l.user_defined (g.T.Tree.files l.initial.tree) (map string_bytes l.directories) l.initial.database.texts (map rc_slice_items l.names)
       (g.T.Tree.failures l.initial.tree) after last
       (map problem_seen l.problems.items ++ others);
   kept : g.T.Tree.files l.tree ≡ g.T.Tree.files l.initial.tree;
+  ruled : l.database.rule ≡ l.initial.database.rule;
 }

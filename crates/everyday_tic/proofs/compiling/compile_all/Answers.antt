@@ -2,26 +2,28 @@ use Rattle.std.proofs.Common.{◌≡◌, ◌∙◌, Bor, Err, List, ap, inl, inr
 use Rattle.std.proofs.lemmas.Result.{IfOk-weaker}
 use Rattle.base_meaning.specs.Compiled.{EntryState}
 use Rattle.user_compiling.specs.declared.compiled.Compiled.{Compiled}
-use Rattle.everyday_tic.specs.Entries.{AreStatesBy}
+use Rattle.everyday_tic.specs.Entries.{BecomeThese}
 use Rattle.everyday_tic.specs.inside.States.{states_of}
 use Rattle.everyday_tic.proofs.compiling.compile_all.Goals as goal
 
 pub outcome-requires : goal.outcome-requires
 outcome-requires c =
-    let db = c.args.database.now in
+    let db = c.args.database.now.texts in
+    let rule = c.args.database.now.rule in
     record {
       within = c.requires.within;
       found = c.requires.found;
-      as_many = subst (λ (s : List EntryState). length s ≡ length db) (ap (states_of db) (sym c.slice_of.ensures.items)) c.in-Ok.ensures.as_many;
+      as_many = subst (λ (s : List EntryState). length s ≡ length db) (ap (states_of rule db) (sym c.slice_of.ensures.items)) c.in-Ok.ensures.as_many;
       first = c.requires.first;
       kept = c.in-Ok.ensures.kept ∙ sym c.slice_of.ensures.kept;
     }
 
 pub returns-in-Ok : goal.returns-in-Ok
 returns-in-Ok c =
-    let db = c.args.database.now in
-    let states = states_of db (option_map (λ (c : Bor (List Compiled)). c.now) c.slice_of.result) in
-    let are = subst (AreStatesBy c.args.options.now.user_defined db) (ap (states_of db) (sym c.slice_of.ensures.items)) c.in-Ok.ensures.states in
+    let db = c.args.database.now.texts in
+    let rule = c.args.database.now.rule in
+    let states = states_of rule db (option_map (λ (c : Bor (List Compiled)). c.now) c.slice_of.result) in
+    let are = subst (BecomeThese rule c.args.options.now.user_defined db) (ap (states_of rule db) (sym c.slice_of.ensures.items)) c.in-Ok.ensures.states in
     IfOk-weaker c.outcome.result _ _ (λ outcome is. inr (c.in-Ok.ensures.few, states, are, is)) c.outcome.ensures
 
 pub not_compiled-requires : goal.not_compiled-requires

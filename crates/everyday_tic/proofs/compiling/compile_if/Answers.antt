@@ -4,7 +4,7 @@ use Rattle.everyday_tic.proofs.Becoming.{as_many}
 use Rattle.everyday_tic.proofs.compiling.compile_if.Goals as goal
 
 pub returns-in-Ok-clause-as_many : goal.returns-in-Ok-clause-as_many
-returns-in-Ok-clause-as_many c = as_many c.args.database.now c.in-Ok.compiled.items c.in-Ok.ensures.states
+returns-in-Ok-clause-as_many c = as_many c.args.database.now.rule c.args.database.now.texts c.in-Ok.compiled.items c.in-Ok.ensures.states
 
 pub returns-in-Err-clause-too_many : goal.returns-in-Err-clause-too_many
 returns-in-Err-clause-too_many c = λ at e.

@@ -13,7 +13,7 @@ returns-clause-all c =
 
 pub returns-clause-placed : goal.returns-clause-placed
 returns-clause-placed c =
-    let n = length c.args.database.now in
+    let n = length c.args.database.now.texts in
     IfOk-weaker c.copy_faults.result _ _
     (λ all is. subst (All (IsExtendedPlaced n)) (sym (is ∙ ap (map of_profile) (ap (map profile_fault_seen) c.as_slice.ensures.value)))
     (profile_placed n (map profile_fault_seen c.in_ok-faults.faults.items) c.in_ok-faults.ensures.1)) c.copy_faults.ensures

@@ -10,8 +10,9 @@ use Rattle.everyday_tic.proofs.entries.entry_files.Goals as goal
 pub loop-at-preserved : goal.loop-at-preserved
 loop-at-preserved c =
     let o = c.args.options.now in
-    let db = c.args.database.now in
-    let files = block_files o.directory.now (option_map (λ e. e.now) o.entries) db (states_of db (option_map (λ c. c.now) c.args.compiled)) in
+    let db = c.args.database.now.texts in
+    let states = states_of c.args.database.now.rule db (option_map (λ c. c.now) c.args.compiled) in
+    let files = block_files o.directory.now (option_map (λ e. e.now) o.entries) db states in
     let at = c.loop-at.at in
     let filed = c.in_ok-add_block.ensures in
     let counted = files_more c.loop-at.files.items c.add_block.new.files.items (files at) filed in

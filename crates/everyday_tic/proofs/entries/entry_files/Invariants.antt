@@ -8,9 +8,9 @@ use Rattle.everyday_tic.proofs.entries.entry_files.Given as goal
 -- the files of the blocks before, and how many of these have files
 abbrev pub invariant-loop-at : goal.invariant-loop-at
 invariant-loop-at l = record {
-  files : entries l.files.items ≡ first_files l.options.directory.now (option_map (λ e. e.now) l.options.entries) l.database
-      (states_of l.database (option_map (λ c. c.now) l.compiled)) l.at;
-  entries : l.entries ≡ entry_count l.options.directory.now (option_map (λ e. e.now) l.options.entries) l.database
-      (states_of l.database (option_map (λ c. c.now) l.compiled)) l.at;
+  files : entries l.files.items ≡ first_files l.options.directory.now (option_map (λ e. e.now) l.options.entries) l.database.texts
+      (states_of l.database.rule l.database.texts (option_map (λ c. c.now) l.compiled)) l.at;
+  entries : l.entries ≡ entry_count l.options.directory.now (option_map (λ e. e.now) l.options.entries) l.database.texts
+      (states_of l.database.rule l.database.texts (option_map (λ c. c.now) l.compiled)) l.at;
   few : l.entries ≤ l.at;
 }

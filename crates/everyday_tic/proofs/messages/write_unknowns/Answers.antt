@@ -13,11 +13,11 @@ unfolding no_name
 loop-name-preserved c =
     let names = c.args.names.now in
     let at = c.loop-name.name-index in
-    in_turn (λ (name : Bor (List ℕ)). name.now) (unknown_if c.args.database.now c.args.count) names at (get_or names at no_name) c.loop-name.out.items
+    in_turn (λ (name : Bor (List ℕ)). name.now) (unknown_if c.args.database.now.texts c.args.count) names at (get_or names at no_name) c.loop-name.out.items
     c.write_if_unknown.new.out.items _ (omega arith) (get_or_default names at no_name (get_or names at no_name) (omega arith))
     c.in_ok-write_if_unknown.ensures c.loop-name.invariant
 
 pub returns : goal.returns
 returns c =
-    all_in_turn (λ (name : Bor (List ℕ)). name.now) (unknown_if c.args.database.now c.args.count) c.args.names.now c.loop-name.name-index
+    all_in_turn (λ (name : Bor (List ℕ)). name.now) (unknown_if c.args.database.now.texts c.args.count) c.args.names.now c.loop-name.name-index
     c.loop-name.out.items _ (omega arith) c.loop-name.invariant

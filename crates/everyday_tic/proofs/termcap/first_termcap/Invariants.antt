@@ -5,4 +5,4 @@ use Rattle.everyday_tic.proofs.termcap.first_termcap.Given as goal
 
 -- no block so far is termcap
 abbrev pub invariant-loop-at : goal.invariant-loop-at
-invariant-loop-at l = (before : ℕ) (text : List ℕ) → before < l.at → slice_get l.database before ≡ Some text → is_termcap text ≡ false
+invariant-loop-at l = (before : ℕ) (text : List ℕ) → before < l.at → slice_get l.database.texts before ≡ Some text → is_termcap text ≡ false
