@@ -1,5 +1,6 @@
-# Completion for bash of ti, and of the everyday tools ti-tic, ti-infocmp, ti-tput, ti-fmt and
-# ti-lint: options, terminal names from the places of entries, capability names, and files.
+# Completion for bash of ti, and of the everyday tools ti-tic, ti-infocmp, ti-tput, ti-clear,
+# ti-toe, ti-fmt and ti-lint: options, terminal names from the places of entries, capability names,
+# and files.
 
 # The capabilities of terminfo(5), booleans, numbers and strings, in the order of the tables.
 _ti_capabilities='
@@ -169,6 +170,26 @@ _ti_tput() {
     fi
 }
 
+_ti_clear() {
+    local places
+    # options without a value may be in one word with one that has a value, as in -xT
+    if [[ $previous =~ ^-x*T$ ]]; then
+        _ti_places
+        _ti_terminals "${places[@]}"
+    elif [[ $current == -* ]]; then
+        _ti_options -x -T
+    fi
+}
+
+# -h of ti-toe is not help
+_ti_toe() {
+    if [[ $current == -* ]]; then
+        _ti_words -a -h -s --help -V --version
+    else
+        _ti_files -d
+    fi
+}
+
 _ti_fmt() {
     if [[ $current == -* ]]; then
         _ti_options --check -w
@@ -211,7 +232,7 @@ _ti() {
     esac
     case $tool in
         tic | infocmp | tput | session) "_ti_$tool" ;;
-        fmt | lint) [[ -z $everyday ]] || "_ti_$tool" ;;
+        clear | toe | fmt | lint) [[ -z $everyday ]] || "_ti_$tool" ;;
         help) ((COMP_CWORD > 2)) || _ti_words tic infocmp tput session ;;
     esac
     # a name may be in several places
@@ -227,4 +248,4 @@ _ti() {
     fi
 }
 
-complete -F _ti ti ti-tic ti-infocmp ti-tput ti-fmt ti-lint
+complete -F _ti ti ti-tic ti-infocmp ti-tput ti-clear ti-toe ti-fmt ti-lint

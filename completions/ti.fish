@@ -1,5 +1,6 @@
-# Completion for fish of ti, and of the everyday tools ti-tic, ti-infocmp, ti-tput, ti-fmt and
-# ti-lint: options, terminal names from the places of entries, capability names, and files.
+# Completion for fish of ti, and of the everyday tools ti-tic, ti-infocmp, ti-tput, ti-clear,
+# ti-toe, ti-fmt and ti-lint: options, terminal names from the places of entries, capability names,
+# and files.
 
 # The capabilities of terminfo(5), booleans, numbers and strings, in the order of the tables.
 function __ti_capabilities
@@ -179,7 +180,7 @@ complete -c ti -n '__ti_is tput' -o S -d 'Read commands from standard input, one
 
 complete -c ti -n '__ti_is session' -f
 
-for command in ti-tic ti-infocmp ti-tput ti-fmt ti-lint
+for command in ti-tic ti-infocmp ti-tput ti-clear ti-fmt ti-lint
     complete -c $command -s h -l help -d 'Print help'
     complete -c $command -s V -l version -d 'Print version'
 end
@@ -213,10 +214,21 @@ complete -c ti-tput -s T -x -a '(__ti_terminals)' -d 'The terminal'
 complete -c ti-tput -l rate -x -d 'Pad for a line of this many bits per second'
 complete -c ti-tput -s S -d 'Read commands from standard input, one per line'
 
+complete -c ti-clear -f
+complete -c ti-clear -s x -d 'Keep what has scrolled off the screen'
+complete -c ti-clear -s T -x -a '(__ti_terminals)' -d 'The terminal'
+
+complete -c ti-toe -f -a '(__fish_complete_directories)'
+complete -c ti-toe -s a -d 'List all directories that are searched for entries'
+complete -c ti-toe -s h -d 'Print a heading before the entries of each directory'
+complete -c ti-toe -s s -d 'Sort by name; of several directories, mark which has an entry'
+complete -c ti-toe -l help -d 'Print help'
+complete -c ti-toe -s V -l version -d 'Print version'
+
 complete -c ti-fmt -l check -d 'Print the names of files that would change, and write none'
 complete -c ti-fmt -s w -x -d 'Columns of a line, from 20 to 4096'
 
-complete -c ti-lint -s x -d 'Know user-defined capabilities'
+complete -c ti-lint -s x -d 'Read user-defined capabilities too'
 complete -c ti-lint -l strict -d 'Exit with status 1 if there are warnings, too'
 complete -c ti-lint -l fix -d 'Make the fixes that are certain'
 complete -c ti-lint -l format -x -a 'gcc github json' -d 'The form of the report'

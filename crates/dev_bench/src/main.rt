@@ -1,11 +1,11 @@
-//! Times `ti_param::expand` on setaf's usual 256-colour format, and `ti_layout::write` on a small
+//! Times `ti_param::expand` on setaf's usual 256-color format, and `ti_layout::write` on a small
 //! and on a full entry. With a number N as its word it expands N times, writes N entries of each
 //! kind, and prints the nanoseconds of one; with a second word, `expand`, `small` or `full`, it
 //! does only that. With the second word `edits`, `chain` or `circular` it edits a database of N
 //! blocks instead: small ones that use nothing; each with a use of the one before it; a chain as
 //! before, and the first with a use of the last. With `runs` it makes lists of edits in one call: N
 //! insertions in a chain whose owners all come last, N users and then their N owners, and N edits
-//! made at random, these also one by one. Without a word it only shows the bytes for the colours 3,
+//! made at random, these also one by one. Without a word it only shows the bytes for the colors 3,
 //! 12 and 200, in hexadecimal.
 #![tactic(auto)]
 
@@ -28,7 +28,7 @@ use writing::{full_table, small_table, write_all};
 
 const SETAF: &[u8] = b"\x1b[%?%p1%{8}%<%t3%p1%d%e%p1%{16}%<%t9%p1%{8}%-%d%e38;5;%p1%d%;m";
 
-fn colour(number: i32) -> [Value<'static>; 9] {
+fn color(number: i32) -> [Value<'static>; 9] {
     let zero = Value::Number(0);
     [
         Value::Number(number),
@@ -46,7 +46,7 @@ fn colour(number: i32) -> [Value<'static>; 9] {
 fn show<R: Print + AllocGlobal>(rt: &R) -> io::Result<()> {
     let mut statics = Statics::new();
     for number in [3, 12, 200] {
-        match expand(rt.alloc(), SETAF, &colour(number), &mut statics) {
+        match expand(rt.alloc(), SETAF, &color(number), &mut statics) {
             Ok(bytes) => {
                 for byte in &bytes {
                     print!(rt; "{byte:02x}")?;
@@ -64,7 +64,7 @@ fn expand_all<R: AllocGlobal>(rt: &R, count: u32) -> u64 {
     let mut statics = Statics::new();
     let mut total = 0u64;
     for turn in 0..count {
-        let params = colour((turn % 256) as i32);
+        let params = color((turn % 256) as i32);
         if let Ok(bytes) = expand(rt.alloc(), SETAF, &params, &mut statics) {
             total = total.wrapping_add(bytes.len() as u64);
         }

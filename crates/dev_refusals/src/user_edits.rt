@@ -4,7 +4,7 @@ use dev_tried_edits::edits::{expect_unchanged, snapshot};
 use dev_tried_edits::{Tried, Trouble};
 use std::alloc::Global;
 use ti_base::{EditError, Edited};
-use user_compiling::report_of;
+use user_compiling::leftmost::report_of;
 use user_kept::KeptDatabase;
 use user_values::ValuesError;
 

@@ -17,7 +17,7 @@ mod failure;
 mod files;
 mod lines;
 
-pub use everyday_words::Tool;
+pub use everyday_arguments::Tool;
 pub use failure::Failure;
 pub use files::{entry_file, named_file};
 pub use lines::{capability_line, line, status};

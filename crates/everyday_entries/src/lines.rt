@@ -4,7 +4,7 @@ ghost use Rattle.std.specs.String.{string_bytes};
 ghost use Rattle.everyday_entries.specs.Lines.{capability_line, fault_text, line_of, refusal_name, status_of};
 
 use crate::failure::Failure;
-use everyday_words::Tool;
+use everyday_arguments::Tool;
 use std::alloc::{AllocError, Global};
 use ti_layout::ReadError;
 use tools_devices::ToolError;
@@ -134,12 +134,14 @@ fn tput_status(failure: &Failure) -> u8
     }
 }
 
-/// The status of the process of a tool that stops: 2 if no terminal is named, and at bad usage; else
-/// 1, but of `ti-tput` 3 if there is no entry to be had, and 255 at a fault of a device.
+/// The status of the process of a tool that stops: 1 of `ti-clear` and `ti-toe`; of the others 2 if no
+/// terminal is named, and at bad usage; else 1, but of `ti-tput` 3 if there is no entry to be had, and
+/// 255 at a fault of a device.
 pub fn status(tool: Tool, failure: &Failure) -> u8
     ensures { result ≡ status_of tool failure.now }
 {
     match (tool, failure) {
+        (Tool::Clear | Tool::Toe, _) => 1,
         (Tool::Tput, failure) => tput_status(failure),
         (_, Failure::NoName | Failure::Stopped(ToolError::Usage)) => 2,
         _ => 1,

@@ -8,6 +8,4 @@ pub mod Needed
 pub mod Parts
 pub mod Progress
 pub mod Saturating
-pub mod Sending
 pub mod Steps
-pub mod Writing

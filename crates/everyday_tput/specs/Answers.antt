@@ -15,10 +15,10 @@ use Rattle.tools_tput.specs.Entries.{content_named, line_at_rate}
 use Rattle.tools_tput.specs.Results.{AnswersName, AreSent, OneAsksForTooMuch, Reply, Sends, bad_reply, number_text, reply}
 use Rattle.user_extension.specs.Reading.{ReadRow, said}
 use Rattle.user_extension.specs.View.{read_rows}
+use Rattle.everyday_starting.specs.Starting.{AreWritten, OneIsRefused, first_parts, last_parts}
 use Rattle.everyday_tput.specs.Parameters.{arguments}
 use Rattle.everyday_tput.specs.Numbers.{size_in}
 use Rattle.everyday_tput.specs.Sizes.{Sources, column_count, line_count, sources_of, window_columns}
-use Rattle.everyday_tput.specs.Starting.{AreWritten, OneIsRefused, first_parts, last_parts}
 use Rattle.everyday_tput.specs.declared.entry.Entry as declared
 use Rattle.everyday_tput.specs.declared.target.StartFile as declared_file_type
 use Rattle.everyday_tput.specs.declared.target.StartFile.TheVariants as declared_file

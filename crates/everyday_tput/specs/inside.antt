@@ -1,6 +1,5 @@
 -- Words that only private functions and proofs use.
 pub mod Asked
 pub mod Running
-pub mod Starting
 pub mod Strings
 pub mod Terminal

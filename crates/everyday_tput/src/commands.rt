@@ -14,10 +14,10 @@ use crate::sizes::{column_count, line_count};
 use crate::starting::started;
 use crate::strings::{BAD_COMMAND, as_it_stands, cleared, expanded, status_alone};
 use crate::target::Target;
+use everyday_starting::table_text;
 use std::alloc::{AllocError, Global};
-use ti_caps::find;
 use ti_formats::parameters;
-use ti_layout::{Content, View};
+use ti_layout::Content;
 use ti_param::{Line, Statics};
 use tools_tput::TputOutcome;
 
@@ -43,17 +43,6 @@ fn size_named(target: &Target<'_>, cap: &[u8]) -> Option<u32>
         return Some(line_count(target.is_named, &target.lines, view));
     }
     None
-}
-
-/// The string that an entry has of the capability of a name in the tables.
-#[tactic(auto, unfolding(tools_tput::specs::Entries::content_named))]
-pub(crate) fn table_text<'a>(view: &View<'a>, name: &[u8]) -> Option<&'a [u8]>
-    ensures { option_map (λ text. text.now) result ≡ shown_text (content_named (entry_seen view.now) name.now) }
-{
-    match view.get(find(name)?) {
-        Some(Content::Text(text)) => Some(text),
-        _ => None,
-    }
 }
 
 // What clears the scrollback, unless it is to be kept.

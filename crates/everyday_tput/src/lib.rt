@@ -11,10 +11,9 @@
 //!   `strings`
 //! - `asked`: what a name asks for, and whether words may ask for something user-defined
 //!   (`needs_extension`)
+//! - `clearing`: what clear(1) writes (`clear`)
 //! - `parameters`: words as the parameters of a string; `numbers`: what they spell
-//! - `modes`: what `init` and `reset` ask of the modes of the line (`modes_asked`)
-//! - `starting`: what `init` and `reset` write, and the file that an entry names for it (`file_named`);
-//!   `written` writes its parts
+//! - `starting`: the result of `init` and `reset`, of which `everyday_starting` has the parts
 //! - `sizes`: how many columns and lines there are (`Sources`)
 //! - `streaming`: commands read line by line (`tput_lines`); `terminal` takes them, and `words`
 //!   splits a line
@@ -22,10 +21,10 @@
 #![tactic(auto)]
 
 mod asked;
+mod clearing;
 mod commands;
 mod entry;
 pub mod laws;
-mod modes;
 mod numbers;
 mod parameters;
 mod running;
@@ -36,14 +35,12 @@ mod strings;
 mod target;
 mod terminal;
 mod words;
-mod written;
 
 pub use asked::needs_extension;
+pub use clearing::{ClearError, Cleared, clear};
 pub use entry::Entry;
-pub use modes::modes_asked;
 pub use running::{Ending, Stop, Until, tput};
 pub use sizes::Sources;
-pub use starting::file_named;
 pub use streaming::{LinesEnding, tput_lines};
 pub use strings::BAD_COMMAND;
 pub use target::{StartFile, Target};

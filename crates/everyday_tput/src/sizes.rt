@@ -1,15 +1,14 @@
 //! How many columns and lines there are, by the environment, the window and the entry.
 ghost use Rattle.std.specs.Prelude.{◌≡◌, option_and_then, option_map};
-ghost use Rattle.ti_layout.specs.View.{entry_seen, shown_number};
-ghost use Rattle.tools_tput.specs.Entries.{content_named};
+ghost use Rattle.ti_layout.specs.View.{entry_seen};
 ghost use Rattle.everyday_tput.specs.Numbers.{size_in};
 ghost use Rattle.everyday_tput.specs.Answers.{start_last, target_of};
 ghost use Rattle.everyday_tput.specs.Sizes.{column_count, line_count, over_zero, size_by, sources_of, window_columns};
 
 use crate::numbers::size_in;
 use crate::target::Target;
-use ti_caps::find;
-use ti_layout::{Content, View};
+use everyday_starting::table_number;
+use ti_layout::View;
 
 // How many columns there are if nothing says it.
 const USUAL_COLUMNS: u32 = 80;
@@ -46,17 +45,6 @@ fn said(value: Option<&[u8]>) -> Option<u32>
     size_in(value?)
 }
 
-/// The number that an entry has of the capability of a name.
-#[tactic(auto, unfolding(tools_tput::specs::Entries::content_named))]
-pub(crate) fn inherent(view: &View<'_>, name: &[u8]) -> Option<u32>
-    ensures { result ≡ shown_number (content_named (entry_seen view.now) name.now) }
-{
-    match view.get(find(name)?) {
-        Some(Content::Number(number)) => Some(number),
-        _ => None,
-    }
-}
-
 // A number, if it is over 0.
 fn over_zero(number: Option<u32>) -> Option<u32>
     ensures { result ≡ over_zero number }
@@ -86,7 +74,12 @@ fn size(is_named: bool, sources: &Sources<'_>, inherent: Option<u32>, usual: u32
 pub(crate) fn column_count(is_named: bool, sources: &Sources<'_>, view: &View<'_>) -> u32
     ensures { result ≡ column_count is_named (sources_of sources.now) (entry_seen view.now) }
 {
-    size(is_named, sources, inherent(view, b"cols"), USUAL_COLUMNS)
+    size(
+        is_named,
+        sources,
+        table_number(view, b"cols"),
+        USUAL_COLUMNS,
+    )
 }
 
 /// How many lines there are: by the variable `LINES`, unless the terminal is named by `-T`; by the
@@ -94,7 +87,7 @@ pub(crate) fn column_count(is_named: bool, sources: &Sources<'_>, view: &View<'_
 pub(crate) fn line_count(is_named: bool, sources: &Sources<'_>, view: &View<'_>) -> u32
     ensures { result ≡ line_count is_named (sources_of sources.now) (entry_seen view.now) }
 {
-    size(is_named, sources, inherent(view, b"lines"), USUAL_LINES)
+    size(is_named, sources, table_number(view, b"lines"), USUAL_LINES)
 }
 
 // How many columns the window has, if it has lines too.

@@ -1,16 +1,16 @@
 //! The result of a string of a capability: padded, and expanded with words if there are any.
-ghost use Rattle.std.specs.Prelude.{◌≡◌, ◌∷◌, ℤ, List, [], IfOk, map, option_map};
+ghost use Rattle.std.specs.Prelude.{◌≡◌, ℤ, List, [], IfOk, map, option_map};
 ghost use Rattle.ti_formats.specs.Parameters.{TakesParameters};
 ghost use Rattle.ti_formats.specs.declared.taken.TakenParameters.{TakenParameters};
 ghost use Rattle.tools_tput.specs.Replies.{reply_of};
 ghost use Rattle.tools_tput.specs.Results.{Sends, bad_reply};
 ghost use Rattle.everyday_tput.specs.Answers.{AnswersClear, AnswersString, with_words};
-ghost use Rattle.everyday_tput.specs.inside.Strings.{Pads, PadsAll, given_texts};
 
 use crate::parameters::arguments;
+use everyday_starting::{pad_both, pad_once, pad_output};
 use std::alloc::{AllocError, Global};
 use ti_formats::TakenParameters;
-use ti_param::{Line, PadError, ParamError, Statics, expand, pad, pad_owned};
+use ti_param::{Line, ParamError, Statics, expand};
 use tools_tput::TputOutcome;
 
 /// The exit status of a capability that is unknown, or whose string is bad.
@@ -27,36 +27,6 @@ pub(crate) fn status_alone(alloc: Global, status: u8) -> TputOutcome
     TputOutcome {
         bytes: Vec::new(alloc),
         status,
-    }
-}
-
-/// A string padded for one line; `None` if that is too much padding.
-pub(crate) fn pad_once(
-    alloc: Global,
-    text: &[u8],
-    line: &Line,
-) -> Result<Option<Vec<u8>>, AllocError>
-    ensures { IfOk result (λ found. Pads line.now text.now found) }
-{
-    match pad(alloc, text, 1, line) {
-        Ok(bytes) => Ok(Some(bytes)),
-        Err(PadError::TooMuch) => Ok(None),
-        Err(PadError::Memory) => Err(AllocError),
-    }
-}
-
-/// A string that an expansion made, padded for one line; `None` if that is too much padding.
-pub(crate) fn pad_output(
-    alloc: Global,
-    output: Vec<u8>,
-    line: &Line,
-) -> Result<Option<Vec<u8>>, AllocError>
-    ensures { IfOk result (λ found. Pads line.now output.items found) }
-{
-    match pad_owned(alloc, output, 1, line) {
-        Ok(bytes) => Ok(Some(bytes)),
-        Err(PadError::TooMuch) => Ok(None),
-        Err(PadError::Memory) => Err(AllocError),
     }
 }
 
@@ -105,35 +75,6 @@ pub(crate) fn expanded(
         Err(ParamError::StackFull(_)) => Ok(status_alone(alloc, BAD_COMMAND)),
         Err(ParamError::Memory) => Err(AllocError),
     }
-}
-
-// A string, if there is one, padded for one line; `None` if that is too much padding.
-fn pad_given(alloc: Global, text: Option<&[u8]>, line: &Line) -> Result<Option<Vec<u8>>, AllocError>
-    ensures { IfOk result (λ found. PadsAll line.now (given_texts (text.entry ∷ [])) found) }
-{
-    match text {
-        Some(text) => pad_once(alloc, text, line),
-        None => Ok(Some(Vec::new(alloc))),
-    }
-}
-
-// Two strings, each if it is there, padded one after the other; `None` if one has too much padding.
-fn pad_both(
-    alloc: Global,
-    first: Option<&[u8]>,
-    second: Option<&[u8]>,
-    line: &Line,
-) -> Result<Option<Vec<u8>>, AllocError>
-    ensures { IfOk result (λ found. PadsAll line.now (given_texts (first.entry ∷ second.entry ∷ [])) found) }
-{
-    let Some(mut bytes) = pad_given(alloc, first, line)? else {
-        return Ok(None);
-    };
-    let Some(more) = pad_given(alloc, second, line)? else {
-        return Ok(None);
-    };
-    bytes.extend_from_slice(more.as_slice())?;
-    Ok(Some(bytes))
 }
 
 /// The result of `clear`: the string of that name, and then what clears the scrollback, each if it

@@ -16,8 +16,8 @@ use Rattle.everyday_words.specs.Requests.{Wanted}
 use Rattle.everyday_words.specs.inside.Answers.{AnswersTaken}
 use Rattle.everyday_words.specs.declared.arguments.Refusal.{Refusal}
 use Rattle.everyday_words.specs.declared.arguments.Refusal.TheVariants as refusal
-use Rattle.everyday_words.specs.declared.names.Tool.{Tool}
-use Rattle.everyday_words.specs.declared.names.Tool.TheVariants as tool
+use Rattle.everyday_arguments.specs.declared.names.Tool.{Tool}
+use Rattle.everyday_arguments.specs.declared.names.Tool.TheVariants as tool
 use Rattle.everyday_words.specs.declared.requests.Request.{Request}
 
 is_tool_simple : (lists : Lists) (t : Tool) → is_simple (tool_app lists t) ≡ true
@@ -27,6 +27,8 @@ is_tool_simple lists tool.Infocmp = refl
 is_tool_simple lists tool.Tput = refl
 is_tool_simple lists tool.Fmt = refl
 is_tool_simple lists tool.Lint = refl
+is_tool_simple lists tool.Clear = refl
+is_tool_simple lists tool.Toe = refl
 
 is_tool_free : (lists : Lists) (t : Tool) → is_simple_and_free (tool_app lists t) ≡ true
 unfolding tool_app
@@ -35,6 +37,8 @@ is_tool_free lists tool.Infocmp = refl
 is_tool_free lists tool.Tput = refl
 is_tool_free lists tool.Fmt = refl
 is_tool_free lists tool.Lint = refl
+is_tool_free lists tool.Clear = refl
+is_tool_free lists tool.Toe = refl
 
 pub asked-matches : (t : Tool) (app : App) (words : List Text) (matches : ArgMatches) (lists : Lists) → app ≡ tool_app lists t
     → HasMatchesOf app words matches → asked_by t (matched_rows matches) ≡ asked_of t (tool_app lists t) words

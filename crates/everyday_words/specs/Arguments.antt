@@ -11,19 +11,21 @@ use Rattle.clap.specs.declared.error.kind.ErrorKind.{ErrorKind}
 use Rattle.clap.specs.declared.error.kind.ErrorKind.TheVariants.{DisplayHelp, DisplayVersion, OutOfMemory}
 use Rattle.tools_commands.specs.Mistakes.{mistake_text}
 use Rattle.tools_commands.specs.declared.mistakes.Mistake.{Mistake}
+use Rattle.everyday_words.specs.ClearWords.{clear_asked}
 use Rattle.everyday_words.specs.Commands.{OfTool}
 use Rattle.everyday_words.specs.FmtWords.{fmt_asked}
 use Rattle.everyday_words.specs.Foreign.{refused_option, unsupported_text}
 use Rattle.everyday_words.specs.InfocmpWords.{infocmp_asked}
 use Rattle.everyday_words.specs.LintWords.{lint_asked}
-use Rattle.everyday_words.specs.Names.{shown_name}
+use Rattle.everyday_arguments.specs.Names.{shown_name}
 use Rattle.everyday_words.specs.Requests.{Wanted, wanted_of}
 use Rattle.everyday_words.specs.TicWords.{tic_asked}
+use Rattle.everyday_words.specs.ToeWords.{toe_asked}
 use Rattle.everyday_words.specs.TputWords.{tput_asked}
 use Rattle.everyday_words.specs.declared.arguments.Refusal.{Refusal}
 use Rattle.everyday_words.specs.declared.arguments.Refusal.TheVariants.{Usage, Text as Shown, Memory}
-use Rattle.everyday_words.specs.declared.names.Tool.{Tool}
-use Rattle.everyday_words.specs.declared.names.Tool.TheVariants as tool
+use Rattle.everyday_arguments.specs.declared.names.Tool.{Tool}
+use Rattle.everyday_arguments.specs.declared.names.Tool.TheVariants as tool
 use Rattle.everyday_words.specs.declared.requests.Request.{Request}
 
 -- what words ask for, or a sentence that says what is wrong with them
@@ -37,6 +39,8 @@ supported_asked tool.Infocmp rows = infocmp_asked rows
 supported_asked tool.Tput rows = tput_asked rows
 supported_asked tool.Fmt rows = fmt_asked rows
 supported_asked tool.Lint rows = lint_asked rows
+supported_asked tool.Clear rows = Ok (clear_asked rows)
+supported_asked tool.Toe rows = Ok (toe_asked rows)
 
 -- a mistake as a sentence
 abbrev pub in_words : Result Wanted Mistake → Asked

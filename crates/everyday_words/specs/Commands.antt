@@ -1,28 +1,16 @@
--- The command lines of the tools, as what clap reads of them (tic(1), infocmp(1), tput(1)).
-use Rattle.std.specs.Prelude.{◌≡◌, codes, map, true, Some, [], ◌∷◌}
+-- The command lines of the tools, as what clap reads of them (tic(1), infocmp(1), tput(1), clear(1),
+-- toe(1)).
+use Rattle.std.specs.Prelude.{◌≡◌, codes, map, [], ◌∷◌}
 use Rattle.ti_text.specs.Ascii.{byte_of}
-use Rattle.clap.specs.Simple.{App, new_app, new_rule, on_top, with_rule}
-use Rattle.clap.specs.Walk.{Rule, Text}
-use Rattle.clap.specs.declared.builder.action.ArgAction.TheVariants.{SetTrue}
-use Rattle.clap.specs.declared.builder.value_parser.ValueParser.TheVariants as parser
+use Rattle.clap.specs.Simple.{App, with_rule}
 use Rattle.tools_commands.specs.Commands.{rate_max}
 use Rattle.tools_commands.specs.InfocmpWords.{IsOrders, first_mode_rules, layout_rules, name_rules, other_mode_rules, width_max, width_min}
-use Rattle.tools_commands.specs.Rules.{Choices, flag_rule, long_number_rule, long_option_rule, number_rule, operand_rule, operands_rule, option_rule}
+use Rattle.tools_commands.specs.Rules.{Choices, flag_rule, long_number_rule, number_rule, operand_rule, operands_rule, option_rule}
+use Rattle.everyday_arguments.specs.Lines.{everyday_app}
+use Rattle.everyday_arguments.specs.Rules.{long_choice_rule, long_flag_rule}
 use Rattle.everyday_words.specs.Foreign.{with_foreign}
-use Rattle.everyday_words.specs.declared.names.Tool.{Tool}
-use Rattle.everyday_words.specs.declared.names.Tool.TheVariants as tool
-
--- a command of that name that says its version, of which an option may be said again
-abbrev pub everyday_app : Text → App
-everyday_app name = on_top (λ top. record top { has_version = true; args_override_self = true }) (new_app name)
-
--- an option that is on or off, which has only a long name, such as `--check`
-abbrev pub long_flag_rule : Text → Rule
-long_flag_rule id = record (new_rule id) { long = Some id; action = Some SetTrue }
-
--- an option whose value is one of some names, which has only a long name, such as `--format gcc`
-abbrev pub long_choice_rule : Text → Choices → Rule
-long_choice_rule id names = record (long_option_rule id) { parser = Some (parser.Names names) }
+use Rattle.everyday_arguments.specs.declared.names.Tool.{Tool}
+use Rattle.everyday_arguments.specs.declared.names.Tool.TheVariants as tool
 
 -- `ti-tic [-c] [-s] [-x] ..`
 abbrev pub tic_flags_app : App
@@ -91,6 +79,20 @@ lint_app forms colors = with_rule (with_rule (with_rule lint_flags_app
     (long_choice_rule (codes "color") colors))
     (operands_rule (codes "files"))
 
+-- `ti-clear [-x] [-T TERM]`
+abbrev pub clear_app : App
+clear_app = with_rule (with_rule (everyday_app (codes "ti-clear"))
+    (flag_rule (codes "keep") (byte_of "x")))
+    (option_rule (codes "term") (byte_of "T"))
+
+-- `ti-toe [-a] [-h] [-s] [DIR..]`
+abbrev pub toe_app : App
+toe_app = with_rule (with_rule (with_rule (with_rule (everyday_app (codes "ti-toe"))
+    (flag_rule (codes "all") (byte_of "a")))
+    (flag_rule (codes "headings") (byte_of "h")))
+    (flag_rule (codes "sorted") (byte_of "s")))
+    (operands_rule (codes "directories"))
+
 -- lists of names, each wherever it is in memory: of the orders of `ti-infocmp`, of the forms of
 -- `ti-lint`, and of when that uses colors
 pub record Lists : Type 0 where
@@ -111,6 +113,8 @@ tool_app lists tool.Infocmp = with_foreign tool.Infocmp (infocmp_app lists.order
 tool_app lists tool.Tput = tput_app
 tool_app lists tool.Fmt = fmt_app
 tool_app lists tool.Lint = lint_app lists.forms lists.colors
+tool_app lists tool.Clear = clear_app
+tool_app lists tool.Toe = with_foreign tool.Toe toe_app
 
 -- what holds of a tool's command line. Nothing that clap reads depends on the places of the names in
 -- memory, so this is said of some such places, or of each.

@@ -1,20 +1,23 @@
--- Options of ncurses's tools that help does not show (tic(1) and infocmp(1) of ncurses 6.4): those
+-- Options of ncurses's tools that help does not show (tic(1), infocmp(1) and toe(1) of ncurses 6.4): those
 -- that are taken, which but for one change nothing, and those that are refused by name.
-use Rattle.std.specs.Prelude.{ℕ, ◌++◌, Bool, is_some, if◌then◌else◌, List, [], ◌∷◌, codes, Option, Some, None}
+use Rattle.std.specs.Prelude.{ℕ, ◌++◌, if◌then◌else◌, List, [], ◌∷◌, codes, Option, Some, None}
 use Rattle.clap.specs.Simple.{App, with_rule}
-use Rattle.clap.specs.Walk.{Row, Text, first_of}
+use Rattle.clap.specs.Walk.{Row, Text}
 use Rattle.tools_commands.specs.Matches.{is_on}
 use Rattle.tools_commands.specs.Rules.{flag_rule, option_rule}
-use Rattle.everyday_words.specs.declared.names.Tool.{Tool}
-use Rattle.everyday_words.specs.declared.names.Tool.TheVariants as tool
+use Rattle.everyday_arguments.specs.Rules.{is_given}
+use Rattle.everyday_arguments.specs.declared.names.Tool.{Tool}
+use Rattle.everyday_arguments.specs.declared.names.Tool.TheVariants as tool
 
 -- ---- which there are, by their letters
 
 -- options that are on or off, and are taken. Those of `ti-tic` are about translations and traces of
--- ncurses, the digits among them after `-Q`, `-v` and `-w`. `-a` of `ti-infocmp` is its `-x`.
+-- ncurses, the digits among them after `-Q`, `-v` and `-w`; so are those of `ti-toe`. `-a` of
+-- `ti-infocmp` is its `-x`.
 abbrev pub taken_flags : Tool → List ℕ
 taken_flags tool.Tic = codes "0123456789fGgKNQqrTtUvWw"
 taken_flags tool.Infocmp = codes "alTtU"
+taken_flags tool.Toe = codes "0123456789v"
 taken_flags _ = []
 
 -- options with a value that are taken, and change nothing
@@ -32,6 +35,7 @@ refused_flags _ = []
 -- options with a value that are refused
 abbrev pub refused_values : Tool → List ℕ
 refused_values tool.Infocmp = codes "QR"
+refused_values tool.Toe = codes "uU"
 refused_values _ = []
 
 -- ---- what they are to clap, each by its letter
@@ -52,10 +56,6 @@ with_foreign t app =
     with_values (refused_values t) (with_flags (refused_flags t) (with_values (taken_values t) (with_flags (taken_flags t) app)))
 
 -- ---- which is refused
-
--- whether an option with a value is given
-abbrev pub is_given : Text → List Row → Bool
-is_given id rows = is_some (first_of id rows)
 
 -- the first of these options that is on, else what else there is
 abbrev pub first_on : List ℕ → List Row → Option Text → Option Text

@@ -1,12 +1,13 @@
 -- The definitions that the contracts of this crate cite.
 pub mod Arguments
+pub mod ClearWords
 pub mod Commands
 pub mod FmtWords
 pub mod Foreign
 pub mod InfocmpWords
 pub mod LintWords
-pub mod Names
 pub mod Requests
 pub mod TicWords
+pub mod ToeWords
 pub mod TputWords
 pub mod inside

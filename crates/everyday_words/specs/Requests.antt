@@ -4,6 +4,7 @@ use Rattle.std.specs.String.{string_bytes}
 use Rattle.clap.specs.Walk.{Text}
 use Rattle.ti_list.specs.declared.layout.Layout.{Layout}
 use Rattle.tools_commands.specs.declared.jobs.InfocmpMode.{InfocmpMode}
+use Rattle.everyday_words.specs.declared.requests.ClearRequest.{ClearRequest}
 use Rattle.everyday_words.specs.declared.requests.FmtRequest.{FmtRequest}
 use Rattle.everyday_words.specs.declared.requests.InfocmpRequest.{InfocmpRequest}
 use Rattle.everyday_words.specs.declared.requests.LintColor.{LintColor}
@@ -12,6 +13,7 @@ use Rattle.everyday_words.specs.declared.requests.LintRequest.{LintRequest}
 use Rattle.everyday_words.specs.declared.requests.Request.{Request}
 use Rattle.everyday_words.specs.declared.requests.Request.TheVariants as request
 use Rattle.everyday_words.specs.declared.requests.TicRequest.{TicRequest}
+use Rattle.everyday_words.specs.declared.requests.ToeRequest.{ToeRequest}
 use Rattle.everyday_words.specs.declared.requests.TputRequest.{TputRequest}
 
 -- of `ti-tic`: whether it is only to report, whether it is to say how much it wrote, whether
@@ -62,6 +64,19 @@ pub record LintWanted : Type 0 where
   pub color : LintColor
   pub files : List Text
 
+-- of `ti-clear`: whether what has scrolled off the screen is kept, and the terminal if it is given
+pub record ClearWanted : Type 0 where
+  pub keeps_scrollback : Bool
+  pub term : Option Text
+
+-- of `ti-toe`: whether all directories that are searched are listed, whether each has a heading,
+-- whether entries are sorted, and the directories, none for those that are searched
+pub record ToeWanted : Type 0 where
+  pub all : Bool
+  pub headings : Bool
+  pub sorted : Bool
+  pub directories : List Text
+
 -- what is asked of a tool; `wants_outputs` asks for the directories for entries, given that of `-o`
 pub data Wanted : Type 0 where
   wants_tic : TicWanted → Wanted
@@ -71,6 +86,8 @@ pub data Wanted : Type 0 where
   wants_tput : TputWanted → Wanted
   wants_fmt : FmtWanted → Wanted
   wants_lint : LintWanted → Wanted
+  wants_clear : ClearWanted → Wanted
+  wants_toe : ToeWanted → Wanted
 
 -- ---- a request that holds its words in memory, as plain data
 
@@ -121,6 +138,14 @@ lint_seen r = record {
   files = map string_bytes r.files.items;
 }
 
+-- of `ti-clear`
+abbrev pub clear_seen : ClearRequest → ClearWanted
+clear_seen r = record { keeps_scrollback = r.keeps_scrollback; term = option_map string_bytes r.term }
+
+-- of `ti-toe`
+abbrev pub toe_seen : ToeRequest → ToeWanted
+toe_seen r = record { all = r.all; headings = r.headings; sorted = r.sorted; directories = map string_bytes r.directories.items }
+
 -- of any tool
 abbrev pub wanted_of : Request → Wanted
 wanted_of (request.Tic r) = wants_tic (tic_seen r)
@@ -130,3 +155,5 @@ wanted_of request.Directories = wants_directories
 wanted_of (request.Tput r) = wants_tput (tput_seen r)
 wanted_of (request.Fmt r) = wants_fmt (fmt_seen r)
 wanted_of (request.Lint r) = wants_lint (lint_seen r)
+wanted_of (request.Clear r) = wants_clear (clear_seen r)
+wanted_of (request.Toe r) = wants_toe (toe_seen r)

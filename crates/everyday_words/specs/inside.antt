@@ -3,4 +3,3 @@
 pub mod Answers
 pub mod Choice
 pub mod Commands
-pub mod Rules

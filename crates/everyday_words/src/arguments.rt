@@ -10,17 +10,19 @@ ghost use Rattle.everyday_words.specs.Requests.{Wanted};
 ghost use Rattle.everyday_words.specs.inside.Answers.{Answers, AnswersTaken};
 ghost use Rattle.everyday_words.specs.declared.arguments.Refusal.TheVariants.{Memory};
 
+use crate::clear_words::clear_request;
 use crate::commands::{command, unsupported_option};
 use crate::fmt_words::fmt_request;
 use crate::infocmp_words::infocmp_request;
 use crate::lint_words::lint_request;
 use crate::mistakes::NoRequest;
-use crate::names::Tool;
 use crate::requests::Request;
 use crate::tic_words::tic_request;
+use crate::toe_words::toe_request;
 use crate::tput_words::tput_request;
 use clap::ArgMatches;
 use clap::error::ErrorKind;
+use everyday_arguments::Tool;
 use std::alloc::{AllocError, Global};
 
 /// Why words ask for nothing that a tool does, with the message for them, which ends with a
@@ -67,6 +69,8 @@ fn tool_request(alloc: Global, tool: Tool, matches: &ArgMatches<'_>) -> Result<R
         Tool::Tput => tput_request(alloc, matches),
         Tool::Fmt => fmt_request(alloc, matches),
         Tool::Lint => lint_request(alloc, matches),
+        Tool::Clear => Ok(clear_request(alloc, matches)?),
+        Tool::Toe => Ok(toe_request(alloc, matches)?),
     }
 }
 

@@ -1,79 +1,43 @@
-//! The command line of each tool, for clap: its options, their help and examples.
-ghost use Rattle.std.specs.Prelude.{◌≡◌, IfOk, List, false, option_map};
-ghost use Rattle.std.specs.List.{fold};
+//! The command line of each tool, for clap.
+ghost use Rattle.std.specs.Prelude.{◌≡◌, IfOk, List, option_map};
 ghost use Rattle.clap.specs.Walk.{Row};
 ghost use Rattle.clap.specs.Words.{app_of};
-ghost use Rattle.clap.specs.declared.builder.Command.TheViews.{out-Command as fields_of};
-ghost use Rattle.everyday_words.specs.Commands.{AreLists, OfTool, everyday_app, tool_app};
+ghost use Rattle.everyday_words.specs.Commands.{AreLists, OfTool, tool_app};
 ghost use Rattle.tools_commands.specs.Matches.{matched_rows};
 ghost use Rattle.everyday_words.specs.Foreign.{refused_option};
-ghost use Rattle.everyday_words.specs.inside.Rules.{first_refused};
-ghost use Rattle.everyday_words.specs.inside.Commands.{app_for, lists_of, with_argument};
+ghost use Rattle.everyday_arguments.specs.Lines.{app_for};
+ghost use Rattle.everyday_arguments.specs.Rules.{first_refused};
+ghost use Rattle.everyday_words.specs.inside.Commands.{lists_of};
 
+use crate::clear_words::CLEAR;
 use crate::fmt_words::FMT;
 use crate::infocmp_words::INFOCMP;
 use crate::lint_words::LINT;
-use crate::names::Tool;
-use crate::rules::{Argument, refused_option};
 use crate::tic_words::TIC;
+use crate::toe_words::TOE;
 use crate::tput_words::TPUT;
 use clap::{ArgMatches, Command};
+use everyday_arguments::{CommandLine, Tool, refused_option};
 use std::alloc::{AllocError, Global};
 
 /// The version of the tools.
 pub const VERSION: &str = "1.1.0";
 
-/// The same of a tool that takes the place of one of ncurses's. Builds look for the last words.
-pub(crate) const VERSION_IN_PLACE: &str = "1.1.0 (in the place of ncurses 6.4)";
+/// The same of a tool that takes the place of one of ncurses's. Builds look for the last words: for
+/// `ncurses`, and for a version with a date.
+pub(crate) const VERSION_IN_PLACE: &str = "1.1.0 (in the place of ncurses 6.4.20221231)";
 
-/// The command line of a tool: its name, what it does, its arguments, and what help says below
-/// them.
-#[derive(Clone, Copy)]
-pub(crate) struct CommandLine<'a> {
-    pub(crate) name: &'a str,
-    pub(crate) version: &'a str,
-    pub(crate) about: &'a str,
-    pub(crate) arguments: &'a [Argument<'a>],
-    pub(crate) notes: &'a str,
-}
-
-// The command of a command line without its arguments. An option may be said again, and it says its
-// version.
-fn described<'a>(alloc: Global, line: &CommandLine<'a>) -> Command<'a>
-    ensures app { app_of result ≡ everyday_app line.now.name.now }
-    ensures local { (fields_of result).has_globals ≡ false }
-{
-    Command::new(alloc, line.name)
-        .version(line.version)
-        .args_override_self(true)
-        .about(line.about)
-        .after_help(line.notes)
-}
-
-// The command with these arguments after those that it has.
-fn with_arguments<'a>(
-    alloc: Global,
-    mut command: Command<'a>,
-    arguments: &[Argument<'a>],
-) -> Result<Command<'a>, AllocError>
-    requires { (fields_of command).has_globals ≡ false }
-    ensures app { IfOk result (λ r. app_of r ≡ fold with_argument (app_of command.entry) arguments.now) }
-    ensures local { IfOk result (λ r. (fields_of r).has_globals ≡ false) }
-{
-    for argument in arguments {
-        command = command.arg(argument.to_argument(alloc))?;
-    }
-    Ok(command)
-}
-
-impl<'a> CommandLine<'a> {
-    // The command line, as clap takes it.
-    fn command(&self, alloc: Global) -> Result<Command<'a>, AllocError>
-        ensures { IfOk result (λ command. app_of command ≡ app_for self.now) }
-    {
-        let command = described(alloc, self);
-        with_arguments(alloc, command, self.arguments)
-    }
+/// An option of ncurses's that help does not show: a form, and the letter as the name that the matches
+/// have for it and as it is given.
+#[macro_export]
+macro_rules! foreign {
+    ($form:ident, $id:literal, $letter:literal) => {
+        Argument {
+            id: $id,
+            form: Form::$form($letter),
+            help: "",
+        }
+    };
 }
 
 // The command line of a tool.
@@ -89,6 +53,8 @@ fn command_line(tool: Tool) -> CommandLine<'static>
         Tool::Tput => TPUT,
         Tool::Fmt => FMT,
         Tool::Lint => LINT,
+        Tool::Clear => CLEAR,
+        Tool::Toe => TOE,
     }
 }
 

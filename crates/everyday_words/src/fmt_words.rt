@@ -5,13 +5,13 @@ ghost use Rattle.tools_commands.specs.Matches.{matched_rows};
 ghost use Rattle.everyday_words.specs.FmtWords.{columns_for, fmt_asked, fmt_with, is_dash};
 ghost use Rattle.everyday_words.specs.inside.Answers.{Answers};
 
-use crate::commands::{CommandLine, VERSION};
-use crate::infocmp_words::{WIDTH_MAX, WIDTH_MIN, width_in};
-use crate::matches::{is_on, texts, value, values};
+use crate::commands::VERSION;
 use crate::mistakes::NoRequest;
 use crate::requests::{FmtRequest, Request};
-use crate::rules::{Argument, Form};
 use clap::ArgMatches;
+use everyday_arguments::{
+    Argument, CommandLine, Form, WIDTH_MAX, WIDTH_MIN, is_on, texts, value, values, width_in,
+};
 use std::alloc::Global;
 use tools_commands::Mistake;
 

@@ -7,25 +7,20 @@ ghost use Rattle.everyday_words.specs.InfocmpWords.{infocmp_asked, listing_asked
 ghost use Rattle.everyday_words.specs.inside.Choice.{choice_from, choice_with};
 ghost use Rattle.everyday_words.specs.inside.Answers.{Answers};
 
-use crate::commands::{CommandLine, VERSION_IN_PLACE};
+use crate::commands::VERSION_IN_PLACE;
 use crate::foreign;
-use crate::matches::{is_on, text, texts, value, values};
 use crate::mistakes::NoRequest;
 use crate::requests::{InfocmpRequest, Request};
-use crate::rules::{Argument, Form};
 use clap::ArgMatches;
+use everyday_arguments::{
+    Argument, CommandLine, Form, WIDTH_MAX, WIDTH_MIN, is_on, text, texts, value, values, width_in,
+};
 use std::alloc::Global;
 use ti_list::{Layout, Order};
 use tools_commands::{InfocmpMode, Mistake};
 
 // The width of a listing's lines if none is given.
 const WIDTH: usize = 60;
-
-/// The least width that may be asked for.
-pub(crate) const WIDTH_MIN: usize = 20;
-
-/// The greatest width that may be asked for.
-pub(crate) const WIDTH_MAX: usize = 4096;
 
 /// `ti-infocmp [-x] [-I|-d|-c|-n|-u] [-1] [-w N] [-s d|i] [-D] [-A DIR] [-B DIR] [NAME..]`.
 pub(crate) const INFOCMP: CommandLine<'static> = CommandLine {
@@ -187,16 +182,6 @@ fn mode_of(choice: Choice, names: usize) -> Result<InfocmpMode, Mistake>
         Choice::Nothing => Ok(InfocmpMode::List),
         Choice::One(mode) => Ok(mode),
         Choice::Two(first, second) => Err(Mistake::TwoModes(first, second)),
-    }
-}
-
-/// The width that a text says.
-pub(crate) fn width_in(text: &str) -> Option<usize>
-    ensures { result ≡ width_for (Some text.now) }
-{
-    match text.parse::<usize>() {
-        Ok(width) if width >= WIDTH_MIN && width <= WIDTH_MAX => Some(width),
-        _ => None,
     }
 }
 

@@ -9,35 +9,32 @@
 //! }
 //! ```
 //!
-//! - `names`: the tools, and the names by which they are called (`called_tool`,
-//!   `called_words`)
 //! - `requests`: what may be asked for (`Request`)
 //! - `arguments`: what the words ask for, or why they ask for nothing, and the message (`request`)
-//! - `commands`: the command line of each tool, for clap (`command`); `rules` has the kinds of
-//!   options, and `tic_words`, `infocmp_words`, `tput_words`, `fmt_words` and `lint_words` the
-//!   options of each tool, and what they ask for
-//! - `matches`: what clap's matches say of an argument; `mistakes`: why words that clap takes ask for
-//!   nothing
+//! - `commands`: the command line of each tool, for clap (`command`), of which `everyday_arguments`
+//!   has the parts; `tic_words`, `infocmp_words`, `tput_words`, `fmt_words`, `lint_words`,
+//!   `clear_words` and `toe_words` have the options of each tool, and what they ask for
+//! - `mistakes`: why words that clap takes ask for nothing
 #![tactic(auto)]
 
 mod arguments;
+mod clear_words;
 mod commands;
 mod fmt_words;
 mod infocmp_words;
 mod lint_words;
-mod matches;
 mod mistakes;
-mod names;
 mod requests;
-mod rules;
 mod tic_words;
+mod toe_words;
 mod tput_words;
 
 pub use arguments::{Refusal, request};
 pub use commands::{VERSION, command};
-pub use names::{Tool, called_tool, called_words};
+pub use everyday_arguments::{Tool, called_tool, called_words};
 pub use requests::{
-    FmtRequest, InfocmpRequest, LintColor, LintForm, LintRequest, Request, TicRequest, TputRequest,
+    ClearRequest, FmtRequest, InfocmpRequest, LintColor, LintForm, LintRequest, Request,
+    TicRequest, ToeRequest, TputRequest,
 };
 pub use ti_list::{Layout, Order};
 pub use tools_commands::{InfocmpMode, Mistake};

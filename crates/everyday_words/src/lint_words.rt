@@ -5,13 +5,12 @@ ghost use Rattle.tools_commands.specs.Matches.{matched_rows};
 ghost use Rattle.everyday_words.specs.LintWords.{color_for, form_for, lint_asked, lint_with};
 ghost use Rattle.everyday_words.specs.inside.Answers.{Answers};
 
-use crate::commands::{CommandLine, VERSION};
+use crate::commands::VERSION;
 use crate::fmt_words::is_dash;
-use crate::matches::{is_on, texts, value, values};
 use crate::mistakes::NoRequest;
 use crate::requests::{LintColor, LintForm, LintRequest, Request};
-use crate::rules::{Argument, Form};
 use clap::ArgMatches;
+use everyday_arguments::{Argument, CommandLine, Form, is_on, texts, value, values};
 use std::alloc::Global;
 use tools_commands::Mistake;
 
@@ -24,7 +23,7 @@ pub(crate) const LINT: CommandLine<'static> = CommandLine {
         Argument {
             id: "user",
             form: Form::Flag('x'),
-            help: "Know user-defined capabilities, such as Tc or Smulx",
+            help: "Read user-defined capabilities too, such as Tc or Smulx",
         },
         Argument {
             id: "strict",

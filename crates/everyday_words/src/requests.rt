@@ -101,6 +101,28 @@ pub struct LintRequest {
     pub files: Vec<String>,
 }
 
+/// What is asked of `ti-clear`: to clear the screen.
+#[derive(Debug, PartialEq, Eq, Drop)]
+pub struct ClearRequest {
+    /// Keep what has scrolled off the screen.
+    pub keeps_scrollback: bool,
+    /// The terminal, if it was given.
+    pub term: Option<String>,
+}
+
+/// What is asked of `ti-toe`: to list the entries of directories.
+#[derive(Debug, PartialEq, Eq, Drop)]
+pub struct ToeRequest {
+    /// The entries of all directories that are searched, and not only of the first.
+    pub all: bool,
+    /// A heading before the entries of each directory.
+    pub headings: bool,
+    /// The entries sorted by their names.
+    pub sorted: bool,
+    /// The directories; none for those that are searched.
+    pub directories: Vec<String>,
+}
+
 /// What the words of a command line ask for.
 #[derive(Debug, PartialEq, Eq, Drop)]
 pub enum Request {
@@ -118,4 +140,8 @@ pub enum Request {
     Fmt(FmtRequest),
     /// To say what is wrong with sources.
     Lint(LintRequest),
+    /// To clear the screen.
+    Clear(ClearRequest),
+    /// To list the entries of directories.
+    Toe(ToeRequest),
 }

@@ -5,12 +5,11 @@ ghost use Rattle.tools_commands.specs.Matches.{matched_rows};
 ghost use Rattle.everyday_words.specs.Requests.{tic_seen, wanted_of};
 ghost use Rattle.everyday_words.specs.TicWords.{source_asked, source_in, tic_asked};
 
-use crate::commands::{CommandLine, VERSION_IN_PLACE};
+use crate::commands::VERSION_IN_PLACE;
 use crate::foreign;
-use crate::matches::{is_on, text};
 use crate::requests::{Request, TicRequest};
-use crate::rules::{Argument, Form};
 use clap::ArgMatches;
+use everyday_arguments::{Argument, CommandLine, Form, is_on, text};
 use std::alloc::{AllocError, Global};
 
 /// `ti-tic [-c] [-s] [-x] [-e NAMES] [-o DIR] [-D] [FILE|-]`.

@@ -6,12 +6,11 @@ ghost use Rattle.tools_commands.specs.Matches.{matched_rows};
 ghost use Rattle.everyday_words.specs.TputWords.{tput_asked, tput_with, words_mistake};
 ghost use Rattle.everyday_words.specs.inside.Answers.{Answers};
 
-use crate::commands::{CommandLine, VERSION_IN_PLACE};
-use crate::matches::{is_on, text, texts, value, values};
+use crate::commands::VERSION_IN_PLACE;
 use crate::mistakes::NoRequest;
 use crate::requests::{Request, TputRequest};
-use crate::rules::{Argument, Form};
 use clap::ArgMatches;
+use everyday_arguments::{Argument, CommandLine, Form, is_on, text, texts, value, values};
 use std::alloc::Global;
 use tools_commands::Mistake;
 

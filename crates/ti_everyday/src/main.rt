@@ -1,7 +1,8 @@
-//! The program of the everyday tools, `ti-tic`, `ti-infocmp`, `ti-tput`, `ti-fmt` and `ti-lint`, by the
-//! name that it is called by, over real files, streams and the environment.
+//! The program of the everyday tools, `ti-tic`, `ti-infocmp`, `ti-tput`, `ti-clear`, `ti-toe`, `ti-fmt`
+//! and `ti-lint`, by the name that it is called by, over real files, streams and the environment.
 #![tactic(auto)]
 
+mod clear_tool;
 mod environment;
 mod fmt_tool;
 mod infocmp_tool;
@@ -10,6 +11,7 @@ mod output;
 mod start_files;
 mod stopping;
 mod tic_tool;
+mod toe_tool;
 mod tput_tool;
 
 use crate::stopping::{Stop, end_tool};
@@ -25,7 +27,7 @@ fn main(rt: HostRuntime) -> ExitCode {
 }
 
 // Does what the command line asks for. Returns the status of the process.
-fn run<R: Clock + Env + Files + Input + Print + Eprint + AllocGlobal>(rt: &R) -> u8 {
+fn run<R: Clock + Env + Files + Input + Print + Eprint + AllocGlobal + Clone + Drop>(rt: &R) -> u8 {
     let words = match words(rt) {
         Ok(words) => words,
         Err(stop) => return end_tool(rt, Tool::Tic, stop),
@@ -40,7 +42,7 @@ fn run<R: Clock + Env + Files + Input + Print + Eprint + AllocGlobal>(rt: &R) ->
 }
 
 // Does what is asked for. Returns the status of the process.
-fn run_request<R: Clock + Env + Files + Input + Print + Eprint + AllocGlobal>(
+fn run_request<R: Clock + Env + Files + Input + Print + Eprint + AllocGlobal + Clone + Drop>(
     rt: &R,
     request: &Request,
 ) -> u8 {
@@ -52,6 +54,8 @@ fn run_request<R: Clock + Env + Files + Input + Print + Eprint + AllocGlobal>(
         Request::Tput(request) => (Tool::Tput, tput_tool::run(rt, request)),
         Request::Fmt(request) => (Tool::Fmt, fmt_tool::run(rt, request)),
         Request::Lint(request) => (Tool::Lint, lint_tool::run(rt, request)),
+        Request::Clear(request) => (Tool::Clear, clear_tool::run(rt, request)),
+        Request::Toe(request) => (Tool::Toe, toe_tool::run(rt, request)),
     };
     match done {
         Ok(status) => status,
@@ -74,19 +78,19 @@ fn words<R: Env + AllocGlobal>(rt: &R) -> Result<Vec<String>, Stop> {
 // Says by which names the program is called. It is an error of usage.
 fn unknown_name<R: Eprint>(rt: &R) -> u8 {
     let _ = rt.eprint(
-        "ti-everyday: call it ti-tic, ti-infocmp, ti-tput, ti-fmt or ti-lint, or give one of these names as the first word\n",
+        "ti-everyday: call it ti-tic, ti-infocmp, ti-tput, ti-clear, ti-toe, ti-fmt or ti-lint, or give one of these names as the first word\n",
     );
     2
 }
 
-// Prints the text that the words ask for, or what is wrong with them. An error of usage has status
-// 2, even if standard error takes nothing.
+// Prints the text that the words ask for, or what is wrong with them. An error of usage has its status
+// even if standard error takes nothing.
 fn print_refusal<R: Print + Eprint + AllocGlobal>(rt: &R, tool: Tool, refusal: &Refusal) -> u8 {
     match refusal {
         Refusal::Memory => end_tool(rt, tool, Stop::memory()),
         Refusal::Usage(text) => {
             let _ = rt.eprint(text.as_str());
-            2
+            tool.usage_status()
         }
         Refusal::Text(text) => match rt.print(text.as_str()) {
             Ok(()) => 0,

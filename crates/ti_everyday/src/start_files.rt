@@ -1,6 +1,7 @@
 //! The files that an entry names for its initialization and for its reset.
 use crate::stopping::Stop;
-use everyday_tput::{Entry, StartFile, file_named};
+use everyday_starting::file_named;
+use everyday_tput::{Entry, StartFile};
 use std::io::{self, ErrorKind};
 use std::rt::Files;
 use std::str::from_utf8;

@@ -1,5 +1,6 @@
 //! How a tool ends that stops before its work is done.
 use everyday_entries::{Failure, Tool, line, status};
+use everyday_starting::Unfit;
 use std::alloc::AllocError;
 use tools_devices::ToolError;
 
@@ -10,6 +11,8 @@ pub enum Stop {
     Failed(Failure, String),
     /// The same without anything that the system says.
     Plain(Failure),
+    /// No program can draw on the terminal of this name, and why.
+    Unfit(String, Unfit),
     /// What the environment gives is not UTF-8: the command line, or a variable that is read. It is
     /// an error of usage.
     NotText(&'static str),
@@ -45,10 +48,15 @@ pub fn end_tool<R: Eprint + AllocGlobal>(rt: &R, tool: Tool, stop: Stop) -> u8 {
     match stop {
         Stop::Failed(failure, reason) => end(rt, tool, &failure, reason.as_str()),
         Stop::Plain(failure) => end(rt, tool, &failure, ""),
+        Stop::Unfit(terminal, why) => {
+            let name = tool.name();
+            let _ = eprintln!(rt; "{name}: terminal \"{terminal}\" cannot be used: {why}");
+            1
+        }
         Stop::NotText(what) => {
             let name = tool.name();
             let _ = eprintln!(rt; "{name}: bad usage: {what} is not text");
-            2
+            tool.usage_status()
         }
     }
 }

@@ -5,7 +5,8 @@ use crate::output::print_bytes;
 use crate::start_files::StartContent;
 use crate::stopping::Stop;
 use everyday_entries::{Failure, Found, Tool, capability_line, named_file};
-use everyday_tput::{BAD_COMMAND, Entry, Target, modes_asked, needs_extension, tput, tput_lines};
+use everyday_starting::{Unfit, modes_asked, why_unfit};
+use everyday_tput::{BAD_COMMAND, Entry, Target, needs_extension, tput, tput_lines};
 use everyday_words::TputRequest;
 use std::fs;
 use std::io::{self, Write};
@@ -35,7 +36,7 @@ pub fn run<R: Clock + Env + Files + Input + Print + Eprint + AllocGlobal>(
     let name = terminal_name(&variables, request.term.as_deref())?;
     let file = entry_file(rt, &variables, name)?;
     let words = words(rt, request)?;
-    let entry = entry(rt, &file, request, words.as_slice())?;
+    let entry = entry(rt, &file, name, request, words.as_slice())?;
     say_program(rt, &entry, words.as_slice());
     let init = start_content(rt, request, words.as_slice(), false, &entry)?;
     let reset = start_content(rt, request, words.as_slice(), true, &entry)?;
@@ -131,21 +132,39 @@ fn words<'a, R: AllocGlobal>(rt: &R, request: &'a TputRequest) -> Result<Vec<&'a
     Ok(words)
 }
 
-// The entry of a file, with its user-defined capabilities only if they may be asked for: there are
-// often as many as there are others.
+// The entry of a file, as the request needs it. A terminal whose entry is generic counts as unknown.
 fn entry<'a, R: AllocGlobal>(
     rt: &R,
     file: &'a Found,
+    name: &str,
     request: &TputRequest,
     words: &[&[u8]],
 ) -> Result<Entry<'a>, Stop> {
-    if request.lines {
-        return whole_entry(rt, file);
+    let entry = if request.lines {
+        whole_entry(rt, file)?
+    } else {
+        entry_of(rt, file, request.keeps_scrollback, words)?
+    };
+    if why_unfit(&entry.view) == Some(Unfit::Generic) {
+        let name = String::from_str(rt.alloc(), name)?;
+        return Err(Stop::of(Failure::Unknown(name)));
     }
+    Ok(entry)
+}
+
+/// The entry of a file, with its user-defined capabilities only if the words may ask for them: there
+/// are often as many as there are others.
+///
+/// # Errors
+/// That the file is not an entry, and why.
+pub fn entry_of<'a, R: AllocGlobal>(
+    rt: &R,
+    file: &'a Found,
+    keeps_scrollback: bool,
+    words: &[&[u8]],
+) -> Result<Entry<'a>, Stop> {
     match tools_devices::entry(file.bytes.as_slice()) {
-        Ok(view) if needs_extension(&view, request.keeps_scrollback, words) => {
-            whole_entry(rt, file)
-        }
+        Ok(view) if needs_extension(&view, keeps_scrollback, words) => whole_entry(rt, file),
         Ok(view) => Ok(Entry::of_tables(view)),
         Err(ToolError::BadEntry(why)) => Err(bad_entry(rt, file, ExtensionError::Entry(why))),
         Err(error) => Err(Stop::of(Failure::Stopped(error))),
@@ -168,8 +187,11 @@ fn bad_entry<R: AllocGlobal>(rt: &R, file: &Found, why: ExtensionError) -> Stop 
     }
 }
 
-// The name of the terminal: that of `-T`, else that of `TERM`.
-fn terminal_name<'a>(variables: &'a Variables, term: Option<&'a str>) -> Result<&'a str, Stop> {
+/// The name of the terminal: that of `-T`, else that of `TERM`.
+///
+/// # Errors
+/// That none is named.
+pub fn terminal_name<'a>(variables: &'a Variables, term: Option<&'a str>) -> Result<&'a str, Stop> {
     if let Some(term) = term {
         return Ok(term);
     }
@@ -179,8 +201,11 @@ fn terminal_name<'a>(variables: &'a Variables, term: Option<&'a str>) -> Result<
     }
 }
 
-// The file of a terminal's entry.
-fn entry_file<R: Clock + Env + Files + AllocGlobal>(
+/// The file of a terminal's entry.
+///
+/// # Errors
+/// Why there is none.
+pub fn entry_file<R: Clock + Env + Files + AllocGlobal>(
     rt: &R,
     variables: &Variables,
     name: &str,
@@ -205,7 +230,7 @@ fn write_lines<R: Input + Print + Eprint + AllocGlobal>(
         Err(error) => return Err(Stop::of(Failure::Stopped(error))),
     };
     if let Some(name) = &ending.name {
-        say_capability(rt, &target.entry, name.as_slice());
+        say_capability(rt, Tool::Tput, &target.entry, name.as_slice());
     }
     Ok(ending.status)
 }
@@ -227,7 +252,7 @@ fn write_commands<R: Print + Eprint + AllocGlobal>(
         return Ok(0);
     };
     if stop.status == BAD_COMMAND {
-        say_capability(rt, &target.entry, stop.name);
+        say_capability(rt, Tool::Tput, &target.entry, stop.name);
     } else if stop.name == INIT {
         say_file(rt, init)?;
     } else if stop.name == RESET {
@@ -247,10 +272,10 @@ fn say_file<R: Eprint + AllocGlobal>(rt: &R, content: &StartContent) -> Result<(
     Ok(())
 }
 
-// Says on standard error that a capability is unknown, or that its string is bad.
-fn say_capability<R: Eprint + AllocGlobal>(rt: &R, entry: &Entry<'_>, name: &[u8]) {
+/// Says on standard error that a capability is unknown, or that its string is bad.
+pub fn say_capability<R: Eprint + AllocGlobal>(rt: &R, tool: Tool, entry: &Entry<'_>, name: &[u8]) {
     let known = is_known(entry, name);
-    if let Ok(line) = capability_line(rt.alloc(), Tool::Tput, name, known) {
+    if let Ok(line) = capability_line(rt.alloc(), tool, name, known) {
         let _ = ErrorStream::new(rt).write_all(line.as_slice());
     }
 }

@@ -7,7 +7,7 @@ use Rattle.everyday_words.specs.declared.arguments.Refusal.{Refusal}
 use Rattle.everyday_words.specs.declared.arguments.Refusal.TheVariants as refusal
 use Rattle.everyday_words.specs.declared.mistakes.NoRequest.{NoRequest}
 use Rattle.everyday_words.specs.declared.mistakes.NoRequest.TheVariants as no_request
-use Rattle.everyday_words.specs.declared.names.Tool.{Tool}
+use Rattle.everyday_arguments.specs.declared.names.Tool.{Tool}
 use Rattle.everyday_words.specs.declared.requests.Request.{Request}
 
 -- why nothing is asked for; out of memory may come at any time

@@ -1,25 +1,14 @@
--- What clap reads of a command line in a table: its name and its arguments in turn (own).
+-- The names of the choices of a command line in a table (own).
 use Rattle.std.specs.Prelude.{List, [], ◌∷◌, codes, if◌then◌else◌}
 use Rattle.std.specs.Borrow.{Bor}
-use Rattle.std.specs.List.{fold}
 use Rattle.std.specs.Str.{bytes_eq}
-use Rattle.clap.specs.Simple.{App, with_rule}
 use Rattle.clap.specs.Walk.{Text}
 use Rattle.tools_commands.specs.Rules.{Choices}
-use Rattle.everyday_words.specs.Commands.{Lists, everyday_app}
-use Rattle.everyday_words.specs.inside.Rules.{rule_for}
-use Rattle.everyday_words.specs.declared.commands.CommandLine.{CommandLine}
-use Rattle.everyday_words.specs.declared.rules.Argument.{Argument}
-use Rattle.everyday_words.specs.declared.rules.Form.{Form}
-use Rattle.everyday_words.specs.declared.rules.Form.TheVariants.{Choice, LongChoice}
-
--- the command with one more argument
-abbrev pub with_argument : App → Argument → App
-with_argument app argument = with_rule app (rule_for argument)
-
--- the command of a command line in a table
-abbrev pub app_for : CommandLine → App
-app_for line = fold with_argument (everyday_app line.name.now) line.arguments.now
+use Rattle.everyday_words.specs.Commands.{Lists}
+use Rattle.everyday_arguments.specs.declared.lines.CommandLine.{CommandLine}
+use Rattle.everyday_arguments.specs.declared.rules.Argument.{Argument}
+use Rattle.everyday_arguments.specs.declared.rules.Form.{Form}
+use Rattle.everyday_arguments.specs.declared.rules.Form.TheVariants.{Choice, LongChoice}
 
 -- a name, wherever it is in memory
 abbrev pub some_name : Text → Bor Text

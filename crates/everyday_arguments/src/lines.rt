@@ -1,0 +1,67 @@
+//! The command line of a tool, for clap: its options, its help, and what is below that.
+ghost use Rattle.std.specs.Prelude.{◌≡◌, IfOk, false};
+ghost use Rattle.std.specs.List.{fold};
+ghost use Rattle.clap.specs.Words.{app_of};
+ghost use Rattle.clap.specs.declared.builder.Command.TheViews.{out-Command as fields_of};
+ghost use Rattle.everyday_arguments.specs.Lines.{app_for, everyday_app, with_argument};
+
+use crate::rules::Argument;
+use clap::Command;
+use std::alloc::{AllocError, Global};
+
+/// The command line of a tool.
+#[derive(Clone, Copy)]
+pub struct CommandLine<'a> {
+    /// The name of the tool.
+    pub name: &'a str,
+    /// Its version.
+    pub version: &'a str,
+    /// What it does.
+    pub about: &'a str,
+    /// Its arguments.
+    pub arguments: &'a [Argument<'a>],
+    /// What help prints below these.
+    pub notes: &'a str,
+}
+
+// The command of a command line without its arguments. An option may be said again, and it says its
+// version.
+fn described<'a>(alloc: Global, line: &CommandLine<'a>) -> Command<'a>
+    ensures app { app_of result ≡ everyday_app line.now.name.now }
+    ensures local { (fields_of result).has_globals ≡ false }
+{
+    Command::new(alloc, line.name)
+        .version(line.version)
+        .args_override_self(true)
+        .about(line.about)
+        .after_help(line.notes)
+}
+
+// The command with these arguments after those that it has.
+fn with_arguments<'a>(
+    alloc: Global,
+    mut command: Command<'a>,
+    arguments: &[Argument<'a>],
+) -> Result<Command<'a>, AllocError>
+    requires { (fields_of command).has_globals ≡ false }
+    ensures app { IfOk result (λ r. app_of r ≡ fold with_argument (app_of command.entry) arguments.now) }
+    ensures local { IfOk result (λ r. (fields_of r).has_globals ≡ false) }
+{
+    for argument in arguments {
+        command = command.arg(argument.to_argument(alloc))?;
+    }
+    Ok(command)
+}
+
+impl<'a> CommandLine<'a> {
+    /// The command line, as clap takes it.
+    ///
+    /// # Errors
+    /// `AllocError` if memory ran out.
+    pub fn command(&self, alloc: Global) -> Result<Command<'a>, AllocError>
+        ensures { IfOk result (λ command. app_of command ≡ app_for self.now) }
+    {
+        let command = described(alloc, self);
+        with_arguments(alloc, command, self.arguments)
+    }
+}
