@@ -8,7 +8,7 @@ use Rattle.source_types.specs.declared.places.Position.{Position}
 use Rattle.source_places.specs.LineTexts.{line_of}
 use Rattle.source_places.specs.Position.{offset_of}
 use Rattle.source_keeping.specs.Keeping.{KeepsLines, stays_in_line}
-use Rattle.source_fixes.specs.Edits.{AdviceSeen, advises_caret, advises_name, advises_sign, advises_spelling}
+use Rattle.source_edits.specs.Edits.{AdviceSeen, advises_caret, advises_name, advises_sign, advises_spelling}
 use Rattle.everyday_forms.specs.Gcc.{ordinal}
 use Rattle.everyday_lint.specs.Offers.{OfferSeen}
 use Rattle.everyday_lint.specs.Telling.{byte_offset}

@@ -8,7 +8,7 @@ use Rattle.source_document.specs.Diagnostics.{Shown}
 use Rattle.source_diagnostics.specs.declared.capabilities.Capabilities.{Capabilities}
 use Rattle.source_diagnostics.specs.declared.diagnostics.Problem.{Problem}
 use Rattle.source_diagnostics.specs.declared.diagnostics.Problem.TheVariants.{Fault}
-use Rattle.source_fixes.specs.Edits.{is_certain}
+use Rattle.source_edits.specs.Edits.{is_certain}
 use Rattle.source_fixes.specs.Fixes.{FixSeen, fix_seen, fixes_of}
 use Rattle.everyday_lint.specs.declared.offers.Offer.{Offer}
 

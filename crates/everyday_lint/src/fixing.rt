@@ -1,7 +1,7 @@
 //! A source with fixes made, and what is told of them.
 ghost use Rattle.std.specs.Prelude.{◌≡◌, ◌≤◌, ◌++◌, IfOk, OnOk, length, map};
 ghost use Rattle.std.specs.String.{string_bytes};
-ghost use Rattle.source_fixes.specs.Edits.{advice_seen};
+ghost use Rattle.source_edits.specs.Edits.{advice_seen};
 ghost use Rattle.everyday_lint.specs.Fixing as spec;
 ghost use Rattle.everyday_lint.specs.Fixing.{begins, ends, fix_line, is_made, made};
 ghost use Rattle.everyday_forms.specs.Gcc.{ordinal};
@@ -10,7 +10,7 @@ ghost use Rattle.everyday_lint.specs.Offers.{made_seen, offer_seen};
 use crate::lines::Line;
 use crate::offers::Offer;
 use crate::words::problem_title;
-use source_fixes::Advice;
+use source_edits::Advice;
 use source_keeping::stays_in_line;
 use source_places::offset_of;
 use source_types::Position;

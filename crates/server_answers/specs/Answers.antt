@@ -15,8 +15,8 @@ use Rattle.source_features.specs.Formatting.{layout_of}
 use Rattle.source_features.specs.Signatures.{signature_of}
 use Rattle.source_format.specs.Folds.{folds_of}
 use Rattle.server_answers.specs.Fixes.{fixes_data}
-use Rattle.source_features.specs.Names.{definition_of, references_of}
-use Rattle.source_features.specs.Renaming.{RenameSeen, RenamingSeen, refuses, renamable_at, renames, renames_nothing, renaming_of}
+use Rattle.source_names.specs.Names.{definition_of, references_of}
+use Rattle.source_names.specs.Renaming.{RenameSeen, RenamingSeen, refuses, renamable_at, renames, renames_nothing, renaming_of}
 use Rattle.lsp_server.specs.Sayings.{Sayings}
 use Rattle.server_hovers.specs.Hovers.{hover_at}
 use Rattle.server_answers.specs.InstalledOffers.{installed_items}

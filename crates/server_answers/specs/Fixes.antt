@@ -6,7 +6,7 @@ use Rattle.serde_json.specs.View.{items_of}
 use Rattle.ti_caps.specs.declared.capability.Kind.{Kind}
 use Rattle.ti_caps.specs.declared.capability.Kind.TheVariants.{Flag, Number, Text}
 use Rattle.lsp_values.specs.Shapes.{action_data}
-use Rattle.source_fixes.specs.Edits.{AdviceSeen, advises_name, advises_sign, advises_spelling, advises_caret, is_certain}
+use Rattle.source_edits.specs.Edits.{AdviceSeen, advises_name, advises_sign, advises_spelling, advises_caret, is_certain}
 use Rattle.source_document.specs.Diagnostics.{Shown, diagnostics_by}
 use Rattle.source_diagnostics.specs.declared.capabilities.Capabilities.{Capabilities}
 use Rattle.source_diagnostics.specs.declared.capabilities.Capabilities.TheVariants.{UserDefined}

@@ -17,13 +17,13 @@ use Rattle.source_features.specs.Completions.{CompletionSeen, OffersSeen, comple
 use Rattle.source_features.specs.Formatting.{LayoutSeen, layout_of}
 use Rattle.source_features.specs.Explaining.{explanation_of}
 use Rattle.source_features.specs.Hovers.{HoverSeen, hover_of}
-use Rattle.source_features.specs.Names.{definition_of, references_of}
-use Rattle.source_features.specs.Renaming.{RenameSeen, RenamingSeen, refuses, renamable_at, renames, renames_nothing, renaming_of}
+use Rattle.source_names.specs.Names.{definition_of, references_of}
+use Rattle.source_names.specs.Renaming.{RenameSeen, RenamingSeen, refuses, renamable_at, renames, renames_nothing, renaming_of}
 use Rattle.source_fixes.specs.Fixes.{FixSeen, fixes_of}
 use Rattle.source_fixes.specs.Resolving.{resolved_by}
 use Rattle.source_format.specs.Folds.{folds_of}
 use Rattle.source_format.specs.declared.folding.Fold.{Fold}
-use Rattle.source_fixes.specs.Edits.{is_certain}
+use Rattle.source_edits.specs.Edits.{is_certain}
 use Rattle.server_answers.specs.Fixes.{advice_title, fix_shown, fixes_data, fixes_shown, is_offered as is_offered_fix, resolved_shown}
 use Rattle.lsp_messages.specs.Messages.{Query, completion, hover, signature, definition, references, symbols, highlights, folding, formatting, rename, prepare_rename, fixes}
 use Rattle.lsp_values.specs.Shapes.{action_data, folding_data, highlight_data, location_data, parameter_data, signature_help_data, symbol_information_data}

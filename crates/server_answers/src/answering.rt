@@ -4,7 +4,7 @@ ghost use Rattle.std.specs.String.{string_bytes};
 ghost use Rattle.serde_json.specs.View.{view};
 ghost use Rattle.source_blocks.specs.Symbols.{symbol_seen, symbols_of};
 ghost use Rattle.source_features.specs.Completions.{completion_of, offers_seen};
-ghost use Rattle.source_features.specs.Names.{definition_of, references_of};
+ghost use Rattle.source_names.specs.Names.{definition_of, references_of};
 ghost use Rattle.server_answers.specs.Answers.{completion_data, definition_data, entry_item, highlights_data, offered_items, outline_data, references_data, symbol_shown};
 ghost use Rattle.lsp_values.specs.Shapes.{highlight_data, location_data};
 
@@ -16,8 +16,9 @@ use lsp_values::answers::{
 use serde_json::Value;
 use source_blocks::{Symbol, symbols_of};
 use source_document::{Capabilities, Document};
-use source_features::{Offers, completion_of, definition_of, references_of};
+use source_features::{Offers, completion_of};
 use source_installed::Installed;
+use source_names::{definition_of, references_of};
 use source_types::{ItemKind, Position, Range};
 use std::alloc::{AllocError, Global};
 

@@ -1,8 +1,8 @@
 //! Answers to requests to rename, as values of the protocol.
 ghost use Rattle.std.specs.Prelude.{◌≡◌, IfOk, map};
 ghost use Rattle.serde_json.specs.View.{view};
-ghost use Rattle.source_features.specs.Renaming as features;
-ghost use Rattle.source_features.specs.Renaming.{rename_edit_seen};
+ghost use Rattle.source_names.specs.Renaming as names;
+ghost use Rattle.source_names.specs.Renaming.{rename_edit_seen};
 ghost use Rattle.server_answers.specs.Answers.{edit_data, renamable_data, renamed_said};
 ghost use Rattle.lsp_values.specs.Views.{reply_view};
 
@@ -11,7 +11,7 @@ use lsp_values::answers::{text_edit_value, workspace_edit_value};
 use lsp_values::writing::range_value;
 use serde_json::Value;
 use source_document::Document;
-use source_features::{RenameEdit, Renaming, renamable_at, renaming_of};
+use source_names::{RenameEdit, Renaming, renamable_at, renaming_of};
 use source_types::Position;
 use std::alloc::{AllocError, Global};
 
@@ -38,7 +38,7 @@ pub fn renamed(
     place: Position,
     name: &str,
 ) -> Result<Reply, AllocError>
-    ensures { IfOk result (λ reply. reply_view reply ≡ renamed_said uri.now (features.renaming_of document.now place name.now)) }
+    ensures { IfOk result (λ reply. reply_view reply ≡ renamed_said uri.now (names.renaming_of document.now place name.now)) }
 {
     match renaming_of(alloc, document, place, name.as_bytes())? {
         Renaming::Nothing => Ok(Reply::Answer(Value::Null)),
@@ -55,7 +55,7 @@ pub fn renamed(
 /// # Errors
 /// Out of memory.
 pub fn renamable(alloc: Global, document: &Document, place: Position) -> Result<Value, AllocError>
-    ensures { IfOk result (λ v. view v ≡ renamable_data (features.renamable_at document.now place)) }
+    ensures { IfOk result (λ v. view v ≡ renamable_data (names.renamable_at document.now place)) }
 {
     match renamable_at(alloc, document, place)? {
         None => Ok(Value::Null),

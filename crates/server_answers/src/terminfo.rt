@@ -31,8 +31,8 @@ use std::alloc::{AllocError, Global};
 /// - The outline is that of `source_blocks`, as a hierarchy if the client supports one, else as a
 ///   list. A search has the entries whose names in it hold a text, whatever the case of its
 ///   letters.
-/// - Definitions, references, renames, hovers, signatures and the layout are those of
-///   `source_features`, folds those of `source_format`.
+/// - Definitions, references and renames are those of `source_names`, hovers, signatures and the
+///   layout those of `source_features`, folds those of `source_format`.
 /// - A completion has an item for each capability, obsolete ones tagged, and then for each known
 ///   user-defined one, if the client wants these. After `use=` it has the names of the source, and
 ///   then the installed names that no block has and that begin as what is typed, whatever the case

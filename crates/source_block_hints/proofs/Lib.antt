@@ -2,4 +2,3 @@ pub mod Counting
 pub mod Filling
 pub mod Reading
 pub mod Saying
-pub mod Using

@@ -9,5 +9,4 @@ pub mod Laws
 pub mod Mentions
 pub mod Stacks
 pub mod Strings
-pub mod Uses
 pub mod Words

@@ -18,7 +18,10 @@ use std::alloc::{AllocError, Global};
 use ti_source::{Claim, Statement, statement_of};
 
 /// The bytes of a part of a folded text.
-pub(crate) fn text_of(alloc: Global, item: &[(u8, usize)]) -> Result<Vec<u8>, AllocError>
+///
+/// # Errors
+/// Out of memory.
+pub fn text_of(alloc: Global, item: &[(u8, usize)]) -> Result<Vec<u8>, AllocError>
     ensures { IfOk result (λ text. text.items ≡ bytes item.now) }
 {
     let mut text = Vec::with_capacity(alloc, item.len())?;

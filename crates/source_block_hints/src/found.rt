@@ -11,11 +11,11 @@ use std::alloc::AllocError;
 
 /// What is found in an item or in the names field.
 #[derive(Clone, Copy)]
-pub(crate) struct Found {
+pub struct Found {
     /// What it is.
-    pub(crate) kind: HintKind,
+    pub kind: HintKind,
     /// What the message quotes, in bytes of the text of the item.
-    pub(crate) part: Part,
+    pub part: Part,
 }
 
 // A part of a text of that length, without what is past its end.
@@ -62,7 +62,10 @@ fn hint_on(item: &[(u8, usize)], found: Found) -> Hint
 }
 
 /// Appends what is found in a part of a folded text, as hints on it.
-pub(crate) fn push_hints(
+///
+/// # Errors
+/// Out of memory.
+pub fn push_hints(
     hints: &mut Vec<Hint>,
     item: &[(u8, usize)],
     found: &[Found],

@@ -106,10 +106,10 @@ impl HintKind {
                 "The string leaves a parameter of the capability unused. Use each of them."
             }
             HintKind::SaidTwice => {
-                "An item before says this capability, and that one counts; ncurses takes the last one. Remove one of the two."
+                "An earlier item says this capability too. `ti-tic` and ncurses take the last one, `ti tic` the first. Remove one of them."
             }
             HintKind::SaidAfterUse => {
-                "A use before this item has the capability, and that one counts; ncurses takes the item. Move it to the front of the use."
+                "A use before this item has the capability too. `ti-tic` and ncurses take the item, `ti tic` the use. Move the item in front of the use."
             }
             HintKind::MissingComma => {
                 "The string seems to hold another item. Insert a comma before it."

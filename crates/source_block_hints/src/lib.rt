@@ -2,7 +2,7 @@
 //! mistake.
 //!
 //! - `hint`: what a hint says, and where
-//! - `block`: the hints on a block, by its text alone; `uses`: those on items after a `use=`
+//! - `block`: the hints on a block, by its text alone
 //! - `found`: what is found in a part of a block; `mentions`: which capability an item says;
 //!   `formats`: what is wrong with the format of a string, by `counts`, how many parameters each
 //!   takes, and `stacks`, where the stack is full; `commas`: a comma that is missing; `delays`:
@@ -15,14 +15,14 @@ mod commas;
 mod counts;
 mod delays;
 mod formats;
-mod found;
+pub mod found;
 mod heads;
 pub mod hint;
 pub mod laws;
 mod mentions;
 mod stacks;
-mod uses;
 
-pub use block::hints_of_block;
+pub use block::{hints_of_block, text_of};
+pub use found::{Found, push_hints};
 pub use hint::{Hint, HintKind};
-pub use uses::hints_after_uses;
+pub use mentions::{is_among, mention_in, note, number_said};

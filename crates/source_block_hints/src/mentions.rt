@@ -33,7 +33,7 @@ pub(crate) fn mention_of(statement: &Statement<'_>) -> Option<Cap>
 }
 
 /// The capability that the text of an item says.
-pub(crate) fn mention_in(text: &[u8]) -> Option<Cap>
+pub fn mention_in(text: &[u8]) -> Option<Cap>
     ensures { result ≡ spec.mention_in text.now }
 {
     let statement = statement_of(text)?;
@@ -51,8 +51,9 @@ fn number_of(cap: Cap) -> usize
     }
 }
 
-/// The number of the capability that the text of an item says.
-pub(crate) fn number_said(text: &[u8]) -> Option<usize>
+/// The number of the capability that the text of an item says: booleans first, then numbers, then
+/// strings.
+pub fn number_said(text: &[u8]) -> Option<usize>
     ensures { result ≡ spec.number_said text.now }
 {
     match mention_in(text) {
@@ -69,7 +70,7 @@ fn has(numbers: &[usize], number: usize) -> bool
 }
 
 /// Whether a number, if there is one, is among these.
-pub(crate) fn is_among(numbers: &[usize], number: Option<usize>) -> bool
+pub fn is_among(numbers: &[usize], number: Option<usize>) -> bool
     ensures { result ≡ spec.is_among numbers.now number }
 {
     match number {
@@ -79,7 +80,10 @@ pub(crate) fn is_among(numbers: &[usize], number: Option<usize>) -> bool
 }
 
 /// Adds a number, if there is one and it is not there: so the list stays short in a long block.
-pub(crate) fn note(numbers: &mut Vec<usize>, number: Option<usize>) -> Result<(), AllocError>
+///
+/// # Errors
+/// Out of memory.
+pub fn note(numbers: &mut Vec<usize>, number: Option<usize>) -> Result<(), AllocError>
     ensures { OnOk result ((n : ℕ) → spec.has n numbers.new.items ≡ spec.has n (numbers.old.items ++ option_to_list number)) }
 {
     let Some(number) = number else {

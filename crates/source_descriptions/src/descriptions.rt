@@ -106,9 +106,9 @@ static FLAGS: [Row; FLAG_COUNT] = descriptions! {
     "non_rev_rmcup", "After rmcup, smcup does not bring the earlier screen back";
     "no_pad_char", "The terminal has no character for padding";
     "non_dest_scroll_region", "Text that leaves the scrolling region is kept and can come back";
-    "can_change", "The colours can be redefined";
-    "back_color_erase", "Erasing fills with the current background colour";
-    "hue_lightness_saturation", "Colours are given by hue, lightness and saturation";
+    "can_change", "The colors can be redefined";
+    "back_color_erase", "Erasing fills with the current background color";
+    "hue_lightness_saturation", "Colors are given by hue, lightness and saturation";
     "col_addr_glitch", "The capabilities hpa and mhpa move only to the right";
     "cr_cancels_micro_mode", "A carriage return ends micro mode";
     "has_print_wheel", "The character set is changed by hand, with the print wheel";
@@ -140,9 +140,9 @@ static NUMBERS: [Row; NUMBER_COUNT] = descriptions! {
     "label_width", "Columns of a soft label";
     "max_attributes", "The most attributes that can be shown together";
     "maximum_windows", "The most windows that can be defined";
-    "max_colors", "The most colours on the screen at a time";
-    "max_pairs", "The most colour pairs on the screen at a time";
-    "no_color_video", "A mask of the attributes that cannot be used with colours";
+    "max_colors", "The most colors on the screen at a time";
+    "max_pairs", "The most color pairs on the screen at a time";
+    "no_color_video", "A mask of the attributes that cannot be used with colors";
     "buffer_capacity", "Bytes that the printer collects before it prints";
     "dot_vert_spacing", "Pins per inch from top to bottom";
     "dot_horz_spacing", "Dots per inch from left to right";
@@ -488,14 +488,14 @@ static PART_5: [Row; PART] = descriptions! {
     "user7", "Hold user's string 7, by custom a request for the cursor's position";
     "user8", "Hold user's string 8, by custom the form of the answer to u9";
     "user9", "Hold user's string 9, by custom a request for the terminal's type";
-    "orig_pair", "Return to the default foreground and background colours";
-    "orig_colors", "Return to the default definitions of all colours or colour pairs";
-    "initialize_color", "Define a colour by its red, green and blue", "colour, red, green, blue";
-    "initialize_pair", "Define a colour pair by its two colours",
+    "orig_pair", "Return to the default foreground and background colors";
+    "orig_colors", "Return to the default definitions of all colors or color pairs";
+    "initialize_color", "Define a color by its red, green and blue", "color, red, green, blue";
+    "initialize_pair", "Define a color pair by its two colors",
         "pair, foreground red, green, blue, background red, green, blue";
-    "set_color_pair", "Choose a colour pair", "pair";
-    "set_foreground", "Set the foreground colour, numbered other than in ANSI's order", "colour";
-    "set_background", "Set the background colour, numbered other than in ANSI's order", "colour";
+    "set_color_pair", "Choose a color pair", "pair";
+    "set_foreground", "Set the foreground color, numbered other than in ANSI's order", "color";
+    "set_background", "Set the background color, numbered other than in ANSI's order", "color";
     "change_char_pitch", "Set how many characters fill an inch", "characters";
     "change_line_pitch", "Set how many lines fill an inch", "lines";
     "change_res_horz", "Set the horizontal resolution", "resolution";
@@ -556,8 +556,8 @@ static PART_6: [Row; PART] = descriptions! {
     "mouse_info", "Report the state of the mouse";
     "req_mouse_pos", "Ask where the mouse is";
     "get_mouse", "Ask for the events of the mouse's buttons", "buttons";
-    "set_a_foreground", "Set the foreground colour, numbered in ANSI's order", "colour";
-    "set_a_background", "Set the background colour, numbered in ANSI's order", "colour";
+    "set_a_foreground", "Set the foreground color, numbered in ANSI's order", "color";
+    "set_a_background", "Set the background color, numbered in ANSI's order", "color";
     "pkey_plab", "Program a function key to type a text and to show a label", "key, text, label";
     "device_type", "Report which languages and code sets the device supports";
     "code_set_init", "Set the terminal up for several code sets";
@@ -570,10 +570,10 @@ static PART_6: [Row; PART] = descriptions! {
     "bit_image_repeat", "Repeat a cell of a bit image", "cell, count";
     "bit_image_newline", "Go down to the next row of a bit image";
     "bit_image_carriage_return", "Go back to the start of the same row of a bit image";
-    "color_names", "Give the name of a colour", "colour";
+    "color_names", "Give the name of a color", "color";
     "define_bit_image_region", "Mark out a rectangle for a bit image";
     "end_bit_image_region", "End the rectangle of a bit image";
-    "set_color_band", "Change to a colour of the printer's ribbon", "colour";
+    "set_color_band", "Change to a color of the printer's ribbon", "color";
     "set_page_length", "Set the length of the page in lines", "lines";
     "display_pc_char", "Show a character of the PC's set", "character";
     "enter_pc_charset_mode", "Turn the PC's character set on";

@@ -122,19 +122,19 @@ pub(crate) fn function_key_named(name: &[u8]) -> Option<&'static str>
 // The rows whose names begin with a capital letter.
 pub(crate) static CAPITALS: [UserRow; 61] = user_rows! {
     "AN", "boolean", "Screen drops output not yet written when it clears the screen";
-    "AX", "boolean", "SGR 39 and SGR 49 set the default colours";
+    "AX", "boolean", "SGR 39 and SGR 49 set the default colors";
     "BD", "string", "Turn bracketed paste off";
     "BE", "string", "Turn bracketed paste on";
     "Bidi", "string", "The terminal lays out bidirectional text, as VTE does";
     "C0", "string", "Pair the characters of font 0 with what is written for them";
-    "C8", "boolean", "The terminal shows the bright colours only in bold";
+    "C8", "boolean", "The terminal shows the bright colors only in bold";
     "CE", "string", "Have the cursor keys send what they send outside application mode";
-    "CO", "number", "Colours that are numbered as usual, where the others are direct";
+    "CO", "number", "Colors that are numbered as usual, where the others are direct";
     "CS", "string", "Have the cursor keys send what they send in application mode";
     "Clmg", "string", "Remove the left and right margins";
     "Cmg", "string", "Set the left and right margins", "left, right";
-    "Cr", "string", "Return the colour of the cursor to its default";
-    "Cs", "string", "Set the colour of the cursor", "colour";
+    "Cr", "string", "Return the color of the cursor to its default";
+    "Cs", "string", "Set the color of the cursor", "color";
     "Dsbp", "string", "Turn bracketed paste off";
     "Dseks", "string", "Turn extended keys off";
     "Dsfcs", "string", "Turn reports of the focus off";
@@ -152,28 +152,28 @@ pub(crate) static CAPITALS: [UserRow; 61] = user_rows! {
     "Ms", "string", "Store a text, encoded in base64, in a selection", "selection, text";
     "NF", "boolean", "The terminal needs no flow control by XON and XOFF";
     "NQ", "boolean", "The strings u6 to u9 need not be the queries that ncurses expects";
-    "Nobr", "string", "Bold text is not shown in brighter colours";
+    "Nobr", "string", "Bold text is not shown in brighter colors";
     "OL", "number", "The most output that screen keeps back for a slow terminal";
     "PE", "string", "The sequence that ends a pasted text";
     "PS", "string", "The sequence that begins a pasted text";
-    "RGB", "boolean, number or string", "Colours are direct: red, green and blue have bits of their own";
+    "RGB", "boolean, number or string", "Colors are direct: red, green and blue have bits of their own";
     "RV", "string", "Ask for the version of the terminal, by its device attributes";
     "Rect", "string", "The terminal fills rectangles";
     "Rmol", "string", "Turn overlining off";
     "S0", "string", "Switch the character set G0 to another one", "final byte";
     "Se", "string", "Return the shape of the cursor to its default";
-    "Setulc", "string", "Set the colour of underlines, with red, green and blue in a number",
-        "colour";
-    "Setulc1", "string", "Set the colour of underlines, by its number in the palette", "colour";
+    "Setulc", "string", "Set the color of underlines, with red, green and blue in a number",
+        "color";
+    "Setulc1", "string", "Set the color of underlines, by its number in the palette", "color";
     "Smol", "string", "Turn overlining on";
     "Smulx", "string", "Set the style of underlines, from none by 0 to dashed by 5", "style";
     "Ss", "string", "Set the shape of the cursor", "shape";
-    "Su", "boolean", "Underlines have styles and colours";
+    "Su", "boolean", "Underlines have styles and colors";
     "Swd", "string", "Begin to tell the working directory, up to the string fsl";
     "Sync", "string", "Begin by 1, or end by 2, an update that is shown all at once", "phase";
     "TF", "boolean", "Screen adds the capabilities that the entry lacks";
     "TS", "string", "Begin the title of the window, up to the string fsl";
-    "Tc", "boolean", "Colours can be direct, by the sequences that RGB speaks of";
+    "Tc", "boolean", "Colors can be direct, by the sequences that RGB speaks of";
     "U8", "number", "If not 0, lines are drawn by Unicode's characters, not by acsc";
     "WS", "string", "Resize the screen", "lines, columns";
     "XC", "string", "Write characters as other strings, by the current font";
@@ -221,13 +221,13 @@ pub(crate) static OTHERS: [UserRow; 45] = user_rows! {
     "kxIN", "string", "The sequence that the terminal sends when it gains the focus";
     "kxOUT", "string", "The sequence that the terminal sends when it loses the focus";
     "norm", "string", "Turn bold and dim text off";
-    "ol", "string", "Return the colour of underlines to its default";
+    "ol", "string", "Return the color of underlines to its default";
     "opaq", "string", "Turn invisible text off";
     "rmxx", "string", "Turn struck-out text off";
     "rv", "string", "What answers RV, as a regular expression";
-    "setal", "string", "Set the colour of underlines", "colour";
-    "setrgbb", "string", "Set the background to a direct colour", "red, green, blue";
-    "setrgbf", "string", "Set the foreground to a direct colour", "red, green, blue";
+    "setal", "string", "Set the color of underlines", "color";
+    "setrgbb", "string", "Set the background to a direct color", "red, green, blue";
+    "setrgbf", "string", "Set the foreground to a direct color", "red, green, blue";
     "smul2", "string", "Turn double underlining on";
     "smxx", "string", "Turn struck-out text on";
     "xm", "string", "What the mouse sends",

@@ -11,7 +11,8 @@ ghost use Rattle.source_diagnostics.specs.SourceFaults.{user_faults};
 use crate::capabilities::Capabilities;
 use std::alloc::{AllocError, Global};
 use ti_base::{Database, Fault};
-use user_compiling::{ExtendedFault, compile, faults};
+use user_compiling::ExtendedFault;
+use user_compiling::leftmost::{compile, faults};
 use user_kept::KeptDatabase;
 use user_values::ValuesError;
 

@@ -24,9 +24,9 @@ use Rattle.source_blocks.specs.Symbols.{IsUpTo}
 use Rattle.source_blocks.specs.declared.spots.Spot.{Spot}
 use Rattle.source_blocks.proofs.Selections.{rises_in}
 use Rattle.source_features.specs.Completions.{CompletionSeen, CompletionsStayInTheLine, completion_for, completion_in, is_break, last_word}
-use Rattle.source_features.proofs.Following.{PartsRise, Rise, drop_rises, front_rises, fronts_rise, halves, items_rise, rise_folded, rise_higher}
-use Rattle.source_features.proofs.Following.{rise_lower, rise_up}
-use Rattle.source_features.proofs.RenamesFollow.{lines_more}
+use Rattle.source_names.proofs.Following.{PartsRise, Rise, drop_rises, front_rises, fronts_rise, halves, items_rise, rise_folded, rise_higher}
+use Rattle.source_names.proofs.Following.{rise_lower, rise_up}
+use Rattle.source_names.proofs.RenamesFollow.{lines_more}
 
 or_no : (a b : Bool) → (a || b) ≡ false → (a ≡ false) × (b ≡ false)
 or_no true b e = absurd cc

@@ -1,14 +1,5 @@
 pub mod Completing
-pub mod Edited
-pub mod EditsRise
-pub mod Following
 pub mod LaidOut
 pub mod Naming
 pub mod OnceNamed
-pub mod Renamed
-pub mod RenamesFollow
-pub mod Seeking
-pub mod Starting
-pub mod UserRenamed
-pub mod UsesRead
 pub mod WordReplaced

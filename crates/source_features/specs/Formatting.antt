@@ -1,12 +1,13 @@
 -- The edit that lays out a document (own; Language Server Protocol 3.17, "Document Formatting
 -- Request").
 use Rattle.std.specs.Prelude.{ℕ, ◌≡◌, true, List, Option, None, Some, length, option_map, if◌then◌else◌}
-use Rattle.std.specs.Str.{bytes_eq, is_utf8}
+use Rattle.std.specs.Str.{bytes_eq}
 use Rattle.std.specs.String.{string_bytes}
 use Rattle.source_types.specs.declared.places.Range.{Range}
 use Rattle.source_format.specs.Sources.{formatted_source}
 use Rattle.source_places.specs.Position.{is_start, offset_of, position_of}
 use Rattle.source_places.specs.Splicing.{spliced}
+use Rattle.source_edits.specs.Shown.{utf8_of}
 use Rattle.source_features.specs.declared.formatting.LayoutEdit.{LayoutEdit}
 
 -- the new text of a part of a text
@@ -21,10 +22,6 @@ layout_seen edit = record { range = edit.range; text = string_bytes edit.text }
 -- the range of a whole text
 abbrev pub whole_of : List ℕ → Range
 whole_of text = record { start = record { line = 0; column = 0 }; end = position_of text (length text) }
-
--- bytes as a text, if they are UTF-8
-abbrev pub utf8_of : List ℕ → Option (List ℕ)
-utf8_of bytes = if is_utf8 bytes then Some bytes else None
 
 -- the edit that puts another text in place of the whole
 abbrev pub whole_edit : List ℕ → List ℕ → LayoutSeen

@@ -18,7 +18,7 @@ use Rattle.source_blocks.specs.Holdings.{EntrySeen, entry_named, entry_seen}
 use Rattle.source_blocks.specs.Spots.{range_in, spot_at}
 use Rattle.source_blocks.specs.declared.spots.Spot.{Spot}
 use Rattle.source_features.specs.Meanings.{MeaningSeen, meaning_at, meaning_seen}
-use Rattle.source_features.specs.Names.{name_of}
+use Rattle.source_names.specs.Names.{name_of}
 use Rattle.source_features.specs.UserMeanings.{user_meaning_at}
 use Rattle.source_features.specs.declared.hovers.About.{About}
 use Rattle.source_features.specs.declared.hovers.About.TheVariants as about

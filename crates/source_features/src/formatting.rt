@@ -1,10 +1,10 @@
 //! The edit that lays out a document.
-ghost use Rattle.std.specs.Prelude.{◌≡◌, IfOk, length, option_map};
-ghost use Rattle.std.specs.String.{string_bytes};
+ghost use Rattle.std.specs.Prelude.{◌≡◌, IfOk, option_map};
 ghost use Rattle.source_features.specs.Formatting as spec;
-ghost use Rattle.source_features.specs.Formatting.{layout_edit, layout_seen, utf8_of};
+ghost use Rattle.source_features.specs.Formatting.{layout_edit, layout_seen};
 
 use source_document::Document;
+use source_edits::utf8_of;
 use source_format::formatted_source;
 use source_places::position_of;
 use source_types::{Position, Range};
@@ -29,16 +29,6 @@ fn whole_of(text: &[u8]) -> Range
     Range {
         start: Position { line: 0, column: 0 },
         end: position_of(text, text.len()),
-    }
-}
-
-/// Bytes as a text, if they are UTF-8.
-pub(crate) fn utf8_of(bytes: Vec<u8>) -> Option<String>
-    ensures { option_map string_bytes result ≡ utf8_of bytes.items }
-{
-    match String::from_utf8(bytes) {
-        Ok(text) => Some(text),
-        Err(_) => None,
     }
 }
 

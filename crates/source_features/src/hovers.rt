@@ -8,10 +8,10 @@ ghost use Rattle.source_features.specs.Hovers as spec;
 ghost use Rattle.source_features.specs.Hovers.{capability_told, hover_seen, is_user_defined_in, item_told, name_told, told_at, user_told};
 
 use crate::meanings::{Meaning, meaning_at};
-use crate::names::name_of;
 use crate::user_meanings::user_meaning_at;
 use source_blocks::{DecidingBlock, Entry, entry_named, range_in, sources_named, spot_at};
 use source_document::{Capabilities, Document, shown_detail};
+use source_names::name_of;
 use source_spans::{Item, Touched, folded, item_in, subject_in};
 use source_types::{Position, Range};
 use std::alloc::{AllocError, Global};

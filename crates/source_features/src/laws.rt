@@ -4,6 +4,3 @@ pub use crate::completions::{
     completions_replace_a_word, completions_stay_in_the_line, names_are_offered_once,
 };
 pub use crate::formatting::edits_lay_out;
-pub use crate::renaming::{
-    renamed_parts_follow, renames_are_applied, renames_keep_entries, renames_keep_user_values,
-};

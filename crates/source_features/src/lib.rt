@@ -1,15 +1,14 @@
 //! What an editor asks of a document at a place: the language features of the Language Server
-//! Protocol 3.17, chapter "Language Features".
+//! Protocol 3.17, chapter "Language Features". What it asks of a name is in `source_names`.
 //!
-//! - `names`: where the names of a document lead
 //! - `meanings`: what an item says, as it is read; `user_meanings`: what one says of a user-defined
 //!   name
 //! - `hovers`: what an editor shows about a position; `explaining`: what it says of a string there
 //! - `signatures`: which parameters the string at a position takes
-//! - `renaming`: what an editor renames; `name_edits`: the edits that put a new name in the place of
-//!   another
 //! - `completions`: what an editor offers to complete a word with
 //! - `formatting`: the edit that lays out a document
+//! - `laws`: what a completion offers and replaces; a document has its layout once the client has
+//!   made the edit
 #![tactic(auto)]
 
 mod completions;
@@ -18,9 +17,6 @@ mod formatting;
 mod hovers;
 pub mod laws;
 mod meanings;
-mod name_edits;
-mod names;
-mod renaming;
 mod signatures;
 mod user_meanings;
 
@@ -29,6 +25,4 @@ pub use explaining::explanation_of;
 pub use formatting::{LayoutEdit, layout_of};
 pub use hovers::{About, Hover, hover_of};
 pub use meanings::Meaning;
-pub use names::{definition_of, references_of};
-pub use renaming::{RenameEdit, Renaming, renamable_at, renaming_of};
 pub use signatures::{Signature, signature_of};

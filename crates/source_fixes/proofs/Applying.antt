@@ -1,10 +1,8 @@
 -- The text of a document once a part of a block is exchanged at the places of its ends.
 use Rattle.std.proofs.Common.{◌≡◌, ◌≢◌, ℕ, zero, suc, ◌+◌, ◌<◌, ◌≤◌, true, List, [], ◌∷◌, ◌++◌, append_assoc, drop, length, max, take, sym, ap, ap₂, ◌∙◌}
-use Rattle.std.proofs.Common.{inl, inr, refl, subst, arith, ◌-◌, ◌==◌, ◌&&◌}
-use Rattle.std.proofs.Math.Seq.{drop-append-add, take-append-add}
-use Rattle.std.specs.List.{slice_range}
-use Rattle.std.proofs.lemmas.Bool.{cases_Bool, eq-eqb, false≢true}
-use Rattle.std.proofs.lemmas.List.{append-nil, drop-take, length-append, take-append-le}
+use Rattle.std.proofs.Common.{refl, subst, arith}
+use Rattle.std.proofs.Math.Seq.{take-append-add}
+use Rattle.std.proofs.lemmas.List.{append-nil, length-append, take-append-le}
 use Rattle.ti_text.specs.Lines.{line_count}
 use Rattle.ti_text.specs.Texts.{last_byte}
 use Rattle.source_spans.specs.Replacing.{exchanged}
@@ -12,7 +10,8 @@ use Rattle.source_spans.specs.declared.parts.Part.{Part}
 use Rattle.source_places.specs.Position.{is_start, offset_of, position_of}
 use Rattle.source_places.specs.Splicing.{spliced}
 use Rattle.source_blocks.proofs.Placing.{IsMissing, leads, missing_size, place, spliced_in, spliced_more}
-use Rattle.source_keeping.specs.Keeping.{EditsInLinesKeepLines, KeepsLines, goes_on_line, open_line, stays_in_line}
+use Rattle.source_keeping.specs.Keeping.{EditsInLinesKeepLines, KeepsLines, stays_in_line}
+use Rattle.source_keeping.proofs.Held.{stays_held}
 use Rattle.source_fixes.specs.Healing.{IsInLine, IsPartOf}
 
 -- a part of a block has its ends at places of the block
@@ -105,23 +104,6 @@ still_open text front block back new more part unended whole ends is in_line wit
 
 -- ---- the lines of the text then
 
-open_both : (line front text : List ℕ) → open_line line (front ++ text) ≡ open_line (open_line line front) text
-open_both line [] text = refl
-open_both line (x ∷ xs) text =
-    elim (cases_Bool (x == 10)) [
-      | inl t ↦ rw t (open_both [] xs text)
-      | inr f ↦ rw f (open_both (line ++ x ∷ []) xs text)
-    ]
-
--- no line is begun in a text that ends with a newline, or has no bytes
-open_ended : (line front : List ℕ) (before : ℕ) → (before ≡ 10 → line ≡ []) → last_byte before front ≡ 10 → open_line line front ≡ []
-open_ended line [] before start ends = start ends
-open_ended line (x ∷ xs) before start ends =
-    elim (cases_Bool (x == 10)) [
-      | inl t ↦ rw t (open_ended [] xs x (λ e. refl) ends)
-      | inr f ↦ rw f (open_ended (line ++ x ∷ []) xs x (λ e. let no = eq-eqb x 10 e in absurd (false≢true (sym f ∙ no))) ends)
-    ]
-
 -- an edit within a line of a block is within a line of the text
 pub lines_held : EditsInLinesKeepLines → (text more front block back : List ℕ) (part : Part) (new : List ℕ) → text ++ more ≡ front ++ (block ++ back)
     → last_byte 10 front ≡ 10 → part.start ≤ part.end → part.end ≤ length block → length front + part.end ≤ length text
@@ -130,20 +112,7 @@ pub lines_held : EditsInLinesKeepLines → (text more front block back : List �
 lines_held keeps text more front block back part new whole ends forward within inside stays =
     let start = length front + part.start in
     let end = length front + part.end in
-    let until : (n : ℕ) → n ≤ part.end → take (length front + n) text ≡ front ++ take n block =
-    λ n less.
-    sym (take-append-le (length front + n) text more (omega (arith, less, inside))) ∙ ap (take (length front + n)) whole
-    ∙ take-append-add front (block ++ back) n ∙ ap (λ (t : List ℕ). front ++ t) (take-append-le n block back (omega (arith, less, within))) in
-    let begins : open_line [] (take start text) ≡ open_line [] (take part.start block) =
-    ap (open_line []) (until part.start forward) ∙ open_both [] front (take part.start block)
-    ∙ ap (λ (l : List ℕ). open_line l (take part.start block)) (open_ended [] front 10 (λ e. refl) ends) in
-    let old : slice_range text start end ≡ slice_range block part.start part.end =
-    ap (λ (n : ℕ). take n (drop start text)) (omega arith) ∙ sym (drop-take start (part.end - part.start) text)
-    ∙ ap (λ (n : ℕ). drop start (take n text)) (omega (arith, forward)) ∙ ap (drop start) (until part.end (omega arith))
-    ∙ drop-append-add front (take part.end block) part.start
-    ∙ ap (λ (n : ℕ). drop part.start (take n block)) (omega (arith, forward)) ∙ drop-take part.start (part.end - part.start) block in
-    let there : stays_in_line text start end new ≡ true =
-    ap₂ (λ (line was : List ℕ). goes_on_line line was && goes_on_line line new) begins old ∙ stays in
+    let there = stays_held text more front block back part.start part.end new whole ends forward within inside stays in
     let last : max start end ≡ end = omega (arith, forward) in
     subst (KeepsLines text) (sym (append_assoc (take start text) new (drop end text)) ∙ ap (λ (n : ℕ). take start text ++ new ++ drop n text) (sym last))
     (keeps text start end new (omega (arith, forward)) there)

@@ -15,15 +15,15 @@ use Rattle.source_spans.specs.Subjects.{items_of}
 use Rattle.source_spans.proofs.Escaping.{Escape, backslash, caret, cuts, nothing}
 use Rattle.source_spans.proofs.Plain.{after_both, goes_both, goes_front, item_goes, last_of}
 use Rattle.source_spans.proofs.Recutting.{Goes, by_after}
-use Rattle.source_fixes.specs.Carets.{can_be_read, caret_at, healing_caret, with_backslash}
-use Rattle.source_fixes.specs.Edits.{EditSeen, advises_caret, caret_in, carets}
+use Rattle.source_edits.specs.Carets.{can_be_read, caret_at, healing_caret, with_backslash}
+use Rattle.source_edits.specs.Edits.{EditSeen, advises_caret, caret_in, carets}
+use Rattle.source_edits.specs.Laws.{IsInOrder, edited}
+use Rattle.source_edits.specs.Pieces.{value_of, written_name}
+use Rattle.source_edits.specs.Shown.{shown}
+use Rattle.source_edits.proofs.CaretsHeal.{Lasts, carets_heal, last_byte_is, last_found, lasts, no_byte}
+use Rattle.source_edits.proofs.Exchanging.{edited_at, no_edit, only_edit}
 use Rattle.source_fixes.specs.Healing.{LosesFault, Stays, block_after}
-use Rattle.source_fixes.specs.Laws.{IsInOrder, edited}
-use Rattle.source_fixes.specs.Pieces.{value_of, written_name}
-use Rattle.source_fixes.specs.Shown.{shown}
-use Rattle.source_fixes.proofs.CaretsHeal.{Lasts, carets_heal, last_byte_is, last_found, lasts, no_byte}
 use Rattle.source_fixes.proofs.Changing.{item_changes, loses_caret, refused_item}
-use Rattle.source_fixes.proofs.Exchanging.{edited_at, no_edit, only_edit}
 use Rattle.source_fixes.proofs.Fitting.{Fits}
 use Rattle.source_fixes.proofs.ItemParts.{replaced_part}
 use Rattle.source_fixes.proofs.Placing.{item_in_order, text_replaces}

@@ -20,8 +20,8 @@ use Rattle.source_spans.specs.Subjects.{head_text, items_of}
 use Rattle.source_spans.specs.declared.parts.Part.{Part}
 use Rattle.source_spans.proofs.Exchanging.{begins_visible, found_raw, one_replaced}
 use Rattle.source_spans.proofs.Rereading.{fault_by, fault_is, new_read, only_code, other_got, others_read, said_is, same_got, verdict_in}
+use Rattle.source_edits.specs.Laws.{IsAccepted, IsOfCapability, IsRead}
 use Rattle.source_fixes.specs.Healing.{IsFixed, LosesFault, OneItemChanges}
-use Rattle.source_fixes.specs.Laws.{IsAccepted, IsOfCapability, IsRead}
 
 -- what a text that takes a part's place makes of its block
 pub item_changes : (block : List ℕ) (ordinal : ℕ) (item : List PlacedByte) (part : Part) (new text : List ℕ) → OneBlock block

@@ -25,18 +25,18 @@ use Rattle.source_spans.specs.Subjects.{items_of, used_name}
 use Rattle.source_spans.specs.declared.parts.Part.{Part}
 use Rattle.source_document.specs.Diagnostics.{text_at}
 use Rattle.source_blocks.specs.Giving.{can_be_given}
-use Rattle.source_fixes.specs.Edits.{EditSeen, edits_for, renames}
+use Rattle.source_edits.specs.Edits.{EditSeen, edits_for, renames}
+use Rattle.source_edits.specs.Laws.{IsRead}
+use Rattle.source_edits.proofs.Exchanging.{no_edit}
+use Rattle.source_edits.proofs.NamesFit.{each_edit}
 use Rattle.source_fixes.specs.Fixes.{given_names, item_edits, other_names, text_said, used_edits, value_at}
 use Rattle.source_fixes.specs.Healing.{EditsHeal, GetsOwner, Heals, LosesFault, Stays, block_after}
-use Rattle.source_fixes.specs.Laws.{IsRead}
 use Rattle.source_fixes.specs.UserNames.{user_renames}
 use Rattle.source_fixes.proofs.CaretsMend.{carets_mend}
 use Rattle.source_fixes.proofs.Changing.{faulty_item}
-use Rattle.source_fixes.proofs.Exchanging.{no_edit}
 use Rattle.source_fixes.proofs.Fitting.{Fits}
 use Rattle.source_fixes.proofs.Given.{IsGiven, given}
 use Rattle.source_fixes.proofs.ItemParts.{item_bytes}
-use Rattle.source_fixes.proofs.NamesFit.{each_edit}
 use Rattle.source_fixes.proofs.NamesHeal.{names_heal}
 use Rattle.source_fixes.proofs.NamesKept.{owner_kept}
 use Rattle.source_fixes.proofs.OthersOwn.{others_own}

@@ -9,10 +9,10 @@ use Rattle.ti_text.specs.Texts.{is_empty}
 use Rattle.ti_source.specs.Folding.{PlacedByte}
 use Rattle.source_spans.specs.Replacing.{Replaces}
 use Rattle.source_spans.specs.declared.parts.Part.{Part}
-use Rattle.source_fixes.specs.Carets.{can_be_read}
-use Rattle.source_fixes.specs.Edits.{EditSeen, advises_sign, advises_spelling, is_number, sign_at, sign_for, spelling_in}
-use Rattle.source_fixes.specs.Shown.{shown, shown_byte}
-use Rattle.source_fixes.proofs.Exchanging.{no_edit, only_edit}
+use Rattle.source_edits.specs.Carets.{can_be_read}
+use Rattle.source_edits.specs.Edits.{EditSeen, advises_sign, advises_spelling, is_number, sign_at, sign_for, spelling_in}
+use Rattle.source_edits.specs.Shown.{shown, shown_byte}
+use Rattle.source_edits.proofs.Exchanging.{no_edit, only_edit}
 
 -- ---- texts that print
 

@@ -34,12 +34,12 @@ use Rattle.source_blocks.specs.declared.spots.Spot.{Spot}
 use Rattle.source_spans.specs.declared.parts.Part.{Part}
 use Rattle.source_blocks.specs.Places.{can_be_exchanged, missing_newline}
 use Rattle.source_keeping.specs.Keeping.{EditsInLinesKeepLines, KeepsLines, stays_in_line}
+use Rattle.source_edits.specs.Edits.{EditSeen, edits_for}
+use Rattle.source_edits.specs.Narrowing.{narrowed}
 use Rattle.source_fixes.specs.Applied.{AsciiPlacesAreStarts, FixesHeal, IsHealing, client_edited}
-use Rattle.source_fixes.specs.Edits.{EditSeen, edits_for}
-use Rattle.source_fixes.specs.Narrowing.{can_be_made, narrowed}
 use Rattle.source_fixes.specs.UserNames.{user_renames, user_renames_by}
 use Rattle.source_fixes.specs.Fixes.{FixSeen, code_by, code_unless, edits_in, fault_of_item, fix_of, fixes_from, is_allowed, item_edits, item_edits_by, stretch_to, touched_edits, touches}
-use Rattle.source_fixes.specs.Fixes.{used_edits, value_at}
+use Rattle.source_fixes.specs.Fixes.{can_be_made, used_edits, value_at}
 use Rattle.source_diagnostics.specs.declared.capabilities.Capabilities.{Capabilities}
 use Rattle.source_diagnostics.specs.declared.capabilities.Capabilities.TheVariants.{Profile, UserDefined}
 use Rattle.source_fixes.specs.Healing.{IsInLine, IsPartOf, block_after}

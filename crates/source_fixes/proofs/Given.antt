@@ -23,8 +23,8 @@ use Rattle.source_spans.proofs.Plain.{goes_both}
 use Rattle.source_spans.proofs.Recutting.{Goes, by_after, by_after_at, one_if_goes}
 use Rattle.source_spans.proofs.Refolding.{bytes_apart, bytes_of_at, kept_after, line_kept}
 use Rattle.source_blocks.specs.Giving.{block_with, can_be_given}
-use Rattle.source_fixes.specs.Shown.{shown, shown_byte}
-use Rattle.source_fixes.proofs.Marks.{end_bytes}
+use Rattle.source_edits.specs.Shown.{shown, shown_byte}
+use Rattle.source_edits.proofs.Marks.{end_bytes}
 use Rattle.source_fixes.proofs.Placing.{after_with}
 
 -- ---- the bytes of a name

@@ -14,9 +14,9 @@ use Rattle.source_spans.specs.Parts.{end_of, items_after, rest_of, spanned, with
 use Rattle.source_spans.specs.Replacing.{IsOneLine, Replaces}
 use Rattle.source_spans.specs.Subjects.{items_of}
 use Rattle.source_spans.specs.declared.parts.Part.{Part}
+use Rattle.source_edits.specs.Laws.{IsInOrder}
+use Rattle.source_edits.proofs.Exchanging.{any_cut}
 use Rattle.source_fixes.specs.Healing.{IsPartOf, StaysOne}
-use Rattle.source_fixes.specs.Laws.{IsInOrder}
-use Rattle.source_fixes.proofs.Exchanging.{any_cut}
 use Rattle.source_fixes.proofs.Placing.{item_in_order}
 use Rattle.source_fixes.proofs.Staying.{stays_one}
 

@@ -11,17 +11,17 @@ use Rattle.source_spans.specs.Folding.{folded_of}
 use Rattle.source_spans.specs.Replacing.{BeginsPlain, Replaces, fault_at, is_plain}
 use Rattle.source_spans.specs.Subjects.{items_of, without_end}
 use Rattle.source_spans.proofs.Plain.{plain_replace}
-use Rattle.source_fixes.specs.Candidates.{names_for}
-use Rattle.source_fixes.specs.Edits.{EditSeen, known_names, renames}
+use Rattle.source_edits.specs.Candidates.{names_for}
+use Rattle.source_edits.specs.Edits.{EditSeen, known_names, renames}
+use Rattle.source_edits.specs.Laws.{IsInOrder, edited}
+use Rattle.source_edits.specs.Pieces.{after_name, written_name}
+use Rattle.source_edits.proofs.Exchanging.{edited_at}
+use Rattle.source_edits.proofs.Marks.{MarkSays, cancel_of, end_split, has_mark, has_none, mark_says, name_cut, plain_name}
+use Rattle.source_edits.proofs.NamesFit.{names_fit}
 use Rattle.source_fixes.specs.Healing.{LosesFault, Stays, block_after}
-use Rattle.source_fixes.specs.Laws.{IsInOrder, edited}
-use Rattle.source_fixes.specs.Pieces.{after_name, written_name}
 use Rattle.source_fixes.proofs.Changing.{item_changes, loses_unknown}
-use Rattle.source_fixes.proofs.Exchanging.{edited_at}
 use Rattle.source_fixes.proofs.Fitting.{Fits}
 use Rattle.source_fixes.proofs.ItemParts.{replaced_part}
-use Rattle.source_fixes.proofs.Marks.{MarkSays, cancel_of, end_split, has_mark, has_none, mark_says, name_cut, plain_name}
-use Rattle.source_fixes.proofs.NamesFit.{names_fit}
 use Rattle.source_fixes.proofs.Placing.{item_in_order}
 use Rattle.source_fixes.proofs.Putting.{IsPut, each_for, renamed_at}
 

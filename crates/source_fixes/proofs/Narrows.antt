@@ -19,15 +19,16 @@ use Rattle.source_spans.proofs.Exchanging.{found_raw, one_replaced, placed_at, r
 use Rattle.source_spans.proofs.Recutting.{front_split}
 use Rattle.source_spans.proofs.Rereading.{fault_by, fault_is, said_is, verdict_in}
 use Rattle.source_document.specs.Diagnostics.{text_at}
-use Rattle.source_fixes.specs.Edits.{EditSeen}
+use Rattle.source_edits.specs.Edits.{EditSeen}
+use Rattle.source_edits.specs.Laws.{IsInOrder}
+use Rattle.source_edits.specs.Narrowing.{edit_at, narrowed, without_same}
+use Rattle.source_edits.specs.Pieces.{bytes_in}
+use Rattle.source_edits.specs.Shown.{shown, shown_byte}
+use Rattle.source_edits.proofs.Exchanging.{any_cut, middle_kept}
+use Rattle.source_edits.proofs.InOrder.{folded_in_order}
 use Rattle.source_fixes.specs.Healing.{Heals, IsFixed, OneItemChanges, Stays, block_after}
-use Rattle.source_fixes.specs.Laws.{IsInOrder}
-use Rattle.source_fixes.specs.Narrowing.{bytes_in, edit_at, narrowed, without_same}
-use Rattle.source_fixes.specs.Shown.{shown, shown_byte}
 use Rattle.source_fixes.proofs.Changing.{changes_by_texts}
-use Rattle.source_fixes.proofs.Exchanging.{any_cut, middle_kept}
 use Rattle.source_fixes.proofs.Fitting.{Fits, IsOne}
-use Rattle.source_fixes.proofs.InOrder.{folded_in_order}
 use Rattle.source_fixes.proofs.ItemParts.{replaced_part}
 use Rattle.source_fixes.proofs.NamesKept.{owner_kept}
 use Rattle.source_fixes.proofs.Shrinking.{narrowed_replaces, one_same}

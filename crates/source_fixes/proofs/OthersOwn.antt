@@ -16,12 +16,12 @@ use Rattle.base_meaning.specs.Owner.{is_among, is_owner, owner, readings}
 use Rattle.source_spans.specs.Parts.{spanned}
 use Rattle.source_spans.specs.declared.parts.Part.{Part}
 use Rattle.source_blocks.specs.Giving.{can_be_given}
-use Rattle.source_fixes.specs.Edits.{EditSeen, renames_in}
+use Rattle.source_edits.specs.Edits.{EditSeen, renames_in}
+use Rattle.source_edits.specs.Shown.{shown}
+use Rattle.source_edits.proofs.Exchanging.{no_edit}
+use Rattle.source_edits.proofs.NamesFit.{each_edit}
 use Rattle.source_fixes.specs.Fixes.{given_names, other_names, others_in}
 use Rattle.source_fixes.specs.Laws.{NamesAreOfOtherBlocks}
-use Rattle.source_fixes.specs.Shown.{shown}
-use Rattle.source_fixes.proofs.Exchanging.{no_edit}
-use Rattle.source_fixes.proofs.NamesFit.{each_edit}
 
 -- a lookup name prints
 name_shown : (name : List ℕ) → All IsNameByte name → shown name ≡ name

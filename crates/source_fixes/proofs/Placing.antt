@@ -16,8 +16,8 @@ use Rattle.source_spans.proofs.Exchanging.{closed_ends, ends_closed, new_bytes}
 use Rattle.source_spans.proofs.Plain.{after_both, goes_back, goes_both, goes_uncut, last_of, plain_after, plain_both, plain_goes, plain_line}
 use Rattle.source_spans.proofs.Recutting.{Goes, by_after, by_after_at, goes_at}
 use Rattle.source_spans.proofs.Refolding.{bytes_of_at}
-use Rattle.source_fixes.specs.Laws.{IsInOrder}
-use Rattle.source_fixes.proofs.InOrder.{items_in_order}
+use Rattle.source_edits.specs.Laws.{IsInOrder}
+use Rattle.source_edits.proofs.InOrder.{items_in_order}
 
 pub item_in_order : (block : List ℕ) (ordinal : ℕ) (item : List PlacedByte) → slice_get (items_of (folded_of block)) ordinal ≡ Some item → IsInOrder item
 item_in_order block ordinal item there =

@@ -19,11 +19,11 @@ use Rattle.ti_source.specs.Items.{bytes}
 use Rattle.source_spans.specs.Parts.{end_of, spanned}
 use Rattle.source_spans.specs.Replacing.{BeginsVisible, IsPlain, is_plain}
 use Rattle.source_spans.specs.declared.parts.Part.{Part}
-use Rattle.source_fixes.specs.Candidates.{all_names, names_for}
-use Rattle.source_fixes.specs.Edits.{EditSeen, renames}
-use Rattle.source_fixes.specs.Shown.{shown}
-use Rattle.source_fixes.proofs.Exchanging.{no_edit}
-use Rattle.source_fixes.proofs.NamesFit.{each_edit}
+use Rattle.source_edits.specs.Candidates.{all_names, names_for}
+use Rattle.source_edits.specs.Edits.{EditSeen, renames}
+use Rattle.source_edits.specs.Shown.{shown}
+use Rattle.source_edits.proofs.Exchanging.{no_edit}
+use Rattle.source_edits.proofs.NamesFit.{each_edit}
 
 -- whether a name has plain bytes alone, begins with no white space, and is shown as it is
 unfoldable pub well_put : List ℕ → Bool

@@ -4,9 +4,9 @@ use Rattle.source_types.specs.declared.places.Position.{Position}
 use Rattle.source_document.specs.Diagnostics.{text_at}
 use Rattle.source_diagnostics.specs.declared.capabilities.Capabilities.{Capabilities}
 use Rattle.source_blocks.specs.declared.spots.Spot.{Spot}
-use Rattle.source_fixes.specs.Edits.{edit_seen}
+use Rattle.source_edits.specs.Edits.{edit_seen}
+use Rattle.source_edits.specs.declared.edits.Edit.{Edit}
 use Rattle.source_fixes.specs.Fixes.{FixSeen, edits_in, fixes_from, fixes_in, stretch_to}
-use Rattle.source_fixes.specs.declared.edits.Edit.{Edit}
 
 -- those of the edits that are held in memory
 pub fixes_held : (capabilities : Capabilities) (blocks : List (List ℕ)) (end : Position) (spot : Spot) (block : List ℕ) (edits : List Edit) (fixes : List FixSeen)

@@ -9,8 +9,8 @@ use Rattle.ti_source.specs.Items.{bytes}
 use Rattle.source_spans.specs.Parts.{end_of, spanned}
 use Rattle.source_spans.specs.Replacing.{BeginsVisible, IsOneLine, Replaces}
 use Rattle.source_spans.specs.declared.parts.Part.{Part}
-use Rattle.source_fixes.specs.Narrowing.{ExchangeSeen, back_size, begins_visible, front_size, shared, without_back, without_front, without_same}
-use Rattle.source_fixes.proofs.Alike.{length_bytes}
+use Rattle.source_edits.specs.Narrowing.{ExchangeSeen, back_size, begins_visible, front_size, shared, without_back, without_front, without_same}
+use Rattle.source_edits.proofs.Alike.{length_bytes}
 
 -- ---- bytes that are alike
 

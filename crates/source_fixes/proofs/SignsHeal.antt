@@ -17,21 +17,21 @@ use Rattle.source_spans.specs.Replacing.{IsOneLine, exchanged, fault_at, is_plai
 use Rattle.source_spans.specs.Subjects.{items_of, without_end}
 use Rattle.source_spans.specs.declared.parts.Part.{Part}
 use Rattle.source_spans.proofs.Plain.{item_goes, plain_line}
-use Rattle.source_fixes.specs.Carets.{can_be_read}
-use Rattle.source_fixes.specs.Edits.{EditSeen, advises_sign, is_digit, is_number, kind_signs, sign_at, sign_for}
+use Rattle.source_edits.specs.Carets.{can_be_read}
+use Rattle.source_edits.specs.Edits.{EditSeen, advises_sign, is_digit, is_number, kind_signs, sign_at, sign_for}
+use Rattle.source_edits.specs.Laws.{IsAccepted}
+use Rattle.source_edits.proofs.Exchanging.{no_edit, only_edit}
+use Rattle.source_edits.proofs.Marks.{empty_end, mark_enabled}
+use Rattle.source_edits.proofs.Readings.{flag_accepted, number_accepted, text_accepted}
+use Rattle.source_edits.proofs.SignsFit.{IsSigned, front_enabled, number_ends, signed_item}
+use Rattle.source_edits.proofs.Verdicts.{flag_ends}
 use Rattle.source_fixes.specs.Healing.{LosesFault, Stays, StaysOne, block_after}
-use Rattle.source_fixes.specs.Laws.{IsAccepted}
 use Rattle.source_fixes.proofs.Changing.{item_changes, loses_kind, refused_item}
-use Rattle.source_fixes.proofs.Exchanging.{no_edit, only_edit}
 use Rattle.source_fixes.proofs.Fitting.{Fits, sign_fits}
 use Rattle.source_fixes.proofs.ItemParts.{exchanged_part}
-use Rattle.source_fixes.proofs.Marks.{empty_end, mark_enabled}
 use Rattle.source_fixes.proofs.Placing.{byte_replaces}
 use Rattle.source_fixes.proofs.Putting.{IsPut, capability_put}
-use Rattle.source_fixes.proofs.Readings.{flag_accepted, number_accepted, text_accepted}
-use Rattle.source_fixes.proofs.SignsFit.{IsSigned, front_enabled, number_ends, signed_item}
 use Rattle.source_fixes.proofs.TakenOut.{taken_out}
-use Rattle.source_fixes.proofs.Verdicts.{flag_ends}
 
 -- what is known of a mark
 record IsOfMark (mark : ℕ) : Type 0 where

@@ -19,19 +19,19 @@ use Rattle.source_spans.proofs.Escaping.{Escape, cuts, nothing}
 use Rattle.source_spans.proofs.Plain.{after_both, goes_both, item_goes, last_of, plain_after, plain_goes}
 use Rattle.source_spans.proofs.Recutting.{Goes, by_after}
 use Rattle.source_spans.proofs.Refolding.{bytes_of_at}
-use Rattle.source_fixes.specs.Edits.{EditSeen, advises_spelling, spelling_in, spellings}
+use Rattle.source_edits.specs.Edits.{EditSeen, advises_spelling, spelling_in, spellings}
+use Rattle.source_edits.specs.Laws.{IsInOrder, IsRead, edited}
+use Rattle.source_edits.specs.Pieces.{without_last}
+use Rattle.source_edits.specs.Shown.{shown}
+use Rattle.source_edits.proofs.Exchanging.{edited_at, only_edit}
+use Rattle.source_edits.proofs.Returns.{front_of_value}
+use Rattle.source_edits.proofs.SpellingsRead.{IsSpelled, odd_item, spelled_front, spelled_whole, spellings_read, written_shown}
 use Rattle.source_fixes.specs.Healing.{LosesFault, Stays, block_after}
-use Rattle.source_fixes.specs.Laws.{IsInOrder, IsRead, edited}
-use Rattle.source_fixes.specs.Pieces.{without_last}
-use Rattle.source_fixes.specs.Shown.{shown}
 use Rattle.source_fixes.proofs.Changing.{item_changes, loses_escape, said_item}
-use Rattle.source_fixes.proofs.Exchanging.{edited_at, only_edit}
 use Rattle.source_fixes.proofs.Fitting.{Fits, printed_spelling}
 use Rattle.source_fixes.proofs.ItemParts.{replaced_part}
 use Rattle.source_fixes.proofs.Placing.{item_in_order, last_pushed, plain_pushed, text_replaces}
 use Rattle.source_fixes.proofs.Putting.{capability_put}
-use Rattle.source_fixes.proofs.Returns.{front_of_value}
-use Rattle.source_fixes.proofs.SpellingsRead.{IsSpelled, odd_item, spelled_front, spelled_whole, spellings_read, written_shown}
 use Rattle.source_fixes.proofs.Written.{IsSafe, spelling_safe, spelling_safe_return, spelling_visible}
 
 -- a string with an odd escape has a byte

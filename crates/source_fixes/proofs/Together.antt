@@ -28,18 +28,18 @@ use Rattle.source_spans.proofs.Exchanging.{block_from, computed, cut_front, foun
 use Rattle.source_spans.proofs.Recutting.{front_split}
 use Rattle.source_spans.proofs.Refolding.{bytes_apart, find_kept, kept_after, kept_safe}
 use Rattle.source_spans.proofs.Rereading.{fault_by, fault_is, other_got, said_is, verdict_in}
-use Rattle.source_fixes.specs.Edits.{EditSeen, advises_caret, advises_sign, advises_spelling, caret_in, edits_for, is_certain, keeps_return, renames_in, sign_at, sign_for}
-use Rattle.source_fixes.specs.Edits.{signs, spelled, spelling_in}
-use Rattle.source_fixes.specs.Candidates.{names_for}
-use Rattle.source_fixes.specs.Carets.{healing_caret}
-use Rattle.source_fixes.specs.Pieces.{after_name, value_of, without_last, written_name}
-use Rattle.source_fixes.specs.Shown.{shown}
+use Rattle.source_edits.specs.Edits.{EditSeen, advises_caret, advises_sign, advises_spelling, caret_in, edits_for, is_certain, keeps_return, renames_in, sign_at, sign_for}
+use Rattle.source_edits.specs.Edits.{signs, spelled, spelling_in}
+use Rattle.source_edits.specs.Candidates.{names_for}
+use Rattle.source_edits.specs.Carets.{healing_caret}
+use Rattle.source_edits.specs.Pieces.{after_name, value_of, without_last, written_name}
+use Rattle.source_edits.specs.Shown.{shown}
+use Rattle.source_edits.proofs.Exchanging.{no_edit, only_edit}
+use Rattle.source_edits.proofs.NamesFit.{each_edit}
 use Rattle.source_fixes.specs.Healing.{IsFixed, LosesFault, OneItemChanges, Stays, block_after}
 use Rattle.source_fixes.specs.Together.{CertainEditsAreMade, IsSound, StaysAsItWas, TheseAreCertain, certain_edits, certain_for, certain_from, edited_last}
 use Rattle.source_fixes.proofs.CaretsMend.{carets_mend}
-use Rattle.source_fixes.proofs.Exchanging.{no_edit, only_edit}
 use Rattle.source_fixes.proofs.Fitting.{Fits}
-use Rattle.source_fixes.proofs.NamesFit.{each_edit}
 use Rattle.source_fixes.proofs.SignsHeal.{signs_heal}
 
 -- ---- items before a place do not depend on what is after it

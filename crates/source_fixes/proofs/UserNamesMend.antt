@@ -19,15 +19,15 @@ use Rattle.source_spans.specs.Folding.{folded_of}
 use Rattle.source_spans.specs.Parts.{end_of}
 use Rattle.source_spans.specs.Subjects.{items_of}
 use Rattle.source_spans.specs.declared.parts.Part.{Part}
-use Rattle.source_fixes.specs.Edits.{EditSeen, renames}
+use Rattle.source_edits.specs.Edits.{EditSeen, renames}
+use Rattle.source_edits.specs.Pieces.{written_name}
+use Rattle.source_edits.proofs.Exchanging.{no_edit}
+use Rattle.source_edits.proofs.NamesFit.{each_edit}
 use Rattle.source_fixes.specs.Healing.{GetsKnownName, Stays, block_after}
-use Rattle.source_fixes.specs.Pieces.{written_name}
 use Rattle.source_fixes.specs.UserNames.{user_names, user_renames}
 use Rattle.source_fixes.proofs.Changing.{item_changes, text_there}
-use Rattle.source_fixes.proofs.Exchanging.{no_edit}
 use Rattle.source_fixes.proofs.Fitting.{Fits}
 use Rattle.source_fixes.proofs.ItemParts.{replaced_part}
-use Rattle.source_fixes.proofs.NamesFit.{each_edit}
 use Rattle.source_fixes.proofs.NamesHeal.{item_named, name_replaces}
 use Rattle.source_fixes.proofs.Putting.{IsPut, put_of, renamed_at, well_put}
 

@@ -21,14 +21,14 @@ use Rattle.source_spans.proofs.Escaping.{Escape, cuts, nothing}
 use Rattle.source_spans.proofs.Exchanging.{new_bytes}
 use Rattle.source_spans.proofs.Plain.{after_both, item_goes, last_of, plain_after, plain_byte, takes_none}
 use Rattle.source_spans.proofs.Recutting.{Goes, by_after}
-use Rattle.source_fixes.specs.Edits.{EditSeen}
+use Rattle.source_edits.specs.Edits.{EditSeen}
+use Rattle.source_edits.specs.Laws.{IsRead}
+use Rattle.source_edits.proofs.Marks.{end_split}
 use Rattle.source_fixes.specs.Healing.{OneItemChanges, Stays, block_after}
-use Rattle.source_fixes.specs.Laws.{IsRead}
 use Rattle.source_fixes.proofs.Changing.{item_changes, no_fault, said_item}
 use Rattle.source_fixes.proofs.Fitting.{Fits}
 use Rattle.source_fixes.proofs.Given.{AreNameLike, HasNone, IsGiven, none_both, none_goes, none_named, none_white, outer_dropped, used_bytes}
 use Rattle.source_fixes.proofs.ItemParts.{replaced_part}
-use Rattle.source_fixes.proofs.Marks.{end_split}
 use Rattle.source_fixes.proofs.NamesHeal.{white_plain}
 use Rattle.source_fixes.proofs.Placing.{after_from, text_replaces}
 use Rattle.source_fixes.proofs.TakenOut.{white_is_plain}

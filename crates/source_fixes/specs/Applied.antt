@@ -13,7 +13,7 @@ use Rattle.source_places.specs.Position.{is_start, offset_of}
 use Rattle.source_places.specs.Splicing.{spliced}
 use Rattle.source_blocks.specs.Places.{missing_newline}
 use Rattle.source_keeping.specs.Keeping.{KeepsLines}
-use Rattle.source_fixes.specs.Edits.{EditSeen}
+use Rattle.source_edits.specs.Edits.{EditSeen}
 use Rattle.source_fixes.specs.Fixes.{FixSeen, fixes_of}
 use Rattle.source_fixes.specs.Healing.{Heals, block_after}
 

@@ -1,7 +1,6 @@
 -- What an editor offers against the faults of a document's items (own; Language Server Protocol
 -- 3.17, "Code Action Request").
-use Rattle.ti_text.specs.Ascii as ascii
-use Rattle.std.specs.Prelude.{ℕ, ◌==◌, ◌&&◌, not, nat_le, nat_lt, is_none, is_some, Bool, false, List, [], ◌++◌, filter, flat_map, map, Option, None, Some}
+use Rattle.std.specs.Prelude.{ℕ, ◌==◌, ◌&&◌, not, nat_le, is_none, is_some, Bool, false, List, [], ◌++◌, filter, flat_map, map, Option, None, Some}
 use Rattle.std.specs.Prelude.{option_and_then, option_map, if◌then◌else◌}
 use Rattle.std.specs.List.{enumerate_from, find}
 use Rattle.std.specs.Option.{option_map_or}
@@ -26,12 +25,13 @@ use Rattle.source_document.specs.Diagnostics.{text_at}
 use Rattle.source_diagnostics.specs.declared.capabilities.Capabilities.{Capabilities}
 use Rattle.source_diagnostics.specs.declared.capabilities.Capabilities.TheVariants.{Profile, UserDefined}
 use Rattle.source_document.specs.Documents.{held}
-use Rattle.source_places.specs.Position.{units}
+use Rattle.source_keeping.specs.Keeping.{stays_in_line}
 use Rattle.source_blocks.specs.Giving.{can_be_given}
+use Rattle.source_blocks.specs.Places.{can_be_exchanged}
 use Rattle.source_blocks.specs.Spots.{offset_in, range_in, spot_at}
 use Rattle.source_blocks.specs.declared.spots.Spot.{Spot}
-use Rattle.source_fixes.specs.Edits.{AdviceSeen, EditSeen, advice_seen, edits_for, renames}
-use Rattle.source_fixes.specs.Narrowing.{can_be_made, narrowed}
+use Rattle.source_edits.specs.Edits.{AdviceSeen, EditSeen, advice_seen, edits_for, renames}
+use Rattle.source_edits.specs.Narrowing.{narrowed}
 use Rattle.source_fixes.specs.UserNames.{user_renames, user_renames_by}
 use Rattle.source_fixes.specs.declared.fixes.Fix.{Fix}
 use Rattle.source_fixes.specs.declared.fixes.Stretch.{Stretch}
@@ -140,10 +140,11 @@ edits_in capabilities blocks stretch =
 
 -- ---- a document
 
--- whether a byte begins a character after another byte: it is none within one, nor the LF of a
--- CR LF
-abbrev pub begins_character : (before byte : ℕ) → Bool
-begins_character before byte = nat_lt 0 (units byte) && not (before == ascii.carriage_return && byte == ascii.newline)
+-- whether an editor can make an edit of a block, and the edit is within a line of items, so that it
+-- leaves comments and blank lines as they are
+abbrev pub can_be_made : List ℕ → EditSeen → Bool
+can_be_made block edit =
+    can_be_exchanged block edit.part && (nat_le edit.part.start edit.part.end && stays_in_line block edit.part.start edit.part.end edit.text)
 
 -- an edit of a block that begins on that line, as a fix of the text
 abbrev pub fix_of : ℕ → List ℕ → EditSeen → FixSeen

@@ -19,9 +19,9 @@ use Rattle.source_spans.specs.declared.parts.Part.{Part}
 use Rattle.source_document.specs.Diagnostics.{text_at}
 use Rattle.source_descriptions.specs.UserDescriptions.{user_described}
 use Rattle.source_hints.specs.Unknown.{is_unknown_name}
-use Rattle.source_fixes.specs.Edits.{EditSeen}
+use Rattle.source_edits.specs.Edits.{EditSeen}
+use Rattle.source_edits.specs.Laws.{IsOfCapability, IsRead}
 use Rattle.source_fixes.specs.Fixes.{item_edits}
-use Rattle.source_fixes.specs.Laws.{IsOfCapability, IsRead}
 
 -- a part is one of a block
 abbrev pub IsPartOf : List ℕ → Part → Type 0

@@ -11,7 +11,7 @@ use Rattle.source_diagnostics.specs.declared.diagnostics.Problem.{Problem}
 use Rattle.source_diagnostics.specs.declared.diagnostics.Problem.TheVariants.{Fault}
 use Rattle.source_blocks.specs.Spots.{range_in, spot_at}
 use Rattle.source_blocks.specs.declared.spots.Spot.{Spot}
-use Rattle.source_fixes.specs.Edits.{AdviceSeen, advises_name, advises_sign, advises_spelling, advises_caret}
+use Rattle.source_edits.specs.Edits.{AdviceSeen, advises_name, advises_sign, advises_spelling, advises_caret}
 use Rattle.source_fixes.specs.Fixes.{FixSeen}
 
 -- whether a problem is one that the advice is against: another name is one against a name that no

@@ -9,7 +9,7 @@ use Rattle.ti_source.specs.declared.code.Code.TheVariants as code
 use Rattle.source_spans.specs.Folding.{folded_of}
 use Rattle.source_spans.specs.Replacing.{fault_at, item_texts, said_at}
 use Rattle.source_spans.specs.Subjects.{head_text, items_of}
-use Rattle.source_fixes.specs.Edits.{EditSeen, carets, edits_for, is_certain, kind_signs}
+use Rattle.source_edits.specs.Edits.{EditSeen, carets, edits_for, is_certain, kind_signs}
 use Rattle.source_fixes.specs.Healing.{block_after}
 
 -- ---- the edits

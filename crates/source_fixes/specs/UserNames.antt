@@ -7,8 +7,8 @@ use Rattle.source_descriptions.specs.UserDescriptions.{UserDescribed, user_descr
 use Rattle.source_diagnostics.specs.declared.capabilities.Capabilities.{Capabilities}
 use Rattle.source_diagnostics.specs.declared.capabilities.Capabilities.TheVariants.{Profile, UserDefined}
 use Rattle.source_hints.specs.Unknown.{is_unknown_name}
-use Rattle.source_fixes.specs.Edits.{EditSeen, renames}
-use Rattle.source_fixes.specs.Pieces.{written_name}
+use Rattle.source_edits.specs.Edits.{EditSeen, renames}
+use Rattle.source_edits.specs.Pieces.{written_name}
 
 -- the names of the user-defined capabilities that are known
 abbrev pub user_names : List (List ℕ)

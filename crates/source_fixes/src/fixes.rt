@@ -7,21 +7,17 @@ ghost use Rattle.source_spans.specs.Folding.{folded_of};
 ghost use Rattle.source_spans.specs.Parts.{IsWithin, part_of};
 ghost use Rattle.source_document.specs.Diagnostics.{text_at};
 ghost use Rattle.source_document.specs.Documents.{IsShortBlock};
-ghost use Rattle.source_fixes.specs.Edits.{edit_seen};
+ghost use Rattle.source_edits.specs.Edits.{edit_seen};
 ghost use Rattle.source_fixes.specs.Fixes as spec;
 ghost use Rattle.source_blocks.specs.Places.{can_be_exchanged, is_place};
-ghost use Rattle.source_fixes.specs.Narrowing.{can_be_made};
-ghost use Rattle.source_fixes.specs.Fixes.{begins_character, fix_seen, fixes_in, stretch_to, text_said, touched_edits};
+ghost use Rattle.source_fixes.specs.Fixes.{can_be_made, fix_seen, fixes_in, stretch_to, text_said, touched_edits};
 
-use crate::edits::{Advice, Edit, push_edits};
-use crate::narrowing::narrowed;
-use crate::pieces::span;
-use crate::texts::last_byte;
 use crate::user_names::push_user_names;
 use crate::uses::push_used;
 use source_blocks::{Spot, offset_in, range_in, spot_at};
 use source_descriptions::is_known;
 use source_document::{Capabilities, Document};
+use source_edits::{Advice, Edit, is_start, narrowed, push_edits, span};
 use source_keeping::stays_in_line;
 use source_spans::{Part, folded, visible_items};
 use source_types::{Position, Range};
@@ -218,21 +214,11 @@ fn edits_in(
     )
 }
 
-// Whether a byte begins a character after another byte: it is none within one, nor the LF of a
-// CR LF.
-#[tactic(auto, using(crate::proofs::Ending::units_some))]
-fn begins_character(before: u8, byte: u8) -> bool
-    ensures { result ≡ begins_character before byte }
-{
-    (byte < 128 || byte >= 192) && !(before == b'\r' && byte == b'\n')
-}
-
 // Whether an editor has a place of that offset of a block.
-#[tactic(auto, using(crate::proofs::Ending::start_at))]
 fn is_place(block: &[u8], offset: usize) -> bool
     ensures { result ≡ is_place block.now offset }
 {
-    offset < block.len() && begins_character(last_byte(&block[..offset]), block[offset])
+    offset < block.len() && is_start(block, offset)
 }
 
 // Whether an editor can exchange a part of a block, and no more and no less.

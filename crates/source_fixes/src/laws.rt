@@ -2,12 +2,7 @@
 ghost use Rattle.source_fixes.specs.Applied.{AsciiPlacesAreStarts, FixesHeal};
 ghost use Rattle.source_fixes.specs.Healing.{EditsHeal};
 ghost use Rattle.source_fixes.specs.Together.{CertainEditsAreMade, TheseAreCertain};
-ghost use Rattle.source_fixes.specs.Laws.{CaretsHeal, ItemsAreInOrder, ItemsHaveOneVerdict, NamesAreOfCapabilities, NamesAreOfOtherBlocks, SignsFitTheKind, SpellingsReadBack};
-
-/// An item is of a capability of its kind with a name that is offered for its own.
-pub fn names_are_of_capabilities()
-    ensures { NamesAreOfCapabilities }
-{}
+ghost use Rattle.source_fixes.specs.Laws.{NamesAreOfOtherBlocks};
 
 /// A name that is offered for one that a block uses is that of another block.
 pub fn names_are_of_other_blocks()
@@ -15,36 +10,6 @@ pub fn names_are_of_other_blocks()
 {
     ti_source::laws::each_is_well_read();
 }
-
-/// An item of the wrong kind is accepted with the sign that is offered for it.
-pub fn signs_fit_the_kind()
-    ensures { SignsFitTheKind }
-{}
-
-/// A string with an odd escape says the same with the spelling that is offered for it, and no
-/// escape is odd.
-pub fn spellings_read_back()
-    ensures { SpellingsReadBack }
-{
-    ti_source::laws::one_outcome();
-    ti_source::laws::written_spells();
-}
-
-/// A string that cannot be read is read with a backslash before the `^` at its end, if that is
-/// offered.
-pub fn carets_heal()
-    ensures { CaretsHeal }
-{}
-
-/// There is one verdict on an item.
-pub fn items_have_one_verdict()
-    ensures { ItemsHaveOneVerdict }
-{}
-
-/// The bytes of each item of a block are in the order of the block.
-pub fn items_are_in_order()
-    ensures { ItemsAreInOrder }
-{}
 
 /// An edit that is offered for an item of a block, once it is made, has taken the fault or the
 /// unknown name of the item away, and has changed no other item.

@@ -2,14 +2,14 @@
 ghost use Rattle.std.specs.Prelude.{◌≡◌, ◌<◌, ◌+◌, ◌^◌, IfOk, filter, length, map};
 ghost use Rattle.ti_source.specs.Cutting.{OneBlock};
 ghost use Rattle.source_document.specs.Diagnostics.{diagnostic_seen};
-ghost use Rattle.source_fixes.specs.Edits.{advice_seen};
+ghost use Rattle.source_edits.specs.Edits.{advice_seen};
 ghost use Rattle.source_fixes.specs.Fixes.{fix_seen};
 ghost use Rattle.source_fixes.specs.Resolving.{is_against, is_of_fault, is_same_place, item_start, item_start_in, resolved_by};
 
-use crate::edits::Advice;
 use crate::fixes::Fix;
 use source_blocks::{range_in, spot_at};
 use source_document::{Diagnostic, Document, Problem};
+use source_edits::Advice;
 use source_spans::{folded, item_in};
 use source_types::Position;
 use std::alloc::{AllocError, Global};

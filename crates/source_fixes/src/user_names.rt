@@ -1,13 +1,12 @@
 //! What is offered in place of a user-defined name that is not known.
 ghost use Rattle.std.specs.Prelude.{◌≡◌, ◌<◌, ◌++◌, ◌^◌, All, IfOk, OnOk, map};
 ghost use Rattle.source_descriptions.specs.UserDescriptions.{user_description_seen};
-ghost use Rattle.source_fixes.specs.Edits.{edit_seen, renames};
+ghost use Rattle.source_edits.specs.Edits.{edit_seen, renames};
 ghost use Rattle.source_fixes.specs.UserNames.{user_names, user_renames, user_renames_by};
 
-use crate::edits::{Edit, push_nearest};
-use crate::pieces::{bytes_of, written_name};
 use source_descriptions::{UserDescription, user_descriptions};
 use source_document::Capabilities;
+use source_edits::{Edit, bytes_of, push_nearest, written_name};
 use source_hints::is_unknown_name;
 use std::alloc::{AllocError, Global};
 

@@ -2,29 +2,18 @@
 ghost use Rattle.std.specs.Prelude.{◌≡◌, ◌<◌, ◌++◌, ◌^◌, All, IfOk, OnOk, length, map, option_map};
 ghost use Rattle.ti_source.specs.Parsing.{reading_of_text};
 ghost use Rattle.base_meaning.specs.OwnNames.{own_names};
-ghost use Rattle.base_meaning.specs.Owner as meaning;
 ghost use Rattle.base_meaning.specs.Owner.{readings};
 ghost use Rattle.source_spans.specs.Subjects.{used_name};
 ghost use Rattle.source_document.specs.Diagnostics.{text_at};
-ghost use Rattle.source_fixes.specs.Edits.{edit_seen};
+ghost use Rattle.source_edits.specs.Edits.{edit_seen};
 ghost use Rattle.source_fixes.specs.Fixes as spec;
 ghost use Rattle.source_fixes.specs.Fixes.{others_in, used_edits};
 
-use crate::edits::{Edit, push_nearest};
 use crate::giving::given_names;
-use crate::pieces::{bytes_of, used_of};
+use source_blocks::is_owner;
+use source_edits::{Edit, bytes_of, push_nearest, used_of};
 use std::alloc::{AllocError, Global};
 use ti_base::{Database, distinct_names};
-
-// Whether a name belongs to the block at that position.
-fn is_owner(database: &Database, name: &[u8], at: usize) -> bool
-    ensures { result ≡ meaning.is_owner (readings database.now) name.now at }
-{
-    match database.owner(name) {
-        Some(place) => place == at,
-        None => false,
-    }
-}
 
 // Adds the names that the block at that position owns, each once.
 fn push_owned<'a>(

@@ -1,4 +1,5 @@
 pub mod Lines
+pub mod AfterUses
 pub mod Stepping
 pub mod Remarked
 pub mod Ordered

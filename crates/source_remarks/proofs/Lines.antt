@@ -1,12 +1,12 @@
 -- The lines of hints on a block are lines of the block.
-use Rattle.std.proofs.Common.{◌≡◌, ℕ, suc, zero, ◌+◌, ◌<◌, ◌≤◌, ◌==◌, Bool, true, false, List, [], ◌∷◌, length, map, get_or, arith, subst, sym}
+use Rattle.std.proofs.Common.{ℕ, suc, zero, ◌+◌, ◌<◌, ◌≤◌, ◌==◌, Bool, true, false, List, [], ◌∷◌, length, map, get_or, arith, subst, sym}
 use Rattle.std.specs.Prelude.{if◌then◌else◌}
 use Rattle.source_types.specs.declared.places.Position.{Position}
 use Rattle.source_places.specs.Position.{ends_line, place_after, position_of, step_over, units}
 use Rattle.source_block_hints.specs.declared.hint.Hint.{Hint}
-use Rattle.source_hints.specs.Hints.{hints_of}
 use Rattle.source_block_hints.specs.declared.hint.HintKind.TheVariants.{WrongFormat}
-use Rattle.source_remarks.specs.Hints.{block_marks, mark_of}
+use Rattle.source_remarks.specs.Hints.{mark_of}
+use Rattle.source_remarks.specs.inside.Marked.{AreMarksOf}
 use Rattle.source_remarks.specs.declared.marks.HintMark.{HintMark}
 
 -- a byte is at most one line
@@ -40,11 +40,10 @@ each text [] i d within = absurd (omega arith)
 each text (hint ∷ hints) zero d within = record { start = line_within text _; end = line_within text _ }
 each text (hint ∷ hints) (suc i) d within = each text hints i d (omega (arith, within))
 
-pub on_lines : (user_defined : Bool) (text : List ℕ) (marks : List HintMark) (i : ℕ) (d : HintMark) → marks ≡ block_marks user_defined text → i < length marks
-    → IsOnLines text (get_or marks i d)
-on_lines user_defined text marks i d is within =
-    subst (λ (all : List HintMark). IsOnLines text (get_or all i d)) (sym is)
-    (each text (hints_of user_defined text) i d (subst (λ (all : List HintMark). i < length all) is within))
+pub on_lines : (text : List ℕ) (marks : List HintMark) (i : ℕ) (d : HintMark) → AreMarksOf text marks → i < length marks → IsOnLines text (get_or marks i d)
+on_lines text marks i d are within =
+    subst (λ (all : List HintMark). IsOnLines text (get_or all i d)) (sym are.are)
+    (each text are.hints i d (subst (λ (all : List HintMark). i < length all) are.are within))
 
 -- what is read past the end of some marks
 abbrev pub no_mark : HintMark

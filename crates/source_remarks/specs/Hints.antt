@@ -1,7 +1,7 @@
 -- The hints on a source, as an editor shows them (own; Language Server Protocol 3.17, "Diagnostic"):
 -- those on its blocks, each with the first line of its item, and those on the whole file, each with
 -- a line of it.
-use Rattle.std.specs.Prelude.{ℕ, zero, suc, ◌+◌, ◌-◌, Bool, true, false, List, [], ◌∷◌, ◌++◌, codes, length, map, Option, Some}
+use Rattle.std.specs.Prelude.{ℕ, zero, suc, ◌+◌, ◌-◌, Bool, true, false, List, [], ◌∷◌, ◌++◌, codes, length, map, Some}
 use Rattle.std.specs.List.{slice_range}
 use Rattle.std.specs.String.{string_bytes}
 use Rattle.base_meaning.specs.Report.{detail_text, lines_before}
@@ -16,6 +16,8 @@ use Rattle.source_diagnostics.specs.declared.capabilities.Capabilities.TheVarian
 use Rattle.source_document.specs.Documents.{held}
 use Rattle.source_hints.specs.FileForms.{file_hints}
 use Rattle.source_hints.specs.Hints.{hints_of}
+use Rattle.source_hints.specs.Merging.{merged}
+use Rattle.source_use_hints.specs.Uses.{after_uses}
 use Rattle.source_block_hints.specs.Words.{name_of, sentence_of}
 use Rattle.source_block_hints.specs.declared.hint.Hint.{Hint}
 use Rattle.source_block_hints.specs.declared.hint.HintKind.{HintKind}
@@ -78,11 +80,17 @@ shown_after lines block mark = record {
 
 -- ---- the hints on a source
 
--- those on the block at that position, if the first block begins on the line of the number `first`,
--- counted from 1
+-- the hints on the block at that position in the order in which they begin: those on its text, and
+-- those on items after a use whose block says their capability too
+abbrev pub source_marks : Bool → List (List ℕ) → ℕ → List HintMark
+source_marks user_defined texts at =
+    map (mark_of (text_at texts at)) (merged (hints_of user_defined (text_at texts at)) (after_uses texts at))
+
+-- the same as they are shown, if the first block begins on the line of the number `first`, counted
+-- from 1
 abbrev pub hints_at : Bool → List (List ℕ) → ℕ → ℕ → List SeenHint
 hints_at user_defined texts first at =
-    map (shown_after (first - 1 + lines_before texts at) (text_at texts at)) (block_marks user_defined (text_at texts at))
+    map (shown_after (first - 1 + lines_before texts at) (text_at texts at)) (source_marks user_defined texts at)
 
 -- those on the blocks before that position
 abbrev pub hints_before : Bool → List (List ℕ) → ℕ → ℕ → List SeenHint

@@ -2,3 +2,4 @@
 pub mod Hints
 pub mod Remarks
 pub mod Laws
+pub mod inside

@@ -1,8 +1,10 @@
 //! The hints on blocks, kept while the text of each stays the same.
 ghost use Rattle.std.specs.Prelude.{◌≡◌, IfOk, IfSome, true};
+ghost use Rattle.source_use_hints.specs.Following.{says_after_use};
 ghost use Rattle.source_remarks.specs.Hints.{block_marks};
 
 use crate::marks::{HintMark, block_marks};
+use source_use_hints::says_after_use;
 use std::alloc::{AllocError, Global};
 use std::marker::Model;
 
@@ -12,17 +14,19 @@ pub struct KeptHints {
     user_defined: bool,
     text: Vec<u8>,
     marks: Vec<HintMark>,
+    // Whether an item says a capability after a use, which its block may say too.
+    says_after_use: bool,
 }
 
 impl Model for KeptHints {
-    ghost use Rattle.std.specs.Prelude.{◌≡◌, Bool, List, ℕ};
-    ghost use Rattle.source_remarks.specs.Hints.{block_marks};
+    ghost use Rattle.std.specs.Prelude.{Bool, List, ℕ};
+    ghost use Rattle.source_remarks.specs.inside.Kept.{IsKeptOf};
 
     ghost Value = { Bool × List ℕ };
 
     ghost view = { λ k. (k.user_defined, k.text.items) };
 
-    ghost invariant = { λ k. k.marks.items ≡ block_marks k.user_defined k.text.items };
+    ghost invariant = { λ k. IsKeptOf k.user_defined k.text.items k.marks.items k.says_after_use };
 }
 
 // How many kept blocks are looked through for one. If more than these were taken out, the blocks
@@ -50,6 +54,7 @@ impl KeptHints {
             user_defined,
             text: Vec::from_slice(alloc, text)?,
             marks,
+            says_after_use: says_after_use(alloc, text)?,
         })
     }
 
@@ -65,6 +70,13 @@ impl KeptHints {
         ensures { result.now ≡ block_marks self.now.0 self.now.1 }
     {
         &self.marks
+    }
+
+    /// Whether an item of the block says a capability after a use.
+    pub(crate) fn says_after_use(&self) -> bool
+        ensures { result ≡ says_after_use self.now.1 }
+    {
+        self.says_after_use
     }
 }
 

@@ -4,7 +4,7 @@
 //! - `marks`: the hints on a block, and what of it is shown for each
 //! - `kept`: the same, kept while the block stays the same
 //! - `shown`: a hint as it is shown
-//! - `sources`: the hints on a source
+//! - `sources`: the hints on a source, with those on items after a use
 //! - `remarks`: its faults with these among them
 #![tactic(auto)]
 

@@ -49,8 +49,15 @@ fn mark_of(walk: &mut PlaceWalk<'_>, hint: Hint) -> HintMark
     }
 }
 
-// The same of these hints on a block.
-fn marks_of(alloc: Global, block: &[u8], hints: &[Hint]) -> Result<Vec<HintMark>, AllocError>
+/// The same of these hints on a block.
+///
+/// # Errors
+/// Out of memory.
+pub(crate) fn marks_of(
+    alloc: Global,
+    block: &[u8],
+    hints: &[Hint],
+) -> Result<Vec<HintMark>, AllocError>
     ensures { IfOk result (λ marks. marks.items ≡ map (mark_of block.now) hints.now) }
 {
     let mut walk = PlaceWalk::new(block);

@@ -1,5 +1,5 @@
 //! The hints on a source.
-ghost use Rattle.std.specs.Prelude.{◌≡◌, ◌+◌, ◌-◌, ◌<◌, ◌≤◌, ◌^◌, ◌++◌, IfOk, OnOk, length, map, slice_get, Some};
+ghost use Rattle.std.specs.Prelude.{◌≡◌, ◌+◌, ◌-◌, ◌<◌, ◌≤◌, ◌^◌, ◌++◌, ℕ, IfOk, List, OnOk, length, map, slice_get, Some};
 ghost use Rattle.base_meaning.specs.Report.{lines_before};
 ghost use Rattle.ti_text.specs.Limits.{block_bytes_max};
 ghost use Rattle.tools_sources.specs.Sources.{first_line};
@@ -7,14 +7,18 @@ ghost use Rattle.source_diagnostics.specs.Marking.{text_at};
 ghost use Rattle.source_hints.specs.FileForms.{file_hints};
 ghost use Rattle.source_document.specs.Documents.{held};
 ghost use Rattle.source_remarks.specs.Hints as spec;
-ghost use Rattle.source_remarks.specs.Hints.{block_marks, has_user_defined, hint_seen, hints_at, hints_before, hints_on, hints_seen, shown_after, shown_in_file, text_hints};
+ghost use Rattle.source_remarks.specs.Hints.{has_user_defined, hint_seen, hints_before, hints_on, hints_seen, shown_after, shown_in_file, source_marks, text_hints};
+ghost use Rattle.source_remarks.specs.inside.Marked.{AreMarksOf};
 
 use crate::kept::{KeptHints, taken_or_found};
+use crate::marks::{HintMark, marks_of};
 use crate::shown::{ShownHint, shown_after, shown_in_file};
 use source_diagnostics::Capabilities;
 use source_document::Document;
-use source_hints::file_hints;
+use source_hints::{file_hints, hints_of, merged};
+use source_use_hints::hints_after_uses;
 use std::alloc::{AllocError, Global};
+use ti_base::Database;
 use tools_sources::first_line;
 
 /// The hints on a source.
@@ -26,24 +30,69 @@ pub struct SourceHints {
     pub file: Vec<ShownHint>,
 }
 
-// Adds the hints on a block that so many lines are before.
-fn push_block(
+// Adds what is shown for hints on a block that so many lines are before.
+fn push_marks(
     alloc: Global,
     all: &mut Vec<ShownHint>,
     lines: usize,
     text: &[u8],
-    kept: &KeptHints,
+    marks: &[HintMark],
 ) -> Result<(), AllocError>
-    requires kept { kept.now.1 ≡ text.now }
+    requires marks { AreMarksOf text.now marks.now }
     requires lines { lines ≤ 2 ^ 63 + 2 ^ 37 }
     requires short { length text.now ≤ block_bytes_max }
-    ensures { OnOk result (map hint_seen all.new.items ≡ map hint_seen all.old.items ++ map (shown_after lines text.now) (block_marks kept.now.0 text.now)) }
+    ensures { OnOk result (map hint_seen all.new.items ≡ map hint_seen all.old.items ++ map (shown_after lines text.now) marks.now) }
 {
-    let marks = kept.marks();
     for mark in marks {
         all.push(shown_after(alloc, lines, text, *mark)?)?;
     }
     Ok(())
+}
+
+// The hints on the block at a position, with those on items after a use.
+fn marks_with_uses(
+    alloc: Global,
+    user_defined: bool,
+    database: &Database,
+    at: usize,
+) -> Result<Vec<HintMark>, AllocError>
+    requires { at < length database.now }
+    ensures { IfOk result (λ marks. marks.items ≡ source_marks user_defined database.now at) }
+{
+    let text = database.text(at);
+    let hints = hints_of(alloc, user_defined, text)?;
+    let after = hints_after_uses(alloc, database, at)?;
+    let all = merged(alloc, &hints, &after)?;
+    marks_of(alloc, text, &all)
+}
+
+// Adds the hints on the block at a position that so many lines are before. Most blocks have no item
+// after a use, and what is kept of them is all.
+fn push_block(
+    alloc: Global,
+    all: &mut Vec<ShownHint>,
+    lines: usize,
+    database: &Database,
+    at: usize,
+    user_defined: bool,
+    kept: &KeptHints,
+) -> Result<(), AllocError>
+    requires within { at < length database.now }
+    requires kept { (text : List ℕ) → slice_get database.now at ≡ Some text → kept.now ≡ (user_defined, text) }
+    requires lines { lines ≤ 2 ^ 63 + 2 ^ 37 }
+    requires short { length (text_at database.now at) ≤ block_bytes_max }
+    ensures { OnOk result (map hint_seen all.new.items
+        ≡ map hint_seen all.old.items ++ map (shown_after lines (text_at database.now at)) (source_marks user_defined database.now at)) }
+{
+    // A law, with no code: a block without such items has no hint on one.
+    source_use_hints::laws::others_have_no_hint_after_uses();
+    let text = database.text(at);
+    if kept.says_after_use() {
+        let marks = marks_with_uses(alloc, user_defined, database, at)?;
+        push_marks(alloc, all, lines, text, &marks)
+    } else {
+        push_marks(alloc, all, lines, text, kept.marks())
+    }
 }
 
 // The number of the line on which a block begins, counted from 0, if so many lines are before it in
@@ -83,7 +132,9 @@ fn block_hints(
             alloc,
             &mut all,
             lines_before(first, starts[at]),
-            text,
+            database,
+            at,
+            user_defined,
             &hints,
         )?;
         found.push(hints)?;

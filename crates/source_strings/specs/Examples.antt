@@ -23,7 +23,7 @@ abbrev pub word : FormatArgument
 word = text (codes "abc")
 
 -- The parameters of an example, by the names of those that a capability takes: row 4, column 9, a
--- count of 5, the character a, and the string abc; else 1 for each, as the colour red.
+-- count of 5, the character a, and the string abc; else 1 for each, as the color red.
 abbrev pub samples_for : List ℕ → List FormatArgument
 samples_for parameters =
     if bytes_eq parameters (codes "row, column") then two (numeral 4) (numeral 9)

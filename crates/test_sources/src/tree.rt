@@ -5,9 +5,9 @@ use everyday_sources::{chosen_names, is_chosen, take_used};
 use std::alloc::Global;
 use test_rows::RowError::{Bad, Memory};
 use test_rows::{NO_CALL, Row, RowResult, text_of};
-use ti_source::lookup_names;
+use ti_source::{Rule, lookup_names};
 use tools_devices::{File, MemTree, Tree, TreeFault, locate, place};
-use tools_sources::database_of;
+use tools_sources::database_by;
 
 // The files of paths and bytes.
 fn files_of(alloc: Global, words: &[Vec<u8>]) -> RowResult<Vec<File>> {
@@ -80,7 +80,7 @@ fn say_located(row: &mut Row<'_>, tree: &mut MemTree) -> RowResult {
 // Takes the entries that a source uses: the blocks that are added, the files that are not taken, and
 // the faults of the source if they are known.
 fn say_used(row: &mut Row<'_>, tree: &mut MemTree) -> RowResult {
-    let Ok(mut database) = database_of(row.alloc, row.bytes(0)?) else {
+    let Ok(mut database) = database_by(row.alloc, Rule::OwnFirst, row.bytes(0)?) else {
         return Err(Bad("the source is refused"));
     };
     let before = database.len();

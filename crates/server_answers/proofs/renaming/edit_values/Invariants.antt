@@ -1,6 +1,6 @@
 use Rattle.std.proofs.Common.{◌≡◌, map, take}
 use Rattle.serde_json.specs.View.{view}
-use Rattle.source_features.specs.Renaming.{rename_edit_seen}
+use Rattle.source_names.specs.Renaming.{rename_edit_seen}
 use Rattle.server_answers.specs.Answers.{edit_data}
 use Rattle.server_answers.proofs.renaming.edit_values.Given as goal
 

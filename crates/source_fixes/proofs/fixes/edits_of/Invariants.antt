@@ -2,7 +2,7 @@ use Rattle.std.proofs.Common.{◌≡◌, ◌++◌, drop, flat_map, map}
 use Rattle.std.specs.List.{enumerate_from}
 use Rattle.ti_source.specs.Reading.{reading_of}
 use Rattle.source_spans.specs.Parts.{part_of}
-use Rattle.source_fixes.specs.Edits.{edit_seen}
+use Rattle.source_edits.specs.Edits.{edit_seen}
 use Rattle.source_fixes.specs.Fixes.{edits_of, touched_edits}
 use Rattle.source_fixes.proofs.fixes.edits_of.Given as goal
 

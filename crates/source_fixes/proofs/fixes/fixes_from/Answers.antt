@@ -1,7 +1,7 @@
 use Rattle.std.proofs.Common.{◌≡◌, ap, map, ◌∙◌}
 use Rattle.std.proofs.lemmas.Result.{IfOk-weaker}
 use Rattle.source_blocks.proofs.Outlines.{text_is}
-use Rattle.source_fixes.specs.Edits.{edit_seen}
+use Rattle.source_edits.specs.Edits.{edit_seen}
 use Rattle.source_fixes.specs.Fixes as spec
 use Rattle.source_fixes.specs.Fixes.{edits_in, fix_seen, fixes_in}
 use Rattle.source_fixes.proofs.Ranging.{fixes_held}

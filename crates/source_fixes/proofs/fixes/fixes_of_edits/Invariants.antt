@@ -1,5 +1,5 @@
 use Rattle.std.proofs.Common.{◌≡◌, map}
-use Rattle.source_fixes.specs.Edits.{edit_seen}
+use Rattle.source_edits.specs.Edits.{edit_seen}
 use Rattle.source_fixes.specs.Fixes.{fix_seen, fixes_in}
 use Rattle.source_fixes.proofs.fixes.fixes_of_edits.Given as goal
 

@@ -1,6 +1,6 @@
 use Rattle.std.proofs.Common.{◌≡◌, filter, map, take}
 use Rattle.source_document.specs.Diagnostics.{diagnostic_seen}
-use Rattle.source_fixes.specs.Edits.{advice_seen}
+use Rattle.source_edits.specs.Edits.{advice_seen}
 use Rattle.source_fixes.specs.Resolving.{is_of_fault}
 use Rattle.source_fixes.proofs.resolving.of_fault.Given as goal
 

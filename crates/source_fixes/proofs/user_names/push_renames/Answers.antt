@@ -2,7 +2,7 @@ use Rattle.std.proofs.Common.{◌≡◌, ℕ, List, ◌++◌, ap, map, sym, ◌�
 use Rattle.std.proofs.lemmas.Result.{on_ok_weaker}
 use Rattle.std.proofs.lemmas.Simd.{map-map}
 use Rattle.source_descriptions.specs.UserDescriptions.{UserDescribed, user_description_seen}
-use Rattle.source_fixes.specs.Edits.{edit_seen, renames}
+use Rattle.source_edits.specs.Edits.{edit_seen, renames}
 use Rattle.source_fixes.specs.UserNames.{user_names}
 use Rattle.source_fixes.proofs.user_names.push_renames.Goals as goal
 

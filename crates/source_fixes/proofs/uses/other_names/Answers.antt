@@ -1,5 +1,6 @@
 use Rattle.std.proofs.Common.{arith}
-use Rattle.source_fixes.proofs.Listing.{others_next, seen}
+use Rattle.source_edits.proofs.Listing.{seen}
+use Rattle.source_fixes.proofs.Listing.{others_next}
 use Rattle.source_fixes.proofs.uses.other_names.Goals as goal
 
 pub loop-at-preserved : goal.loop-at-preserved

@@ -1,4 +1,4 @@
-use Rattle.std.proofs.Common.{◌≡◌, ◌∙◌, ◌+◌, ◌-◌, ◌<◌, ◌≤◌, ◌++◌, ℕ, Bool, List, [], Option, ap, ap₂, arith, get_or, length, map, subst, sym}
+use Rattle.std.proofs.Common.{◌≡◌, ◌∙◌, ◌+◌, ◌-◌, ◌<◌, ◌≤◌, ◌++◌, ℕ, List, [], Option, ap, ap₂, arith, get_or, length, map, subst, sym}
 use Rattle.std.proofs.lemmas.List.{get_or_read}
 use Rattle.std.proofs.lemmas.Option.{get_or_from_slice_get}
 use Rattle.std.specs.Option.{option_map_or}
@@ -8,7 +8,8 @@ use Rattle.tools_sources.specs.Sources.{first_line}
 use Rattle.source_diagnostics.specs.Marking.{text_at}
 use Rattle.source_diagnostics.proofs.FaultLines.{length_starts, start_read}
 use Rattle.source_document.specs.Documents.{held}
-use Rattle.source_remarks.specs.Hints.{block_marks, hint_seen, shown_after}
+use Rattle.source_remarks.specs.Hints.{hint_seen, shown_after, source_marks}
+use Rattle.source_remarks.proofs.AfterUses.{text_there}
 use Rattle.source_remarks.proofs.Stepping.{one_more_block}
 use Rattle.source_remarks.proofs.sources.block_hints.Goals as goal
 
@@ -36,7 +37,9 @@ push_block-requires-clause-short c =
     let within : at < length (held document) = omega (arith, c.len-at-end.ensures, c.loop-at-test.true, ap length same) in
     let there : get_or (held document) at text ≡ text =
     ap (λ (ts : List (List ℕ)). get_or ts at text) (sym same) ∙ get_or_from_slice_get texts at text text c.text-text.ensures in
-    subst (λ (t : List ℕ). length t ≤ block_bytes_max) there ((c.held_blocks_fit.ensures document).1 at text within).0
+    let here : text_at texts at ≡ text = text_there texts at text c.text-text.ensures in
+    subst (λ (t : List ℕ). length t ≤ block_bytes_max) (sym here)
+    (subst (λ (t : List ℕ). length t ≤ block_bytes_max) there ((c.held_blocks_fit.ensures document).1 at text within).0)
 
 pub loop-at-preserved : goal.loop-at-preserved
 loop-at-preserved c =
@@ -59,8 +62,9 @@ loop-at-preserved c =
     let there : text ≡ text_at (held document) at =
     sym (ap (λ (ts : List (List ℕ)). text_at ts at) (sym same) ∙ ap (λ (o : Option (List ℕ)). option_map_or (λ t. t) o []) c.text-text.ensures) in
     let before = map hint_seen c.loop-at.all.items in
-    let of_text : c.in_ok-hints.hints.0 ≡ c.args.user_defined = ap (λ (p : Bool × List ℕ). p.0) c.in_ok-hints.ensures in
+    let here : text_at texts at ≡ text = text_there texts at text c.text-text.ensures in
     one_more_block c.args.user_defined (held document) (first_line document) at c.lines_before.result text before (map hint_seen c.push_block.new.all.items) line
     there c.loop-at.invariant
     (c.in_ok-push_block.ensures
-    ∙ ap (λ (u : Bool). before ++ map (shown_after c.lines_before.result text) (block_marks u text)) of_text)
+    ∙ ap (λ (t : List ℕ). before ++ map (shown_after c.lines_before.result t) (source_marks c.args.user_defined texts at)) here
+    ∙ ap (λ (ts : List (List ℕ)). before ++ map (shown_after c.lines_before.result text) (source_marks c.args.user_defined ts at)) same)

@@ -1,0 +1,16 @@
+pub mod Alike
+pub mod CaretsHeal
+pub mod CharacterStarts
+pub mod Ending
+pub mod Exchanging
+pub mod InOrder
+pub mod Listing
+pub mod Marks
+pub mod NamesFit
+pub mod Printing
+pub mod Readings
+pub mod Returns
+pub mod SignsFit
+pub mod SpellingsRead
+pub mod Verdicts
+pub mod Wholes

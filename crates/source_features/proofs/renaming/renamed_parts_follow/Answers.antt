@@ -1,5 +1,0 @@
-use Rattle.source_features.proofs.RenamesFollow.{renamed_follow}
-use Rattle.source_features.proofs.renaming.renamed_parts_follow.Goals as goal
-
-pub returns : goal.returns
-returns c = renamed_follow c.held_blocks_fit.ensures

@@ -1,5 +1,0 @@
-use Rattle.source_features.proofs.Edited.{renames_applied}
-use Rattle.source_features.proofs.renaming.renames_are_applied.Goals as goal
-
-pub returns : goal.returns
-returns c = renames_applied c.held_blocks_fit.ensures c.edits_keep_lines.ensures

@@ -1,3 +1,0 @@
--- Words that only private functions and proofs use.
-pub mod Seeking
-pub mod Starting

@@ -1,5 +1,0 @@
-use Rattle.source_fixes.proofs.CaretsHeal.{carets_heal}
-use Rattle.source_fixes.proofs.laws.carets_heal.Goals as goal
-
-pub returns : goal.returns
-returns c = carets_heal

@@ -1,5 +1,0 @@
-use Rattle.source_fixes.proofs.InOrder.{items_in_order}
-use Rattle.source_fixes.proofs.laws.items_are_in_order.Goals as goal
-
-pub returns : goal.returns
-returns c = items_in_order

@@ -1,7 +1,0 @@
-use Rattle.std.proofs.Common.{◌≡◌, take}
-use Rattle.source_fixes.specs.Narrowing.{bytes_in}
-use Rattle.source_fixes.proofs.narrowing.bytes_in.Given as goal
-
--- those so far
-abbrev pub invariant-loop-byte : goal.invariant-loop-byte
-invariant-loop-byte l = l.found.items ≡ bytes_in l.part (take l.byte-index l.text)

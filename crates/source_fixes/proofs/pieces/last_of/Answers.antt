@@ -1,5 +1,0 @@
-use Rattle.source_fixes.proofs.Ending.{last_placed}
-use Rattle.source_fixes.proofs.pieces.last_of.Goals as goal
-
-pub returns-in-Some : goal.returns-in-Some
-returns-in-Some c = last_placed 0 c.args.text.now c.in-Some.byte.now c.in-Some.ensures.value

@@ -1,0 +1,3 @@
+-- Words that only private functions and proofs use.
+pub mod Kept
+pub mod Marked

@@ -1,0 +1,2 @@
+pub mod AfterUses
+pub mod Using
