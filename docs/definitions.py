@@ -44,7 +44,7 @@ over a text as the code does, and a law states their result:
 `line_of`, `indent`, `step_over`, `without_end`, `begins_with` and `is_open`, which are
 a few lines each, have no law of their own.
 """
-MANUALS = ["X/Open Curses Issue 7", "terminfo(5)", "term(5)", "tic(1)", "infocmp(1)", "tput(1)", "printf(3)"]
+MANUALS = ["X/Open Curses Issue 7", "terminfo(5)", "term(5)", "tic(1)", "infocmp(1)", "tput(1)", "clear(1)", "toe(1)", "printf(3)"]
 OWN = "Own"
 NAME = r"[^\s:(){},.;]+"
 STARTS = re.compile(

@@ -108,13 +108,26 @@ def unknown_name(found):
     return f"no terminal or program is known to use `{found.subject or found.name}`", None
 
 
-REPAIRS = {"N2": foreign_parameter, "N4": missing_comma, "N7": wrong_padding, "N8": unknown_name}
+def said_after_use(found):
+    if not found.sentence.startswith("A use before this item"):
+        return found.sentence, None
+    return f"a use before it has `{found.subject}` too: our `ti tic` takes that, ncurses and `ti-tic` the item", None
+
+
+REPAIRS = {"N2": foreign_parameter, "N3": said_after_use, "N4": missing_comma, "N7": wrong_padding, "N8": unknown_name}
 
 
 def explained(found):
     if found.code in REPAIRS:
         return REPAIRS[found.code](found)
     return found.sentence, None
+
+
+def advice(found, repaired):
+    """What the column of repairs says."""
+    if found.code == "N3":
+        return "move the `use=` to the end"
+    return "not certain" if repaired is None else code(repaired)
 
 
 def code(text):
@@ -166,7 +179,7 @@ def rows_of(path, room, faults):
         why, repaired = explained(found)
         if repaired is not None and not is_repaired(text, found, repaired, room):
             faults.append(f"{path}:{found.line}: {found.code} is still there after the repair")
-        shown = code(repaired) if repaired is not None else "not certain"
+        shown = advice(found, repaired)
         rows.append(f"| {found.line} | `{found.entry}` | {found.code} | {why} | {code(found.written)} | {shown} |")
     return rows, limits
 

@@ -122,6 +122,16 @@ TOOLS_ROWS = {
     "ti-tic: write fault": ([], {}, ""),
     'unknown terminal "NAME"': (["ti-infocmp no-such", "ti-tput -T no-such cols"], {}, ""),
     "PATH: No such file or directory of ti-infocmp": (["ti-infocmp ./no-such"], {}, ""),
+    'terminal "NAME" cannot be used: .. of ti-clear': (
+        [
+            "printf 'paper,\\n\\thc, clear=x,\\n' | ti-tic -o entries -; TERMINFO=entries ti-clear -T paper",
+            "printf 'any,\\n\\tgn, clear=x,\\n' | ti-tic -o entries -; TERMINFO=entries ti-clear -T any",
+        ],
+        {"TERM": "dumb"}, "",
+    ),
+    "PATH: not an entry, PATH: the directory cannot be read of ti-toe": (
+        ["cp dumb.ti bad/d/notes; ti-toe bad", "mkdir closed; chmod 0 closed; ti-toe closed"], {"PATH": "bad"}, "",
+    ),
     "no terminal is named": (["ti-tput cols"], {}, "ti-tput cols"),
     "unknown terminfo capability 'NAME'": ([f"{ENTRIES} ti-tput -T dumb bel Tc"], {"TERM": "dumb"}, ""),
     "ti-everyday: call it ti-tic, ..": (["ti-everyday"], {"..": "-V"}, ""),

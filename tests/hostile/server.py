@@ -143,9 +143,11 @@ def little_memory(_):
         {"method": "exit"},
     ))))
     whole, fronts = with_data(given, 2**30), set()
-    # with less the loader does not start the program
-    for most in range(250_000, 8_000_000, 100_000):
+    for most in (*range(150_000, 300_000, 10_000), *range(300_000, 8_000_000, 100_000)):
         done = with_data(given, most)
+        if not fronts and done.returncode not in (0, 1):
+            # the loader has too little to start the program
+            continue
         fronts.add(len(done.stdout))
         ended = (0, whole.stdout) if done.returncode == 0 else (1, whole.stdout[: len(done.stdout)])
         if (done.returncode, done.stdout, done.stderr) != (*ended, b""):

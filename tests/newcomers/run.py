@@ -64,14 +64,16 @@ def tree_of_repository(directory):
 
 
 def try_alternatives(room):
-    """Puts ti-tput in the place of tput by the commands of docs/COMPARED.md, and tput back."""
-    (command,) = commands_of("docs/COMPARED.md", "## In place of ncurses's tools")
-    version = f"ti-tput {packages.version()} (in the place of ncurses 6.4)\n"
+    """Puts our tools in the place of ncurses's by the commands of docs/COMPARED.md, and tput back. The
+    others go with the package."""
+    command = "\n".join(commands_of("docs/COMPARED.md", "## In place of ncurses's tools"))
     room.root_does(command)
-    room.wants(command, room.root_does("/usr/local/bin/tput --version"), version)
+    for tool in ("tic", "infocmp", "tput", "clear", "toe"):
+        version = f"ti-{tool} {packages.version()} (in the place of ncurses 6.4.20221231)\n"
+        room.wants(command, room.root_does(f"/usr/local/bin/{tool} --version"), version)
     command = inline("docs/COMPARED.md", "update-alternatives --remove")
     room.root_does(command)
-    room.wants(command, room.root_does("ls /usr/local/bin"), "")
+    room.wants(command, room.root_does("ls /usr/local/bin"), "clear\ninfocmp\ntic\ntoe\n")
 
 
 def try_ways(room):
