@@ -15,7 +15,7 @@ use Rattle.user_extension.specs.Reading.{ReadRow}
 use Rattle.user_extension.specs.View.{read_rows}
 use Rattle.user_extension.specs.declared.view.Extension.{Extension}
 use Rattle.user_listing.specs.Listing.{extended_listing}
-use Rattle.everyday_sources.specs.Installed.{Gives, HasName, layout, listing_of}
+use Rattle.everyday_sources.specs.Installed.{Gives, HasName, block_names, layout, listing_of}
 use Rattle.everyday_sources.specs.Used.{LooksUp, ProblemSeen, PutsIn, TakesFound, TakesGiven, TakesName, TakesNames, UsedEntriesAreDetermined, missing_names}
 use Rattle.everyday_sources.specs.declared.problem.Cause.{Cause}
 use Rattle.everyday_sources.specs.declared.problem.Cause.TheVariants as cause
@@ -27,18 +27,21 @@ one_test : HeadersHaveOneReading → (field other name : List ℕ) (has had : Bo
 one_test headers field other name has had same g h =
     g.2 ∙ ap (λ names. is_among name (names_found names)) (headers field g.0 h.0 g.1 (subst (λ f. ReadsNames f h.0) (sym same) h.1)) ∙ sym h.2
 
-one_listing : (user_defined : Bool) (view other : View) (extension further : Extension) → entry_seen view ≡ entry_seen other
-    → read_rows extension ≡ read_rows further → listing_of user_defined view extension ≡ listing_of user_defined other further
-one_listing false view other extension further seen rows = ap (λ (entry : Entry). listing entry.names entry.contents layout) seen
-one_listing true view other extension further seen rows =
-    ap (λ (entry : Entry). extended_listing (record { entry = entry; rows = read_rows extension }) layout) seen
-    ∙ ap (λ (read : List ReadRow). extended_listing (record { entry = entry_seen other; rows = read }) layout) rows
+one_listing : (user_defined : Bool) (name : List ℕ) (view other : View) (extension further : Extension) → entry_seen view ≡ entry_seen other
+    → read_rows extension ≡ read_rows further
+    → listing_of user_defined (block_names (names_of view) name) view extension ≡ listing_of user_defined (block_names (names_of other) name) other further
+one_listing false name view other extension further seen rows =
+    ap (λ (entry : Entry). listing (block_names entry.names name) entry.contents layout) seen
+one_listing true name view other extension further seen rows =
+    let named : Entry → Entry = λ entry. record { names = block_names entry.names name; contents = entry.contents } in
+    ap (λ (entry : Entry). extended_listing (record { entry = named entry; rows = read_rows extension }) layout) seen
+    ∙ ap (λ (read : List ReadRow). extended_listing (record { entry = named (entry_seen other); rows = read }) layout) rows
 
 one_given : FilesHaveOneReading → HeadersHaveOneReading → (user_defined : Bool) (bytes name : List ℕ) (one other : Result (List ℕ) Cause)
     → Gives user_defined bytes name one → Gives user_defined bytes name other → one ≡ other
 one_given files headers user_defined bytes name (Ok text) (Ok further) g h =
     let alike = files bytes (Ok (g.0, g.1)) (Ok (h.0, h.1)) g.2 h.2 in
-    ap (λ t. Ok t) (g.4 ∙ one_listing user_defined g.0 h.0 g.1 h.1 alike.0 alike.1 ∙ sym h.4)
+    ap (λ t. Ok t) (g.4 ∙ one_listing user_defined name g.0 h.0 g.1 h.1 alike.0 alike.1 ∙ sym h.4)
 one_given files headers user_defined bytes name (Ok text) (Err (cause.BadEntry error)) g h = absurd (files bytes (Ok (g.0, g.1)) (Err error) g.2 h)
 one_given files headers user_defined bytes name (Ok text) (Err cause.OtherNames) g h =
     let alike = files bytes (Ok (g.0, g.1)) (Ok (h.0, h.1)) g.2 h.2 in

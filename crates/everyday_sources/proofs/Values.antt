@@ -1,8 +1,13 @@
 -- The blocks that stand for installed entries, and those that use them.
 use Rattle.std.proofs.Common.{◌≡◌, inl, inr, ℕ, zero, suc, ◌≤◌, true, List, [], ◌∷◌, ◌++◌, length, Option, Some, None, Ok, Err, refl, sym, ap, ◌∙◌}
 use Rattle.std.proofs.Common.{slice_get, option_and_then, false, cond, nat_lt, ◌==◌, subst, arith}
-use Rattle.std.specs.Prelude.{slice_index}
+use Rattle.std.specs.Prelude.{◌≢◌, ◌&&◌, not, nat_le, bytes_eq, slice_index, All, Contains}
+use Rattle.std.specs.List.{list_all}
+use Rattle.std.specs.Cmp.Lexicographic.{bytes_decides}
+use Rattle.std.proofs.lemmas.Bool.{and_from, and_parts, cases_Bool, eqb-true, leb-true, not-true, not_from_false, or_parts, true≢false}
+use Rattle.std.proofs.lemmas.List.Elements.{All-cons, All-contains, All-head, All-nil, All-tail}
 use Rattle.std.proofs.lemmas.Option.{same_Some}
+use Rattle.ti_text.specs.Limits.{names_max}
 use Rattle.ti_caps.specs.Tables.{Capability, IsCapability}
 use Rattle.ti_caps.specs.declared.capability.Kind.{Kind}
 use Rattle.ti_caps.specs.declared.capability.Kind.TheVariants.{Flag, Number, Text}
@@ -13,7 +18,10 @@ use Rattle.ti_layout.specs.Layout.{first_negative}
 use Rattle.ti_layout.specs.Reading.{Reads, says, stored_flag, stored_number, stored_text, text_from}
 use Rattle.ti_layout.specs.Values.{Content, Contents, Mention, content_number, content_text, content_true, contents}
 use Rattle.ti_layout.specs.View.{entry_seen}
+use Rattle.ti_source.specs.Header.{HeaderNames, IsLookupName, IsNameByte}
+use Rattle.ti_list.specs.Items.{IsListable}
 use Rattle.base_meaning.specs.Expansion as profile
+use Rattle.base_meaning.specs.Owner.{is_among}
 use Rattle.base_meaning.specs.Readings.{reading_by, readings_by}
 use Rattle.tools_devices.specs.Tree.{FileAt, Files}
 use Rattle.user_extension.specs.Reading.{said}
@@ -22,10 +30,10 @@ use Rattle.user_listing.specs.Entries.{Extended}
 use Rattle.user_values.specs.Tables.{IsUserTableBy}
 use Rattle.user_relisting.specs.ReadingBack.{HasListing, ListingsSayTheEntry, ListingsSayTheTables, ReadEntriesHaveListings}
 use Rattle.user_relisting.specs.Using as using
-use Rattle.everyday_sources.specs.Installed.{layout}
+use Rattle.everyday_sources.specs.Installed.{HasName, begins_comment, block_names, can_begin_block, has_byte, layout}
 use Rattle.everyday_sources.specs.Used.{LooksUp, ProblemSeen, PutsIn, TakesFound, TakesName, TakesNames, missing_names}
 use Rattle.everyday_sources.specs.Values.{FurtherBlocksStandForEntries, IsInstalled, StandingBlocksSayTheEntry, StandingBlocksSayTheTables, StandsFor, StandsWell}
-use Rattle.everyday_sources.specs.Values.{UsersHaveTheEntry, UsersHaveTheTables, UsesEntry}
+use Rattle.everyday_sources.specs.Values.{UsersHaveTheEntry, UsersHaveTheTables, UsesEntry, in_block}
 
 -- ---- the blocks after a source
 
@@ -60,13 +68,18 @@ module _ (files : Option Files) (directories : List (List ℕ)) where
   take-found from texts next name before after None problems are looks taken = subst (AreEntriesFrom from) (sym taken.0) are
   take-found from texts next name before after (Some file) problems are looks (Ok text, gives, put) =
       let entry : Extended = record { entry = entry_seen gives.0; rows = read_rows gives.1 } in
-      let stands : StandsFor text entry =
-      record { bytes = file.1; view = gives.0; extension = gives.1; opens = gives.2; entry_is = refl; text_is = gives.4 } in
-      put-in from texts next file.0 text problems are (
-        entry,
-        record { is = stands; name = name; file = file; before = before; after = after; found = looks.1; of_file = refl; has = gives.3 },
-      )
-      put
+      let stands : StandsFor text entry = record {
+        bytes = file.1;
+        view = gives.0;
+        extension = gives.1;
+        opens = gives.2;
+        entry_is = refl;
+        name = name;
+        has = gives.3;
+        text_is = gives.4;
+      } in
+      put-in from texts next file.0 text problems are
+      (entry, record { is = stands; file = file; before = before; after = after; found = looks.1; of_file = refl }) put
   take-found from texts next name before after (Some file) problems are looks (Err why, gives, put) = subst (AreEntriesFrom from) (sym put.0) are
 
   take-name : (from : ℕ) (texts next : List (List ℕ)) (name : List ℕ) (before after : ℕ) (problems : List ProblemSeen)
@@ -92,31 +105,108 @@ pub further_blocks : FurtherBlocksStandForEntries
 further_blocks rule files directories texts before after last problems at text taken low here =
     take-names files directories (length texts) texts (missing_names rule texts) before after last problems (none-after files directories texts) taken at text low here
 
--- ---- what they say
+-- ---- the names field of a block
 
-has-listing : ReadEntriesHaveListings → (text : List ℕ) (entry : Extended) → StandsWell text entry → HasListing entry
+none-all : (byte : ℕ) (text : List ℕ) → has_byte byte text ≡ false → list_all (λ b. not (b == byte)) text ≡ true
+none-all byte [] none = refl
+none-all byte (x ∷ xs) none =
+    let parts = or_parts (x == byte) (has_byte byte xs) none in
+    and_from (not (x == byte)) (list_all (λ b. not (b == byte)) xs) (not_from_false (x == byte) parts.0) (none-all byte xs parts.1)
+
+first-plain : (text : List ℕ) → begins_comment text ≡ false → (first : ℕ) (others : List ℕ) → text ≡ first ∷ others → (first == 35) ≡ false
+first-plain text none first others is = ap begins_comment (sym is) ∙ none
+
+-- a name that can be looked up has no other bytes than those of names
+name-lacks : (byte : ℕ) (name : List ℕ) → ¬ IsNameByte byte → All IsNameByte name → has_byte byte name ≡ false
+name-lacks byte [] other all = refl
+name-lacks byte (x ∷ xs) other all =
+    elim (cases_Bool (x == byte)) [
+      | inl t ↦ absurd (other (subst IsNameByte (eqb-true x byte t) (All-head IsNameByte x xs all)))
+      | inr f ↦ rw f (name-lacks byte xs other (All-tail IsNameByte x xs all))
+    ]
+
+-- it is a names field by itself
+name-alone : (name : List ℕ) → IsLookupName name → length name ≤ names_max → begins_comment name ≡ false → IsListable name (name ∷ [])
+name-alone name lookup short plain = record {
+  header = record {
+    parts = name ∷ [];
+    cut = record {
+      whole = refl;
+      some = λ e. cc;
+      apart = All-cons (λ part. ¬ Contains part 124) name [] (λ has. (All-contains IsNameByte name 124 lookup.bytes has).4 refl)
+          (All-nil (λ part. ¬ Contains part 124));
+    };
+    named = refl;
+    filled = All-cons (λ part. part ≢ []) name [] lookup.some (All-nil (λ part. part ≢ []));
+    no_nul = λ has. let low = (All-contains IsNameByte name 0 lookup.bytes has).0 in omega (arith, low);
+    lookup = All-cons IsLookupName name [] lookup (All-nil IsLookupName);
+  };
+  short = short;
+  no_comma = none-all 44 name (name-lacks 44 name (λ byte. byte.2 refl) lookup.bytes);
+  inline = none-all 10 name (name-lacks 10 name (λ byte. let low = byte.0 in omega (arith, low)) lookup.bytes);
+  plain = first-plain name plain;
+}
+
+-- a field that can begin a block can be listed
+field-listable : (field : List ℕ) (names : List (List ℕ)) → HeaderNames field names → can_begin_block field ≡ true → IsListable field names
+field-listable field names header can =
+    let short = nat_le (length field) names_max in
+    let comma = not (has_byte 44 field) in
+    let line = not (has_byte 10 field) in
+    let comment = and_parts (short && comma && line) (not (begins_comment field)) can in
+    let inline = and_parts (short && comma) line comment.0 in
+    let first = and_parts short comma inline.0 in
+    record {
+      header = header;
+      short = leb-true (length field) names_max first.0;
+      no_comma = none-all 44 field (not-true (has_byte 44 field) first.1);
+      inline = none-all 10 field (not-true (has_byte 10 field) inline.1);
+      plain = first-plain field (not-true (begins_comment field) comment.1);
+    }
+
+among-lookup : (name : List ℕ) (names : List (List ℕ)) → All IsLookupName names → is_among name names ≡ true → IsLookupName name
+among-lookup name [] all among = absurd (true≢false (sym among))
+among-lookup name (other ∷ names) all among =
+    elim (cases_Bool (bytes_eq name other)) [
+      | inl t ↦ subst IsLookupName (sym ((bytes_decides name other).0 t)) (All-head IsLookupName other names all)
+      | inr f ↦ among-lookup name names (All-tail IsLookupName other names all) (rw f at among)
+    ]
+
+-- the names field of the block of an entry can be listed, if the name by which it was found is short
+-- and begins no comment
+can-begin : (field name : List ℕ) → HasName field name true → length name ≤ names_max → begins_comment name ≡ false
+    → (names : List (List ℕ)) × IsListable (block_names field name) names
+can-begin field name (None, reads, is) short plain = absurd (true≢false is)
+can-begin field name (Some names, header, is) short plain =
+    elim (cases_Bool (can_begin_block field)) [
+      | inl t ↦ rw t (names, field-listable field names header t)
+      | inr f ↦ rw f (name ∷ [], name-alone name (among-lookup name names header.lookup (sym is)) short plain)
+    ]
+
+has-listing : ReadEntriesHaveListings → (text : List ℕ) (entry : Extended) (well : StandsWell text entry) → HasListing (in_block entry well.is.name)
 has-listing known text entry well =
     let is = well.is in
     let read = is.opens.1 in
-    known is.bytes entry well.names well.of_bytes
+    let names = can-begin entry.entry.names is.name is.has well.short well.plain in
+    known is.bytes entry.entry.names (in_block entry is.name) names.0 well.of_bytes
     (subst (λ (e : Extended). Reads is.bytes e.entry.names e.entry.contents) (sym is.entry_is) read.reads) read.ends
-    (ap (λ (e : Extended). e.rows) is.entry_is ∙ read.rows) well.listable
+    (ap (λ (e : Extended). e.rows) is.entry_is ∙ read.rows) names.1
 
 pub blocks_say : ReadEntriesHaveListings → ListingsSayTheEntry → StandingBlocksSayTheEntry
 blocks_say known say rule texts text entry well =
     subst (λ t. IsUserTableBy rule texts t (said entry.rows)) (sym well.is.text_is)
-    (say rule entry layout texts (has-listing known text entry well))
+    (say rule (in_block entry well.is.name) layout texts (has-listing known text entry well))
 
 pub blocks_say_tables : ReadEntriesHaveListings → ListingsSayTheTables → StandingBlocksSayTheTables
 blocks_say_tables known say rule texts text entry well =
     subst (λ t. (mentions : List Mention) × (profile.expansion (readings_by rule texts) (reading_by rule t) ≡ Some mentions)
     × ((c : Capability) → IsCapability c → contents mentions c ≡ entry.entry.contents c)) (sym well.is.text_is)
-    (say rule entry layout texts (has-listing known text entry well))
+    (say rule (in_block entry well.is.name) layout texts (has-listing known text entry well))
 
 -- ---- the blocks that use them
 
-abbrev uses-listing : ReadEntriesHaveListings → (texts : List (List ℕ)) (at : ℕ) (used : List ℕ) (entry : Extended) → UsesEntry texts at used entry
-    → using.Uses texts at used entry
+abbrev uses-listing : ReadEntriesHaveListings → (texts : List (List ℕ)) (at : ℕ) (used : List ℕ) (entry : Extended)
+    → (uses : UsesEntry texts at used entry) → using.Uses texts at used (in_block entry uses.well.is.name)
 uses-listing known texts at used entry uses = record {
   text = uses.text;
   layout = layout;
@@ -127,7 +217,8 @@ uses-listing known texts at used entry uses = record {
 }
 
 pub users_have : ReadEntriesHaveListings → using.UsersHaveTheEntry → UsersHaveTheEntry
-users_have known have rule texts at used entry name uses only = have rule texts at used entry name (uses-listing known texts at used entry uses) only
+users_have known have rule texts at used entry name uses only =
+    have rule texts at used (in_block entry uses.well.is.name) name (uses-listing known texts at used entry uses) only
 
 -- no capability of an entry that is read is cancelled
 flag-plain : (b : ℕ) → without_cancel (stored_flag b) ≡ stored_flag b
@@ -163,7 +254,7 @@ read-plain bytes names table r c =
 
 pub users_have_tables : ReadEntriesHaveListings → using.UsersHaveTheTables → UsersHaveTheTables
 users_have_tables known have rule texts at used entry c uses valid only =
-    let of_block = have rule texts at used entry c (uses-listing known texts at used entry uses) valid only in
+    let of_block = have rule texts at used (in_block entry uses.well.is.name) c (uses-listing known texts at used entry uses) valid only in
     let is = uses.well.is in
     let reads = subst (λ (e : Extended). Reads is.bytes e.entry.names e.entry.contents) (sym is.entry_is) is.opens.1.reads in
     (of_block.0, of_block.1, of_block.2 ∙ read-plain is.bytes entry.entry.names entry.entry.contents reads c)

@@ -1,5 +1,6 @@
 -- What the blocks say that stand for installed entries, and what the blocks have that use them (tic(1)).
 use Rattle.std.specs.Prelude.{◌≡◌, ℕ, ◌≤◌, true, false, List, length, Option, Some, Ok, slice_get}
+use Rattle.ti_text.specs.Limits.{names_max}
 use Rattle.ti_text.specs.Texts.{AreBytes}
 use Rattle.ti_caps.specs.Tables.{Capability, IsCapability}
 use Rattle.ti_source.specs.declared.parsing.Rule.{Rule}
@@ -8,7 +9,6 @@ use Rattle.ti_source.specs.Reading.{said_import}
 use Rattle.ti_layout.specs.Values.{Mention, contents}
 use Rattle.ti_layout.specs.View.{entry_seen}
 use Rattle.ti_layout.specs.declared.view.View.{View}
-use Rattle.ti_list.specs.Items.{IsListable}
 use Rattle.base_meaning.specs.Expansion as profile
 use Rattle.base_meaning.specs.Readings.{reading_by, readings_by}
 use Rattle.tools_devices.specs.Searching.{file_bytes_max}
@@ -25,35 +25,44 @@ use Rattle.user_listing.specs.Listing.{extended_listing}
 use Rattle.user_values.specs.Expansion.{owner_text, user_value_by}
 use Rattle.user_values.specs.Tables.{IsUserTableBy}
 use Rattle.user_relisting.specs.Using.{IsAlone, may_give, may_give_table, table_said_in, user_said_in}
-use Rattle.everyday_sources.specs.Installed.{HasName, layout}
+use Rattle.everyday_sources.specs.Installed.{HasName, begins_comment, block_names, layout}
 use Rattle.everyday_sources.specs.Used.{ProblemSeen, TakesUsed}
 
--- the text stands for an entry: it is the listing of what the bytes of a file read as
+-- an entry that was found by a name, with the names field of its block
+abbrev pub in_block : Extended → (name : List ℕ) → Extended
+in_block entry name = record {
+  entry = record { names = block_names entry.entry.names name; contents = entry.entry.contents };
+  rows = entry.rows;
+}
+
+-- the text stands for an entry: it is the listing of what the bytes of a file read as, with the names
+-- field of a block, and the entry has the name by which it was found
 pub record StandsFor (text : List ℕ) (entry : Extended) : Type 0 where
   pub bytes : List ℕ
   pub view : View
   pub extension : Extension
   pub opens : Opens file_bytes_max bytes (Ok (view, extension))
   pub entry_is : entry ≡ record { entry = entry_seen view; rows = read_rows extension }
-  pub text_is : text ≡ extended_listing entry layout
+  pub name : List ℕ
+  pub has : HasName entry.entry.names name true
+  pub text_is : text ≡ extended_listing (in_block entry name) layout
 
--- it does, with a file of bytes and a names field that a source can have
+-- it does, with a file of bytes, and was found by a name that is within the limit of a names field and
+-- begins no comment, whatever else its names field has
 pub record StandsWell (text : List ℕ) (entry : Extended) : Type 0 where
   pub is : StandsFor text entry
   pub of_bytes : AreBytes is.bytes
-  pub names : List (List ℕ)
-  pub listable : IsListable entry.entry.names names
+  pub short : length is.name ≤ names_max
+  pub plain : begins_comment is.name ≡ false
 
--- it does, and the file was found in the directories by a name that the entry has
+-- it does, and the file was found in the directories by that name
 pub record IsInstalled (files : Option Files) (directories : List (List ℕ)) (text : List ℕ) (entry : Extended) : Type 0 where
   pub is : StandsFor text entry
-  pub name : List ℕ
   pub file : FileAt
   pub before : ℕ
   pub after : ℕ
-  pub found : Finds files (paths_of name directories) before after (Some file)
+  pub found : Finds files (paths_of is.name directories) before after (Some file)
   pub of_file : is.bytes ≡ file.1
-  pub has : HasName entry.entry.names name true
 
 -- With user-defined capabilities each block after the source stands for an entry that is installed.
 abbrev pub FurtherBlocksStandForEntries : Type 0

@@ -24,11 +24,11 @@ pub fn used_entries_are_determined()
 }
 
 /// With user-defined capabilities each block that [`take_used`](crate::take_used) puts after a
-/// source stands for an installed entry. If its names field is one that a source can have, it says
-/// of each user-defined name and of each capability of the tables what the entry has, also if
-/// user-defined capabilities are absent there or a name has values of several kinds; and a block
-/// that uses it has that value of all that no other of its items can give it. A names field with a
-/// comma, which no source has, ends there in the listing, and the rest is read as items.
+/// source stands for an installed entry. It says of each user-defined name and of each capability of
+/// the tables what the entry has, also if user-defined capabilities are absent there, if a name has
+/// values of several kinds, or if no source can have the names field of the entry; and a block that
+/// uses it has that value of all that no other of its items can give it. The name by which the entry
+/// was found has at most 127 bytes and does not begin with `#`.
 pub fn users_have_the_values_of_entries()
     ensures blocks { FurtherBlocksStandForEntries }
     ensures user_defined { StandingBlocksSayTheEntry }

@@ -207,9 +207,10 @@ fn kept_faults(database: &RuledDatabase, count: usize, faults: Vec<Fault>) -> Op
 /// Puts the listings of the installed entries that a source uses at its end, each once, and gives
 /// what is wrong with the files that were found: in the order of the names that items use and no
 /// block has. An entry is taken if it is one, has the name, and its listing is a block that the
-/// list has room for. A listing has the user-defined capabilities of its entry if these are kept. A
-/// name that an entry has which was taken before is not looked for. The faults, by which these
-/// names are known, are given too if no entry was taken.
+/// list has room for. A listing has the user-defined capabilities of its entry if these are kept, and
+/// the names of its entry, or, if no block can have these, the one by which it was found. A name that
+/// a block has is not looked for. The faults, by which these names are known, are given too if no
+/// entry was taken.
 ///
 /// # Errors
 /// Out of memory; the files of the tree stay as they were.

@@ -156,14 +156,14 @@ module _ (bytes : List ℕ) (h : AreBytes bytes) (ends : EndsWell bytes) where
   rows-good = by-size (nat_lt (length (after_entry bytes)) header_size) refl
 
 pub read_have_listings : ReadEntriesHaveListings
-read_have_listings bytes entry names h reads ends is listable =
+read_have_listings bytes field entry names h reads ends is listable =
     let s = reads.sections in
     let good : All IsGood entry.rows = subst (All IsGood) (sym is) (rows-good bytes h ends) in
     record {
       names = names;
       listable = listable;
       holds = λ c valid. subst (λ (table : Contents). CanHave c (table c)) (sym reads.held)
-          (have-said c reads.format s.flags s.numbers s.offsets s.strings (strings-bytes bytes entry.entry.names entry.entry.contents h reads) c.kind refl);
+          (have-said c reads.format s.flags s.numbers s.offsets s.strings (strings-bytes bytes field entry.entry.contents h reads) c.kind refl);
       writable = All-weaker IsGood (λ (row : ReadRow). (is_user_defined_name row.0 ≡ true) × IsWritableIfSome row.1) (λ row g. (g.0, g.1.0)) entry.rows good;
       plain = All-weaker IsGood (λ (row : ReadRow). row.1 ≢ Some content_cancelled) (λ row g. g.1.1) entry.rows good;
     }

@@ -130,10 +130,10 @@ pub record HasListing (entry : Extended) : Type 0 where
   pub writable : AreWritable entry.rows
   pub plain : All (λ (row : ReadRow). row.1 ≢ Some content_cancelled) entry.rows
 
--- An entry that is read has a listing if its names field can be listed.
+-- What is read has a listing with any names field that can be listed, be it its own or another one.
 abbrev pub ReadEntriesHaveListings : Type 0
 ReadEntriesHaveListings =
-    (bytes : List ℕ) (entry : Extended) (names : List (List ℕ)) → AreBytes bytes → Reads bytes entry.entry.names entry.entry.contents → EndsWell bytes
+    (bytes field : List ℕ) (entry : Extended) (names : List (List ℕ)) → AreBytes bytes → Reads bytes field entry.entry.contents → EndsWell bytes
     → entry.rows ≡ rows_after bytes → IsListable entry.entry.names names → HasListing entry
 
 -- In whatever source it is and by whatever rule that is read, the listing of such an entry says of

@@ -68,8 +68,8 @@ pub fn relatives_say_the_entry()
     ensures { RelativesSayTheEntry }
 {}
 
-/// Each entry that is read has a listing as the next law asks for, if its names field can be listed:
-/// also one in which user-defined capabilities are absent, or a name has values of several kinds.
+/// What is read of an entry has a listing as the next law asks for, with any names field that can be
+/// listed: also if user-defined capabilities are absent there, or a name has values of several kinds.
 pub fn read_entries_have_listings()
     ensures { ReadEntriesHaveListings }
 {}
