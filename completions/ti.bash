@@ -192,7 +192,7 @@ _ti_toe() {
 
 _ti_fmt() {
     if [[ $current == -* ]]; then
-        _ti_options --check -w
+        _ti_options --check -1 -w
     elif [[ $previous != -w ]]; then
         _ti_files -f
     fi

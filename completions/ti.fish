@@ -226,6 +226,7 @@ complete -c ti-toe -l help -d 'Print help'
 complete -c ti-toe -s V -l version -d 'Print version'
 
 complete -c ti-fmt -l check -d 'Print the names of files that would change, and write none'
+complete -c ti-fmt -s 1 -d 'Write each item on its own line'
 complete -c ti-fmt -s w -x -d 'Columns of a line, from 20 to 4096'
 
 complete -c ti-lint -s x -d 'Read user-defined capabilities too'

@@ -50,10 +50,11 @@ tput_app = with_rule (with_rule tput_options_app
     (flag_rule (codes "lines") (byte_of "S")))
     (operands_rule (codes "words"))
 
--- `ti-fmt [--check] [-w N] [FILE..]`
+-- `ti-fmt [--check] [-1] [-w N] [FILE..]`
 abbrev pub fmt_app : App
-fmt_app = with_rule (with_rule (with_rule (everyday_app (codes "ti-fmt"))
+fmt_app = with_rule (with_rule (with_rule (with_rule (everyday_app (codes "ti-fmt"))
     (long_flag_rule (codes "check")))
+    (flag_rule (codes "one") (byte_of "1")))
     (number_rule (codes "width") (byte_of "w") width_min width_max))
     (operands_rule (codes "files"))
 

@@ -13,10 +13,18 @@ use Rattle.everyday_words.specs.Requests.{Wanted, wants_fmt}
 abbrev pub columns_default : ℕ
 columns_default = 80
 
+-- the same where each item has its own line: no second one fits
+abbrev pub columns_of_one : ℕ
+columns_of_one = 0
+
 -- the columns that a text says, if they are some that may be asked for
 abbrev pub columns_for : Option Text → Option ℕ
 columns_for None = Some columns_default
 columns_for (Some text) = width_for (Some text)
+
+-- the columns of a line, if they are some that may be asked for: `-1` decides, whatever the width is
+abbrev pub columns_asked : List Row → Option ℕ
+columns_asked rows = if is_on (codes "one") rows then Some columns_of_one else columns_for (first_of (codes "width") rows)
 
 -- whether words are `-` alone, which stands for standard input
 abbrev pub is_dash : List Text → Bool
@@ -34,7 +42,7 @@ fmt_at (Some width) check paths = Ok (wants_fmt (record { check = check; width =
 
 -- what is asked for with these matches and paths
 abbrev pub fmt_with : List Row → List Text → Result Wanted Mistake
-fmt_with rows paths = fmt_at (columns_for (first_of (codes "width") rows)) (is_on (codes "check") rows) paths
+fmt_with rows paths = fmt_at (columns_asked rows) (is_on (codes "check") rows) paths
 
 -- what is asked for with these matches
 abbrev pub fmt_asked : List Row → Result Wanted Mistake

@@ -1,8 +1,7 @@
 //! What the words after `ti-fmt` are, for clap, and what they ask for.
-ghost use Rattle.std.specs.Prelude.{◌≡◌, codes, map};
-ghost use Rattle.clap.specs.Words.{first_of};
+ghost use Rattle.std.specs.Prelude.{◌≡◌, map};
 ghost use Rattle.tools_commands.specs.Matches.{matched_rows};
-ghost use Rattle.everyday_words.specs.FmtWords.{columns_for, fmt_asked, fmt_with, is_dash};
+ghost use Rattle.everyday_words.specs.FmtWords.{columns_asked, fmt_asked, fmt_with, is_dash};
 ghost use Rattle.everyday_words.specs.inside.Answers.{Answers};
 
 use crate::commands::VERSION;
@@ -18,7 +17,10 @@ use tools_commands::Mistake;
 // How many columns a line has at most, if it is not said.
 const COLUMNS: usize = 80;
 
-/// `ti-fmt [--check] [-w N] [FILE..|-]`.
+// The same of lines in which no second item fits.
+const COLUMNS_OF_ONE: usize = 0;
+
+/// `ti-fmt [--check] [-1] [-w N] [FILE..|-]`.
 pub(crate) const FMT: CommandLine<'static> = CommandLine {
     name: "ti-fmt",
     version: VERSION,
@@ -28,6 +30,11 @@ pub(crate) const FMT: CommandLine<'static> = CommandLine {
             id: "check",
             form: Form::LongFlag,
             help: "Print the names of files that would change, and write none",
+        },
+        Argument {
+            id: "one",
+            form: Form::Flag('1'),
+            help: "Write each item on its own line",
         },
         Argument {
             id: "width",
@@ -60,8 +67,11 @@ Examples:
 
 // The columns of a line, as the options say; `None` if they say none that may be asked for.
 fn columns_of(matches: &ArgMatches<'_>) -> Option<usize>
-    ensures { result ≡ columns_for (first_of (codes "width") (matched_rows matches.now)) }
+    ensures { result ≡ columns_asked (matched_rows matches.now) }
 {
+    if is_on(matches, "one") {
+        return Some(COLUMNS_OF_ONE);
+    }
     match value(matches, "width") {
         Some(text) => width_in(text),
         None => Some(COLUMNS),
