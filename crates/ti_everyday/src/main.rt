@@ -14,13 +14,12 @@ mod tic_tool;
 mod toe_tool;
 mod tput_tool;
 
+use crate::output::print_bytes;
 use crate::stopping::{Stop, end_tool};
-use everyday_entries::Failure;
 use everyday_words::{Refusal, Request, Tool, called_words, request};
 use std::process::ExitCode;
 use std::rt::{Clock, Env, Files};
 use std::{env, io};
-use tools_devices::ToolError;
 
 fn main(rt: HostRuntime) -> ExitCode {
     ExitCode::from(run(&rt))
@@ -92,9 +91,9 @@ fn print_refusal<R: Print + Eprint + AllocGlobal>(rt: &R, tool: Tool, refusal: &
             let _ = rt.eprint(text.as_str());
             tool.usage_status()
         }
-        Refusal::Text(text) => match rt.print(text.as_str()) {
+        Refusal::Text(text) => match print_bytes(rt, text.as_bytes()) {
             Ok(()) => 0,
-            Err(_) => end_tool(rt, tool, Stop::of(Failure::Stopped(ToolError::WriteFault))),
+            Err(stop) => end_tool(rt, tool, stop),
         },
     }
 }

@@ -16,7 +16,12 @@ pub enum Stop {
     /// What the environment gives is not UTF-8: the command line, or a variable that is read. It is
     /// an error of usage.
     NotText(&'static str),
+    /// The reader of the pipe that is standard output is gone.
+    NoReader,
 }
+
+// The status that a shell shows of a program which SIGPIPE ends, as it does ncurses's tools.
+const NO_READER_STATUS: u8 = 128 + 13;
 
 impl Stop {
     /// Memory ran out.
@@ -42,8 +47,8 @@ impl From<Failure> for Stop {
     }
 }
 
-/// Says on standard error why a tool stopped. Returns the status of the process, even if standard
-/// error takes nothing.
+/// Says on standard error why a tool stopped, unless the reader of its output is gone. Returns the
+/// status of the process, even if standard error takes nothing.
 pub fn end_tool<R: Eprint + AllocGlobal>(rt: &R, tool: Tool, stop: Stop) -> u8 {
     match stop {
         Stop::Failed(failure, reason) => end(rt, tool, &failure, reason.as_str()),
@@ -58,6 +63,7 @@ pub fn end_tool<R: Eprint + AllocGlobal>(rt: &R, tool: Tool, stop: Stop) -> u8 {
             let _ = eprintln!(rt; "{name}: bad usage: {what} is not text");
             tool.usage_status()
         }
+        Stop::NoReader => NO_READER_STATUS,
     }
 }
 
