@@ -1,7 +1,13 @@
 -- Lemmas of this crate.
+pub mod BlocksCut
+pub mod CertainOrder
+pub mod Changes
 pub mod Choices
+pub mod FixedBlocks
 pub mod FixedFiles
 pub mod FixingProofs
+pub mod OfferedEdits
+pub mod OpenEnds
 pub mod Sentences
 pub mod Turns
 pub mod Walking

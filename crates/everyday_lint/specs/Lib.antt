@@ -4,6 +4,7 @@ pub mod Telling
 pub mod Offers
 pub mod Fixing
 pub mod Laws
+pub mod Fixed
 pub mod Checking
 pub mod Fates
 pub mod Report
