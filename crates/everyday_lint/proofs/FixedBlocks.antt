@@ -40,7 +40,7 @@ use Rattle.everyday_lint.proofs.OpenEnds.{AreInLines, still_open}
 -- ---- fixes as changes
 
 -- a fix as a change
-abbrev change_by : List ℕ → OfferSeen → Change
+abbrev pub change_by : List ℕ → OfferSeen → Change
 change_by text fix = record { at = begins text fix; text = fix.fix.text }
 
 -- each of these fixes is an edit of a block
@@ -48,11 +48,11 @@ abbrev pub AreEdits : List ℕ → List OfferSeen → Type 0
 AreEdits text fixes = AllByRecursion (λ (offer : OfferSeen). IsEditOf text offer.fix) fixes
 
 -- where it is
-record IsOfOne (text : List ℕ) (fix : OfferSeen) : Type 0 where
-  end : ends text fix ≡ suc (begins text fix)
-  within : suc (begins text fix) ≤ length text
+pub record IsOfOne (text : List ℕ) (fix : OfferSeen) : Type 0 where
+  pub end : ends text fix ≡ suc (begins text fix)
+  pub within : suc (begins text fix) ≤ length text
 
-is_of_one : (text : List ℕ) (fix : OfferSeen) → IsEditOf text fix.fix → IsOfOne text fix
+pub is_of_one : (text : List ℕ) (fix : OfferSeen) → IsEditOf text fix.fix → IsOfOne text fix
 is_of_one text fix is =
     let start = is.start in
     let end = is.end in
@@ -74,10 +74,10 @@ made_of P text at (offer ∷ offers) all =
     ]
 
 -- they are in order, and within lines of items
-record AreChanges (text : List ℕ) (at : ℕ) (fixes : List OfferSeen) : Type 0 where
-  rise : Rise at (length text) (map (change_by text) fixes)
-  lines : AreInLines text (map (change_by text) fixes)
-  is : fixed_text text at fixes ≡ changed at (drop at text) (map (change_by text) fixes)
+pub record AreChanges (text : List ℕ) (at : ℕ) (fixes : List OfferSeen) : Type 0 where
+  pub rise : Rise at (length text) (map (change_by text) fixes)
+  pub lines : AreInLines text (map (change_by text) fixes)
+  pub is : fixed_text text at fixes ≡ changed at (drop at text) (map (change_by text) fixes)
 
 none_made : (text : List ℕ) (at : ℕ) → at ≤ length text → AreChanges text at []
 none_made text at within = record { rise = within; lines = tt; is = refl }
@@ -100,7 +100,7 @@ one_made text at offer fixes one t later =
           ∙ ap₂ (λ (n : ℕ) (t : List ℕ). changed n t (map (change_by text) fixes)) one.end rest);
     }
 
-are_changes : (text : List ℕ) (at : ℕ) (offers : List OfferSeen) → at ≤ length text → AllByRecursion (IsOfOne text) offers
+pub are_changes : (text : List ℕ) (at : ℕ) (offers : List OfferSeen) → at ≤ length text → AllByRecursion (IsOfOne text) offers
     → AreChanges text at (made text at offers)
 are_changes text at [] within all = none_made text at within
 are_changes text at (offer ∷ offers) within all =
@@ -112,7 +112,7 @@ are_changes text at (offer ∷ offers) within all =
       | inr f ↦ rw f (are_changes text at offers within all.1)
     ]
 
-ones_of : (text : List ℕ) (offers : List OfferSeen) → AreEdits text offers → AllByRecursion (IsOfOne text) offers
+pub ones_of : (text : List ℕ) (offers : List OfferSeen) → AreEdits text offers → AllByRecursion (IsOfOne text) offers
 ones_of text [] all = tt
 ones_of text (offer ∷ offers) all = (is_of_one text offer all.0, ones_of text offers all.1)
 
@@ -408,7 +408,7 @@ edits_both : (text : List ℕ) (one other : List OfferSeen) → AreEdits text on
 edits_both text [] other all also = also
 edits_both text (offer ∷ one) other all also = (all.0, edits_both text one other all.1 also)
 
-of_diagnostics : (capabilities : Capabilities) (text : List ℕ) (all : List Shown) → AreEdits text (offers_of capabilities text all)
+pub of_diagnostics : (capabilities : Capabilities) (text : List ℕ) (all : List Shown) → AreEdits text (offers_of capabilities text all)
 of_diagnostics capabilities text [] = tt
 of_diagnostics capabilities text (shown ∷ all) =
     edits_both text (offers_for capabilities text shown) (offers_of capabilities text all) (of_diagnostic capabilities text shown)

@@ -5,9 +5,11 @@ pub mod Changes
 pub mod Choices
 pub mod FixedBlocks
 pub mod FixedFiles
+pub mod FixedLines
 pub mod FixingProofs
 pub mod OfferedEdits
 pub mod OpenEnds
+pub mod OtherLines
 pub mod Sentences
 pub mod Turns
 pub mod Walking

@@ -309,6 +309,7 @@ pub record IsEditOf (text : List ℕ) (fix : FixSeen) : Type 0 where
   pub one : edit.part.end ≡ suc edit.part.start
   pub within : length (preface_of text ++ concat front) + edit.part.end ≤ length text
   pub gives : fix.text ≡ edit.text
+  pub printed : shown fix.text ≡ fix.text
 
 -- it is one of the certain edits of the block
 pub is_of_block : (text : List ℕ) (fix : FixSeen) (is : IsEditOf text fix) → Contains (certain_edits is.block) is.edit
@@ -323,8 +324,8 @@ less_one n = omega arith
 edit_placed : (text : List ℕ) (front : List (List ℕ)) (block : List ℕ) (back : List (List ℕ)) (line ordinal : ℕ) (item : List PlacedByte) (edit : EditSeen)
     → source_texts text ≡ front ++ block ∷ back → line ≡ head_line text + line_count (concat front)
     → slice_get (items_of (folded_of block)) ordinal ≡ Some item → Contains (certain_for item (fault_at block ordinal)) edit
-    → edit.part.end ≡ suc edit.part.start → can_be_exchanged block edit.part ≡ true → IsEditOf text (fix_of line block edit)
-edit_placed text front block back line ordinal item edit whole counts there certain one can =
+    → edit.part.end ≡ suc edit.part.start → shown edit.text ≡ edit.text → can_be_exchanged block edit.part ≡ true → IsEditOf text (fix_of line block edit)
+edit_placed text front block back line ordinal item edit whole counts there certain one printed can =
     let preface = preface_of text in
     let before = preface ++ concat front in
     let more = missing_newline text in
@@ -364,6 +365,7 @@ edit_placed text front block back line ordinal item edit whole counts there cert
       one = one;
       within = omega (arith, last_within, size, few);
       gives = refl;
+      printed = printed;
     }
 
 -- a fix of the block in which its range begins
@@ -399,7 +401,7 @@ of_block capabilities text range fix blocks front block back spot whole line the
     let can = (and_parts _ _ (subst (λ (e : EditSeen). can_be_made own e ≡ true) (sym same) kept.1)).0 in
     let is : fix_of spot.line own edit ≡ fix = ap (fix_of spot.line own) same ∙ made.is in
     subst (IsEditOf text) is
-    (edit_placed text front own back spot.line placed.0 placed.1 edit (whole ∙ ap (λ (b : List ℕ). front ++ b ∷ back) (sym there)) line item_there mine single
+    (edit_placed text front own back spot.line placed.0 placed.1 edit (whole ∙ ap (λ (b : List ℕ). front ++ b ∷ back) (sym there)) line item_there mine single of.printed
     can)
 
 by_spot : (capabilities : Capabilities) (text : List ℕ) (range : Range) (fix : FixSeen) (o : Option Spot) → spot_at text range.start ≡ o

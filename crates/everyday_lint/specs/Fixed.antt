@@ -7,6 +7,7 @@ use Rattle.tools_sources.specs.Sources.{preface_of, source_texts}
 use Rattle.source_spans.specs.Folding.{folded_of}
 use Rattle.source_spans.specs.Replacing.{fault_at}
 use Rattle.source_spans.specs.Subjects.{items_of}
+use Rattle.source_plain.specs.Reading.{is_return, plain_lines}
 use Rattle.source_document.specs.Diagnostics.{Shown}
 use Rattle.source_diagnostics.specs.declared.capabilities.Capabilities.{Capabilities}
 use Rattle.source_blocks.specs.Places.{missing_newline}
@@ -66,3 +67,11 @@ abbrev pub CertainFixesMendBlocks : Type 0
 CertainFixesMendBlocks =
     (capabilities : Capabilities) (text : List ℕ) (all : List Shown)
     → TextIsFixed text (made text 0 (offers_of capabilities text all)) (fixed_text text 0 (made text 0 (offers_of capabilities text all)))
+
+-- A source whose lines end in CR LF is read without these CRs, and the diagnostics are of what is read. If
+-- it has no other CR, what is read of it once fixes are made is so, by the same fixes.
+abbrev pub CertainFixesMendReadBlocks : Type 0
+CertainFixesMendReadBlocks =
+    (capabilities : Capabilities) (source : List ℕ) (all : List Shown) → list_any is_return (plain_lines source) ≡ false
+    → TextIsFixed (plain_lines source) (made source 0 (offers_of capabilities (plain_lines source) all))
+    (plain_lines (fixed_text source 0 (made source 0 (offers_of capabilities (plain_lines source) all))))
