@@ -1,5 +1,5 @@
 -- The certain edits of a block are of single bytes of it, each after the one before it.
-use Rattle.std.proofs.Common.{◌≡◌, ℕ, suc, ◌+◌, ◌<◌, ◌≤◌, ◌==◌, true, false, cond, List, [], ◌∷◌, ◌++◌, append_assoc, length, map, take}
+use Rattle.std.proofs.Common.{◌≡◌, ℕ, zero, suc, Contains, ◌+◌, ◌<◌, ◌≤◌, ◌==◌, true, false, cond, List, [], ◌∷◌, ◌++◌, append_assoc, length, map, take}
 use Rattle.std.specs.Prelude.{slice_index}
 use Rattle.std.proofs.Common.{Option, None, Some, codes, inl, inr, refl, sym, ap, subst, ◌∙◌, arith}
 use Rattle.std.specs.List.{AllByRecursion, list_all}
@@ -12,6 +12,7 @@ use Rattle.ti_text.specs.WhiteSpace.{is_white_space}
 use Rattle.ti_caps.specs.Tables.{Capability, capability_named}
 use Rattle.ti_caps.specs.declared.capability.Kind.{Kind}
 use Rattle.ti_caps.specs.declared.capability.Kind.TheVariants.{Flag, Number, Text}
+use Rattle.ti_source.specs.Cutting.{OneBlock}
 use Rattle.ti_source.specs.Folding.{PlacedByte}
 use Rattle.ti_source.specs.Items.{bytes, takes, without_front}
 use Rattle.ti_source.specs.declared.code.Code.{Code}
@@ -328,3 +329,38 @@ pub certain_in_order : (block : List ℕ) → AreInOrder certain_edits block
 certain_in_order block =
     let is = certain_rise block 0 0 (length block) (items_of (folded_of block)) (block_items_rise block) in
     record { rise = is.0; ones = is.1 }
+
+-- ---- none is of the first byte of a block
+
+rest_later : (high : ℕ) (text : List PlacedByte) → 1 ≤ high → BytesRise 0 high text → BytesRise 1 high (rest_of text)
+rest_later high [] some rise = some
+rest_later high (x ∷ xs) some rise =
+    elim (x.0 == 44) as (λ b. BytesRise 1 high (cond b xs (rest_of xs))) [
+      | true ↦ bytes_lower 1 (suc x.1) high xs (omega arith) rise.1
+      | false ↦ bytes_lower 1 (suc x.1) high (rest_of xs) (omega arith) (rest_rise (suc x.1) high xs rise.1)
+    ]
+
+rises_later : (low high : ℕ) (edits : List EditSeen) (edit : EditSeen) → Rise low high (map change_of edits) → Contains edits edit → low ≤ edit.part.start
+rises_later low high [] edit rise has = let less = has.1 in absurd (omega (arith, less))
+rises_later low high (e ∷ edits) edit rise (zero, within, is) =
+    let first = rise.0 in
+    let same = ap (λ (x : EditSeen). x.part.start) is in
+    omega (arith, first, same)
+rises_later low high (e ∷ edits) edit rise (suc k, within, is) =
+    let first = rise.0 in
+    let later = rises_later (suc e.part.start) high edits edit rise.1 (k, omega (arith, within), is) in
+    omega (arith, first, later)
+
+later_in : (block : List ℕ) (edit : EditSeen) → 1 ≤ length block → Contains (certain_edits block) edit → 0 < edit.part.start
+later_in block edit some has =
+    let text = folded_of block in
+    let size = length block in
+    let rest = rest_later size text some (folded_rise block) in
+    let items = fronts_rise 1 size (items_after 44 (rest_of text)) (items_rise 1 size 44 (rest_of text) rest) in
+    let rise = certain_rise block 0 1 size (items_of text) items in
+    let low = rises_later 1 size (certain_edits block) edit rise.0 has in
+    omega (arith, low)
+
+pub certain_later : (block : List ℕ) (edit : EditSeen) → OneBlock block → Contains (certain_edits block) edit → 0 < edit.part.start
+certain_later [] edit single has = absurd single.cut.each.1
+certain_later (x ∷ xs) edit single has = later_in (x ∷ xs) edit (omega arith) has

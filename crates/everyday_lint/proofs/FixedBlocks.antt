@@ -65,7 +65,7 @@ is_of_one text fix is =
       within = omega (arith, start, one, within);
     }
 
-made_of : (P : OfferSeen → Type 0) (text : List ℕ) (at : ℕ) (offers : List OfferSeen) → AllByRecursion P offers → AllByRecursion P (made text at offers)
+pub made_of : (P : OfferSeen → Type 0) (text : List ℕ) (at : ℕ) (offers : List OfferSeen) → AllByRecursion P offers → AllByRecursion P (made text at offers)
 made_of P text at [] all = tt
 made_of P text at (offer ∷ offers) all =
     elim (cases_Bool (is_made text at offer)) [

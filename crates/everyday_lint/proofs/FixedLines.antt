@@ -1,19 +1,27 @@
 -- A text with lines that end in CR LF once fixes of what is read of it are made.
 use Rattle.std.proofs.Common.{◌≡◌, ℕ, suc, ◌+◌, ◌-◌, ◌≤◌, ◌&&◌, nat_le, Bool, true, false, List, [], ◌∷◌, ◌++◌, append_assoc, drop, map, max}
 use Rattle.std.proofs.Common.{take, inl, inr, refl, sym, ap, ap₂, subst, ◌∙◌, arith}
-use Rattle.std.specs.List.{AllByRecursion, list_any}
+use Rattle.std.proofs.Common.{◌<◌, length}
+use Rattle.std.specs.List.{AllByRecursion, concat, list_any}
 use Rattle.std.proofs.Math.Nat.{max-eq_right}
-use Rattle.std.proofs.lemmas.Bool.{and_parts, cases_Bool, leb-true}
+use Rattle.std.proofs.lemmas.Bool.{and_parts, cases_Bool, false≢true, leb-true}
 use Rattle.std.proofs.lemmas.List.{drop-drop}
+use Rattle.tools_sources.specs.Sources.{preface_of}
+use Rattle.source_document.specs.Diagnostics.{diagnostics_by}
 use Rattle.source_places.specs.Position.{offset_of}
-use Rattle.source_plain.specs.Reading.{is_return, plain_lines}
+use Rattle.source_plain.specs.Reading.{has_mark, is_return, plain_lines, plain_source, without_mark}
+use Rattle.source_plain.specs.Writing.{marked_like}
 use Rattle.source_keeping.specs.Keeping.{stays_in_line}
-use Rattle.everyday_lint.specs.Fixed.{CertainFixesMendReadBlocks, TextIsFixed}
+use Rattle.everyday_lint.specs.Checking.{offers_in}
+use Rattle.everyday_lint.specs.Fates.{fixed_source}
+use Rattle.everyday_lint.specs.Fixed.{CertainFixesMendSources, TextIsFixed}
 use Rattle.everyday_lint.specs.Fixing.{begins, ends, fixed_text, is_made, made}
-use Rattle.everyday_lint.specs.Offers.{OfferSeen, offers_of}
-use Rattle.everyday_lint.proofs.Changes.{changed}
-use Rattle.everyday_lint.proofs.FixedBlocks.{AreEdits, are_changes, change_by, is_of_one, of_diagnostics, ones_of, text_fixed}
-use Rattle.everyday_lint.proofs.OfferedEdits.{IsEditOf}
+use Rattle.everyday_lint.specs.Offers.{OfferSeen}
+use Rattle.everyday_lint.specs.declared.options.LintOptions.{LintOptions}
+use Rattle.everyday_lint.proofs.Changes.{Change, Rise, changed, rise_ends}
+use Rattle.everyday_lint.proofs.FixedBlocks.{AreEdits, are_changes, change_by, is_of_one, made_of, of_diagnostics, ones_of, text_fixed}
+use Rattle.everyday_lint.proofs.MarksStay.{IsMarked, IsWhole, has_it, marked_before, mark_read, marked_is, marked_read, printed_ascii}
+use Rattle.everyday_lint.proofs.OfferedEdits.{BeginsWhole, IsEditOf}
 use Rattle.everyday_lint.proofs.OtherLines.{HasNoReturn, IsLifted, lifted, place_up, plain_changed, printed_none, stays_both, stays_one, up, up_less, up_order, up_zero}
 
 -- where a fix of what is read of a text is in the text
@@ -135,12 +143,97 @@ are_read text offers none all =
           ∙ sym are.is;
     }
 
-pub mend_read : CertainFixesMendReadBlocks
-mend_read capabilities source all none =
-    let plain = plain_lines source in
-    let offers = offers_of capabilities plain all in
-    let edits = of_diagnostics capabilities plain all in
-    let read = are_read source offers none edits in
-    let now : TextIsFixed plain (made plain 0 offers) (plain_lines (fixed_text source 0 (made source 0 offers))) =
+-- what is read of the text then is the text with its blocks mended
+read_fixed : (text : List ℕ) (offers : List OfferSeen) → HasNoReturn text → AreEdits (plain_lines text) offers
+    → TextIsFixed (plain_lines text) (made text 0 offers) (plain_lines (fixed_text text 0 (made text 0 offers)))
+read_fixed text offers none edits =
+    let plain = plain_lines text in
+    let read = are_read text offers none edits in
+    let now : TextIsFixed plain (made plain 0 offers) (plain_lines (fixed_text text 0 (made text 0 offers))) =
     subst (TextIsFixed plain (made plain 0 offers)) (sym read.is) (text_fixed plain offers edits) in
-    subst (λ (fixes : List OfferSeen). TextIsFixed plain fixes (plain_lines (fixed_text source 0 (made source 0 offers)))) (sym read.same) now
+    subst (λ (fixes : List OfferSeen). TextIsFixed plain fixes (plain_lines (fixed_text text 0 (made text 0 offers)))) (sym read.same) now
+
+-- ---- the mark
+
+whole_changes : (text : List ℕ) (offers : List OfferSeen) → AreEdits text offers → AllByRecursion (IsWhole text) (map (change_by text) offers)
+whole_changes text [] all = tt
+whole_changes text (offer ∷ offers) all =
+    let is = all.0 in
+    let start = is.start in
+    let one = is.one in
+    let place : length (preface_of text ++ concat is.front) + is.edit.part.end ≡ suc (begins text offer) = omega (arith, start, one) in (
+      record {
+        ascii = printed_ascii offer.fix.text is.printed;
+        next = subst (λ (n : ℕ). BeginsWhole (drop n text)) place is.next;
+      },
+      whole_changes text offers all.1,
+    )
+
+later_changes : (text : List ℕ) (fixes : List OfferSeen) → AreEdits text fixes → Rise 0 (length text) (map (change_by text) fixes) → 0 < length text
+    → Rise 1 (length text) (map (change_by text) fixes)
+later_changes text [] all rise some = some
+later_changes text (fix ∷ fixes) all rise some =
+    let is = all.0 in
+    let start = is.start in
+    let later = is.later in
+    (omega (arith, start, later), rise.1)
+
+-- with no mark before there is none then
+no_mark : (text : List ℕ) (offers : List OfferSeen) → HasNoReturn text → AreEdits (plain_lines text) offers → has_mark text ≡ false
+    → has_mark (fixed_text text 0 (made text 0 offers)) ≡ false
+no_mark text offers none edits bare =
+    let plain = plain_lines text in
+    let read = are_read text offers none edits in
+    let fixes = made plain 0 offers in
+    let are = are_changes plain 0 offers (omega arith) (ones_of plain offers edits) in
+    let mine = made_of (λ (offer : OfferSeen). IsEditOf plain offer.fix) plain 0 offers edits in
+    let changes = map (change_by plain) fixes in
+    let after = fixed_text text 0 (made text 0 offers) in
+    elim (cases_Bool (has_mark after)) [
+      | inr f ↦ f
+      | inl t ↦
+          let marked = marked_is after t in
+          let now : changed 0 plain changes ≡ 239 ∷ 187 ∷ 191 ∷ plain_lines marked.rest =
+          sym are.is ∙ sym read.is ∙ ap plain_lines marked.whole ∙ mark_read marked.rest in
+          let was = by_size plain changes (plain_lines marked.rest) are.rise (λ some. later_changes plain fixes mine are.rise some) (whole_changes plain fixes mine) now in
+          let text_marked = marked_read text was.rest was.whole in
+          absurd (false≢true (sym bare ∙ has_it text text_marked))
+    ]
+  where
+    by_size : (t : List ℕ) (cs : List Change) (rest : List ℕ) → Rise 0 (length t) cs → (0 < length t → Rise 1 (length t) cs)
+        → AllByRecursion (IsWhole t) cs → changed 0 t cs ≡ 239 ∷ 187 ∷ 191 ∷ rest → IsMarked t
+    by_size [] [] rest rise later whole e = absurd cc
+    by_size [] (c ∷ cs) rest rise later whole e = let end = rise_ends (suc c.at) 0 cs rise.1 in absurd (omega (arith, end))
+    by_size (x ∷ xs) cs rest rise later whole e = marked_before (x ∷ xs) cs rest (later (omega arith)) whole e
+
+-- what is read of a source that was fixed
+fixed_read : (source : List ℕ) (offers : List OfferSeen) → HasNoReturn (without_mark source) → AreEdits (plain_source source) offers
+    → plain_source (fixed_source source (made (without_mark source) 0 offers)) ≡ plain_lines (fixed_text (without_mark source) 0 (made (without_mark source) 0 offers))
+fixed_read source offers none edits =
+    elim (cases_Bool (has_mark source)) [
+      | inl t ↦ by_mark source (fixed_text (without_mark source) 0 (made (without_mark source) 0 offers)) t
+      | inr f ↦
+          let same : without_mark source ≡ source = rw f refl in
+          let bare : has_mark (without_mark source) ≡ false = ap has_mark same ∙ f in
+          by_none source (fixed_text (without_mark source) 0 (made (without_mark source) 0 offers)) f (no_mark (without_mark source) offers none edits bare)
+    ]
+  where
+    by_mark : (from text : List ℕ) → has_mark from ≡ true → plain_source (marked_like from text) ≡ plain_lines text
+    by_mark from text t = rw t refl
+
+    by_none : (from text : List ℕ) → has_mark from ≡ false → has_mark text ≡ false → plain_source (marked_like from text) ≡ plain_lines text
+    by_none from text f none_there = rw f (rw none_there refl)
+
+offers_there : (options : LintOptions) (text : List ℕ) → AreEdits text (offers_in options text)
+offers_there options text =
+    elim (cases_Bool options.fix) [
+      | inl t ↦ rw t (of_diagnostics options.capabilities text (diagnostics_by options.capabilities text))
+      | inr f ↦ rw f tt
+    ]
+
+pub mend_sources : CertainFixesMendSources
+mend_sources options source none =
+    let text = without_mark source in
+    let offers = offers_in options (plain_source source) in
+    let edits = offers_there options (plain_source source) in
+    subst (TextIsFixed (plain_source source) (made text 0 offers)) (sym (fixed_read source offers none edits)) (read_fixed text offers none edits)

@@ -7,6 +7,7 @@ pub mod FixedBlocks
 pub mod FixedFiles
 pub mod FixedLines
 pub mod FixingProofs
+pub mod MarksStay
 pub mod OfferedEdits
 pub mod OpenEnds
 pub mod OtherLines

@@ -1,11 +1,14 @@
 -- Each fix of a text that is certain is a certain edit of a block, at its place in the text.
 use Rattle.std.proofs.Common.{◌≡◌, ◌⊎◌, ℕ, zero, suc, ◌+◌, ◌-◌, ◌≤◌, nat_lt, Bool, true, false, cond, Contains, List, [], ◌∷◌, ◌++◌, append_assoc}
 use Rattle.std.proofs.Common.{filter, flat_map, is_none, length, map, Option, None, Some, slice_get, inl, inr, refl, sym, ap, ap₂, subst, ◌∙◌, arith, zero-add}
+use Rattle.std.proofs.Common.{◌<◌, drop}
+use Rattle.source_places.specs.Position.{is_start}
 use Rattle.std.specs.List.{AllByRecursion, concat, enumerate_from}
 use Rattle.std.specs.Prelude.{option_and_then, option_map}
 use Rattle.std.specs.Option.{option_map_or}
 use Rattle.std.proofs.lemmas.Bool.{and_parts, cases_Bool, false≢true, ltb-true}
-use Rattle.std.proofs.lemmas.List.{length-append}
+use Rattle.std.proofs.lemmas.List.{drop-append-le, length-append, length-drop}
+use Rattle.std.proofs.Math.Seq.{drop-append-add}
 use Rattle.std.proofs.lemmas.List.Elements.{Contains-append_cases, Contains-append_left, Contains-append_right}
 use Rattle.std.proofs.lemmas.Option.{same_Some}
 use Rattle.ti_text.specs.Lines.{line_count}
@@ -28,13 +31,13 @@ use Rattle.source_spans.specs.Parts.{spanned}
 use Rattle.source_spans.specs.Replacing.{fault_at}
 use Rattle.source_spans.specs.Subjects.{items_of, used_name}
 use Rattle.source_spans.specs.declared.parts.Part.{Part}
-use Rattle.source_places.specs.Position.{offset_of, position_of}
+use Rattle.source_places.specs.Position.{units, offset_of, position_of}
 use Rattle.source_diagnostics.specs.declared.capabilities.Capabilities.{Capabilities}
 use Rattle.source_diagnostics.specs.declared.capabilities.Capabilities.TheVariants.{Profile, UserDefined}
 use Rattle.source_document.specs.Diagnostics.{text_at}
 use Rattle.source_document.specs.Documents.{held, unless_refused}
 use Rattle.source_blocks.specs.Places.{can_be_exchanged, missing_newline}
-use Rattle.source_blocks.specs.Spots.{head_line, settled, spot_at, spot_from}
+use Rattle.source_blocks.specs.Spots.{head_line, offset_in, settled, spot_at, spot_from}
 use Rattle.source_blocks.specs.declared.spots.Spot.{Spot}
 use Rattle.source_blocks.proofs.Placing.{ended_with, leads, missing_is, missing_size, place}
 use Rattle.source_edits.specs.Edits.{EditSeen, edits_for, is_certain, rename, renames_in}
@@ -53,7 +56,7 @@ use Rattle.source_fixes.proofs.Shrinking.{one_same}
 use Rattle.source_fixes.proofs.Together.{these_are_certain}
 use Rattle.everyday_lint.proofs.BlocksCut.{all_single, blocks_end, preface_ends, single_ends, text_joined}
 use Rattle.everyday_lint.proofs.OpenEnds.{last_both}
-use Rattle.everyday_lint.proofs.CertainOrder.{HasFew, IsOfItem, few_certain, has_none, has_one}
+use Rattle.everyday_lint.proofs.CertainOrder.{HasFew, IsOfItem, certain_later, few_certain, has_none, has_one}
 
 -- ---- an element of a list that is made of another
 
@@ -120,6 +123,14 @@ record IsSpot (at first : ℕ) (blocks : List (List ℕ)) (spot : Spot) : Type 0
   is : spot.at ≡ at + length front
   line : spot.line ≡ first + line_count (concat front)
 
+spot_first : (at first offset : ℕ) (block : List ℕ) (blocks : List (List ℕ)) (spot : Spot) → record { at = at; line = first; offset = offset } ≡ spot
+    → IsSpot at first (block ∷ blocks) spot
+spot_first at first offset block blocks spot is =
+    let here : at ≡ spot.at = ap (λ (s : Spot). s.at) is in
+    let line : first ≡ spot.line = ap (λ (s : Spot). s.line) is in
+    let none : line_count (concat []) ≡ 0 = refl in
+    record { front = []; block = block; back = blocks; whole = refl; is = omega (arith, here); line = omega (arith, line, none) }
+
 spot_is : (at first : ℕ) (p : Position) (blocks : List (List ℕ)) (spot : Spot) → spot_from at first p blocks ≡ Some spot → IsSpot at first blocks spot
 spot_is at first p [] spot e = absurd cc
 spot_is at first p (block ∷ blocks) spot e =
@@ -128,18 +139,7 @@ spot_is at first p (block ∷ blocks) spot e =
       | inr f ↦
           elim (cases_Bool (nat_lt p.line (first + line_count block))) [
             | inl t ↦
-                let is = same_Some _ spot (rw (f, t) at e) in
-                let here : at ≡ spot.at = ap (λ (s : Spot). s.at) is in
-                let line : first ≡ spot.line = ap (λ (s : Spot). s.line) is in
-                let none : line_count (concat []) ≡ 0 = refl in
-                record {
-                  front = [];
-                  block = block;
-                  back = blocks;
-                  whole = refl;
-                  is = omega (arith, here);
-                  line = omega (arith, line, none);
-                }
+                spot_first at first (offset_in first block p) block blocks spot (same_Some _ spot (rw (f, t) at e))
             | inr g ↦
                 let later = spot_is (suc at) (first + line_count block) p blocks spot (rw (f, g) at e) in
                 let is = later.is in
@@ -293,6 +293,25 @@ of_few item edits edit (has_one one is of) has =
 
 -- ---- the fix
 
+-- a text does not begin within a character
+abbrev pub BeginsWhole : List ℕ → Type 0
+BeginsWhole [] = Unit {0}
+BeginsWhole (byte ∷ rest) = 0 < units byte
+
+whole_start : (before : ℕ) (text : List ℕ) (offset : ℕ) → is_start before text offset ≡ true → BeginsWhole (drop offset text)
+whole_start before [] zero start = tt
+whole_start before [] (suc offset) start = tt
+whole_start before (byte ∷ rest) zero start = ltb-true 0 (units byte) (and_parts (nat_lt 0 (units byte)) _ start).0
+whole_start before (byte ∷ rest) (suc offset) start = whole_start byte rest offset start
+
+whole_front : (one other : List ℕ) → BeginsWhole (one ++ other) → BeginsWhole one
+whole_front [] other is = tt
+whole_front (byte ∷ one) other is = is
+
+whole_more : (one other : List ℕ) → 0 < length one → BeginsWhole one → BeginsWhole (one ++ other)
+whole_more [] other some is = absurd (omega (arith, some))
+whole_more (byte ∷ one) other some is = is
+
 -- a fix of a text is a certain edit of an item of a block, of one byte
 pub record IsEditOf (text : List ℕ) (fix : FixSeen) : Type 0 where
   pub front : List (List ℕ)
@@ -310,6 +329,8 @@ pub record IsEditOf (text : List ℕ) (fix : FixSeen) : Type 0 where
   pub within : length (preface_of text ++ concat front) + edit.part.end ≤ length text
   pub gives : fix.text ≡ edit.text
   pub printed : shown fix.text ≡ fix.text
+  pub later : 0 < edit.part.start
+  pub next : BeginsWhole (drop (length (preface_of text ++ concat front) + edit.part.end) text)
 
 -- it is one of the certain edits of the block
 pub is_of_block : (text : List ℕ) (fix : FixSeen) (is : IsEditOf text fix) → Contains (certain_edits is.block) is.edit
@@ -350,6 +371,18 @@ edit_placed text front block back line ordinal item edit whole counts there cert
     sym (length-append text more) ∙ ap length joined ∙ length-append before (block ++ concat back)
     ∙ ap (λ (n : ℕ). length before + n) (length-append block (concat back)) in
     let few = missing_size more (missing_is text) in
+    let at_end = length before + edit.part.end in
+    let certain_of : Contains (certain_edits block) edit =
+    certain_there block 0 ordinal (items_of (folded_of block)) item edit there
+    (subst (λ (n : ℕ). Contains (certain_for item (fault_at block n)) edit) (sym (zero-add ordinal)) certain) in
+    let rest : drop edit.part.end block ++ concat back ≡ drop at_end text ++ more =
+    sym (drop-append-le edit.part.end block (concat back) (omega (arith, last_within)))
+    ∙ sym (drop-append-add before (block ++ concat back) edit.part.end)
+    ∙ ap (λ (t : List ℕ). drop at_end t) (sym joined)
+    ∙ drop-append-le at_end text more (omega (arith, last_within, size, few)) in
+    let left = length-drop edit.part.end block in
+    let whole_rest : BeginsWhole (drop edit.part.end block ++ concat back) =
+    whole_more (drop edit.part.end block) (concat back) (omega (arith, left, last_within)) (whole_start 0 block edit.part.end last.1) in
     record {
       front = front;
       block = block;
@@ -366,6 +399,8 @@ edit_placed text front block back line ordinal item edit whole counts there cert
       within = omega (arith, last_within, size, few);
       gives = refl;
       printed = printed;
+      later = certain_later block edit singles.1 certain_of;
+      next = whole_front (drop at_end text) more (subst BeginsWhole rest whole_rest);
     }
 
 -- a fix of the block in which its range begins

@@ -27,12 +27,12 @@ up_zero [] = refl
 up_zero (byte ∷ text) = refl
 
 -- CR LF in front of a text
-record Returns (byte : ℕ) (text : List ℕ) : Type 0 where
-  rest : List ℕ
-  first : byte ≡ 13
-  whole : text ≡ 10 ∷ rest
+pub record Returns (byte : ℕ) (text : List ℕ) : Type 0 where
+  pub rest : List ℕ
+  pub first : byte ≡ 13
+  pub whole : text ≡ 10 ∷ rest
 
-returns : (byte : ℕ) (text : List ℕ) → is_return_at (byte ∷ text) ≡ true → Returns byte text
+pub returns : (byte : ℕ) (text : List ℕ) → is_return_at (byte ∷ text) ≡ true → Returns byte text
 returns byte [] t = absurd cc
 returns byte (next ∷ text) t =
     let both = and_parts (byte == 13) (next == 10) t in
@@ -65,13 +65,13 @@ column_by : (byte : ℕ) (text : List ℕ) (column : ℕ) (b : Bool) → ends_li
 column_by byte text column b e = rw e refl
 
 -- both begin with a newline, or with the same byte
-plain_kept : (byte : ℕ) (text : List ℕ) → is_return_at (byte ∷ text) ≡ false → plain_lines (byte ∷ text) ≡ byte ∷ plain_lines text
+pub plain_kept : (byte : ℕ) (text : List ℕ) → is_return_at (byte ∷ text) ≡ false → plain_lines (byte ∷ text) ≡ byte ∷ plain_lines text
 plain_kept byte text f = rw f refl
 
 plain_left : (byte : ℕ) (text : List ℕ) → is_return_at (byte ∷ text) ≡ true → plain_lines (byte ∷ text) ≡ plain_lines text
 plain_left byte text t = rw t refl
 
-plain_newline : (rest : List ℕ) → plain_lines (10 ∷ rest) ≡ 10 ∷ plain_lines rest
+pub plain_newline : (rest : List ℕ) → plain_lines (10 ∷ rest) ≡ 10 ∷ plain_lines rest
 plain_newline rest = plain_kept 10 rest (starts_none 10 rest refl)
 
 up_kept : (byte : ℕ) (text : List ℕ) (offset : ℕ) → is_return_at (byte ∷ text) ≡ false → up (byte ∷ text) (suc offset) ≡ suc (up text offset)

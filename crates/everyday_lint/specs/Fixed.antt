@@ -7,14 +7,17 @@ use Rattle.tools_sources.specs.Sources.{preface_of, source_texts}
 use Rattle.source_spans.specs.Folding.{folded_of}
 use Rattle.source_spans.specs.Replacing.{fault_at}
 use Rattle.source_spans.specs.Subjects.{items_of}
-use Rattle.source_plain.specs.Reading.{is_return, plain_lines}
+use Rattle.source_plain.specs.Reading.{is_return, plain_source}
 use Rattle.source_document.specs.Diagnostics.{Shown}
 use Rattle.source_diagnostics.specs.declared.capabilities.Capabilities.{Capabilities}
 use Rattle.source_blocks.specs.Places.{missing_newline}
 use Rattle.source_edits.specs.Edits.{EditSeen}
 use Rattle.source_fixes.specs.Together.{AreMade, IsSound, certain_edits, certain_for, edited_last}
+use Rattle.everyday_lint.specs.Checking.{made_in}
+use Rattle.everyday_lint.specs.Fates.{fixed_source}
 use Rattle.everyday_lint.specs.Fixing.{begins, ends, fixed_text, made}
 use Rattle.everyday_lint.specs.Offers.{OfferSeen, offers_of}
+use Rattle.everyday_lint.specs.declared.options.LintOptions.{LintOptions}
 
 -- where the block of a text at that position begins
 abbrev pub block_begins : List ℕ → ℕ → ℕ
@@ -68,10 +71,9 @@ CertainFixesMendBlocks =
     (capabilities : Capabilities) (text : List ℕ) (all : List Shown)
     → TextIsFixed text (made text 0 (offers_of capabilities text all)) (fixed_text text 0 (made text 0 (offers_of capabilities text all)))
 
--- A source whose lines end in CR LF is read without these CRs, and the diagnostics are of what is read. If
--- it has no other CR, what is read of it once fixes are made is so, by the same fixes.
-abbrev pub CertainFixesMendReadBlocks : Type 0
-CertainFixesMendReadBlocks =
-    (capabilities : Capabilities) (source : List ℕ) (all : List Shown) → list_any is_return (plain_lines source) ≡ false
-    → TextIsFixed (plain_lines source) (made source 0 (offers_of capabilities (plain_lines source) all))
-    (plain_lines (fixed_text source 0 (made source 0 (offers_of capabilities (plain_lines source) all))))
+-- What is read of a source is without the byte order mark in front, and without the CR of each CR LF, and
+-- the diagnostics are of that. If it has no other CR, what is read of the source with the fixes made is so.
+abbrev pub CertainFixesMendSources : Type 0
+CertainFixesMendSources =
+    (options : LintOptions) (source : List ℕ) → list_any is_return (plain_source source) ≡ false
+    → TextIsFixed (plain_source source) (made_in options source) (plain_source (fixed_source source (made_in options source)))
