@@ -27,7 +27,11 @@ use Rattle.source_edits.proofs.Exchanging.{no_edit}
 use Rattle.source_fixes.specs.Fixes.{FixSeen, fixes_of}
 use Rattle.source_fixes.specs.Together.{AreMade, certain_edits, certain_for, edited_last}
 use Rattle.source_fixes.proofs.Together.{certain_made}
-use Rattle.everyday_lint.specs.Fixed.{BlockIsFixed, CertainFixesMendBlocks, MendsItem, TextIsFixed, block_begins, is_made_by}
+use Rattle.everyday_lint.specs.Fixed.{BlockIsFixed, CertainFixesMendBlocks, MendsItem, MendsUnless, TextIsFixed, block_begins, is_made_by}
+use Rattle.everyday_lint.specs.Laws.{IsInTheWay}
+use Rattle.everyday_lint.proofs.Choices.{are_made}
+use Rattle.std.proofs.lemmas.Bool.{leb-false}
+use Rattle.std.proofs.Common.{◌⊎◌}
 use Rattle.everyday_lint.specs.Fixing.{begins, ends, fixed_text, is_made, made}
 use Rattle.everyday_lint.specs.Offers.{OfferSeen, certain, is_fixable, offers_for, offers_of}
 use Rattle.everyday_lint.proofs.BlocksCut.{all_single, cut_so, text_joined}
@@ -291,8 +295,8 @@ block_fixed text fixes at block after is single =
 mends : (text : List ℕ) (fixes : List OfferSeen) (after : List ℕ)
     → ((at : ℕ) (block : List ℕ) → slice_get (source_texts text) at ≡ Some block
     → (fixed : List ℕ) × (slice_get (source_texts after) at ≡ Some fixed) × BlockIsFixed text fixes at block fixed)
-    → (fix : OfferSeen) → Contains fixes fix → IsEditOf text fix.fix → MendsItem text after fix
-mends text fixes after each fix has is =
+    → (fix : OfferSeen) → begins_at text fixes (begins text fix) ≡ true → IsEditOf text fix.fix → MendsItem text after fix
+mends text fixes after each fix begins_so is =
     let one = is_of_one text fix is in
     let at = length is.front in
     let was : slice_get (source_texts text) at ≡ Some is.block =
@@ -307,7 +311,7 @@ mends text fixes after each fix has is =
     let here : begins text fix ≡ block_begins text at + is.edit.part.start = omega (arith, start, size, begin) in
     let now = each at is.block was in
     let chosen : is_made_by text fixes at is.edit ≡ true =
-    ap (begins_at text fixes) (sym here) ∙ begun_with text fixes fix has in
+    ap (begins_at text fixes) (sym here) ∙ begins_so in
     record {
       at = at;
       block = is.block;
@@ -325,8 +329,25 @@ mends text fixes after each fix has is =
       sound = now.2.made.sound is.ordinal is.item is.edit is.there is.certain chosen;
     }
 
+-- a fix that could be made
+heard : (text : List ℕ) (fixes : List OfferSeen) (after : List ℕ) (offer : OfferSeen)
+    → ((fix : OfferSeen) → Contains fixes fix → ends text fix ≡ suc (begins text fix))
+    → (begins_at text fixes (begins text offer) ≡ true → MendsItem text after offer) → Contains fixes offer ⊎ IsInTheWay text fixes offer
+    → MendsUnless text fixes after offer
+heard text fixes after offer ones mended (inl has) = inl (mended (begun_with text fixes offer has))
+heard text fixes after offer ones mended (inr (inl outside)) = inr (inl outside)
+heard text fixes after offer ones mended (inr (inr (fix, has, early))) =
+    let one = ones fix has in
+    elim (cases_Bool (nat_le (begins text fix) (begins text offer))) [
+      | inl t ↦
+          let up = leb-true (begins text fix) (begins text offer) t in
+          let same : begins text fix ≡ begins text offer = omega (arith, up, early, one) in
+          inl (mended (ap (begins_at text fixes) (sym same) ∙ begun_with text fixes fix has))
+      | inr f ↦ inr (inr (fix, has, leb-false (begins text fix) (begins text offer) f))
+    ]
+
 -- the fixes are all the certain edits at their places
-pub text_fixed : (text : List ℕ) (offers : List OfferSeen) → AreEdits text offers → TextIsFixed text (made text 0 offers) (fixed_text text 0 (made text 0 offers))
+pub text_fixed : (text : List ℕ) (offers : List OfferSeen) → AreEdits text offers → TextIsFixed text offers (made text 0 offers) (fixed_text text 0 (made text 0 offers))
 text_fixed text offers all =
     let fixes = made text 0 offers in
     let edits : AreEdits text fixes = made_of (λ (offer : OfferSeen). IsEditOf text offer.fix) text 0 offers all in
@@ -368,21 +389,32 @@ text_fixed text offers all =
     let there : (at : ℕ) (block : List ℕ) → slice_get blocks at ≡ Some block
     → slice_get (source_texts after) at ≡ Some (edited_at p (block_begins text at) block) =
     λ at block was. ap (λ (bs : List (List ℕ)). slice_get bs at) now ∙ edited_there p size blocks at block was in
+    let mended : (fix : OfferSeen) → begins_at text fixes (begins text fix) ≡ true → IsEditOf text fix.fix → MendsItem text after fix =
+    λ fix begins_so is.
+    mends text fixes after
+    (λ at block was.
+    let one = edited_at p (block_begins text at) block in
+    (one, there at block was, block_fixed text fixes at block one refl (single_at blocks at block singles was)))
+    fix begins_so is in
+    let an_edit : (some : List OfferSeen) → AreEdits text some → (fix : OfferSeen) → Contains some fix → IsEditOf text fix.fix =
+    λ some are_edits fix has.
+    All-contains (λ (offer : OfferSeen). IsEditOf text offer.fix) some fix
+    (All-from_recursion (λ (offer : OfferSeen). IsEditOf text offer.fix) some are_edits) has in
+    let choice = are_made text offers in
     record {
       preface = ap (front_of 10) ended.is ∙ cut.preface;
       newline = ended.more;
       as_many = ap length now ∙ as_many p size blocks;
       each_block = λ at block one was is.
           block_fixed text fixes at block one (same_Some _ _ (sym is ∙ there at block was)) (single_at blocks at block singles was);
-      each_fix = All-weaker (Contains fixes) (MendsItem text after)
-          (λ fix has.
-          mends text fixes after
-          (λ at block was.
-          let one = edited_at p (block_begins text at) block in
-          (one, there at block was, block_fixed text fixes at block one refl (single_at blocks at block singles was)))
-          fix has (All-contains (λ (offer : OfferSeen). IsEditOf text offer.fix) fixes fix
-          (All-from_recursion (λ (offer : OfferSeen). IsEditOf text offer.fix) fixes edits) has))
-          fixes (All-contains_itself fixes);
+      each_fix = All-weaker (Contains fixes) (MendsItem text after) (λ fix has. mended fix (begun_with text fixes fix has) (an_edit fixes edits fix has)) fixes
+          (All-contains_itself fixes);
+      each_offer = All-weaker (Contains offers) (MendsUnless text fixes after)
+          (λ offer has.
+          heard text fixes after offer (λ fix there. (is_of_one text fix (an_edit fixes edits fix there)).end)
+          (λ begins_so. mended offer begins_so (an_edit offers all offer has))
+          (All-contains (λ (one : OfferSeen). Contains fixes one ⊎ IsInTheWay text fixes one) offers offer choice.others has))
+          offers (All-contains_itself offers);
     }
 
 -- ---- the fixes of diagnostics

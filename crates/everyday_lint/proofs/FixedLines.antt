@@ -145,13 +145,13 @@ are_read text offers none all =
 
 -- what is read of the text then is the text with its blocks mended
 read_fixed : (text : List ℕ) (offers : List OfferSeen) → HasNoReturn text → AreEdits (plain_lines text) offers
-    → TextIsFixed (plain_lines text) (made text 0 offers) (plain_lines (fixed_text text 0 (made text 0 offers)))
+    → TextIsFixed (plain_lines text) offers (made text 0 offers) (plain_lines (fixed_text text 0 (made text 0 offers)))
 read_fixed text offers none edits =
     let plain = plain_lines text in
     let read = are_read text offers none edits in
-    let now : TextIsFixed plain (made plain 0 offers) (plain_lines (fixed_text text 0 (made text 0 offers))) =
-    subst (TextIsFixed plain (made plain 0 offers)) (sym read.is) (text_fixed plain offers edits) in
-    subst (λ (fixes : List OfferSeen). TextIsFixed plain fixes (plain_lines (fixed_text text 0 (made text 0 offers)))) (sym read.same) now
+    let now : TextIsFixed plain offers (made plain 0 offers) (plain_lines (fixed_text text 0 (made text 0 offers))) =
+    subst (TextIsFixed plain offers (made plain 0 offers)) (sym read.is) (text_fixed plain offers edits) in
+    subst (λ (fixes : List OfferSeen). TextIsFixed plain offers fixes (plain_lines (fixed_text text 0 (made text 0 offers)))) (sym read.same) now
 
 -- ---- the mark
 
@@ -236,4 +236,4 @@ mend_sources options source none =
     let text = without_mark source in
     let offers = offers_in options (plain_source source) in
     let edits = offers_there options (plain_source source) in
-    subst (TextIsFixed (plain_source source) (made text 0 offers)) (sym (fixed_read source offers none edits)) (read_fixed text offers none edits)
+    subst (TextIsFixed (plain_source source) offers (made text 0 offers)) (sym (fixed_read source offers none edits)) (read_fixed text offers none edits)

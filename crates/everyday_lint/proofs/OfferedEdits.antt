@@ -131,6 +131,21 @@ spot_first at first offset block blocks spot is =
     let none : line_count (concat []) ≡ 0 = refl in
     record { front = []; block = block; back = blocks; whole = refl; is = omega (arith, here); line = omega (arith, line, none) }
 
+spot_later : (at first : ℕ) (block : List ℕ) (blocks : List (List ℕ)) (spot : Spot) → IsSpot (suc at) (first + line_count block) blocks spot
+    → IsSpot at first (block ∷ blocks) spot
+spot_later at first block blocks spot later =
+    let is = later.is in
+    let line = later.line in
+    let sum = lines_add block (concat later.front) in
+    record {
+      front = block ∷ later.front;
+      block = later.block;
+      back = later.back;
+      whole = ap (λ (bs : List (List ℕ)). block ∷ bs) later.whole;
+      is = omega (arith, is);
+      line = omega (arith, line, sum);
+    }
+
 spot_is : (at first : ℕ) (p : Position) (blocks : List (List ℕ)) (spot : Spot) → spot_from at first p blocks ≡ Some spot → IsSpot at first blocks spot
 spot_is at first p [] spot e = absurd cc
 spot_is at first p (block ∷ blocks) spot e =
@@ -141,18 +156,7 @@ spot_is at first p (block ∷ blocks) spot e =
             | inl t ↦
                 spot_first at first (offset_in first block p) block blocks spot (same_Some _ spot (rw (f, t) at e))
             | inr g ↦
-                let later = spot_is (suc at) (first + line_count block) p blocks spot (rw (f, g) at e) in
-                let is = later.is in
-                let line = later.line in
-                let sum : line_count (block ++ concat later.front) ≡ line_count block + line_count (concat later.front) = lines_add block (concat later.front) in
-                record {
-                  front = block ∷ later.front;
-                  block = later.block;
-                  back = later.back;
-                  whole = ap (λ (bs : List (List ℕ)). block ∷ bs) later.whole;
-                  is = omega (arith, is);
-                  line = omega (arith, line, sum);
-                }
+                spot_later at first block blocks spot (spot_is (suc at) (first + line_count block) p blocks spot (rw (f, g) at e))
           ]
     ]
 
