@@ -65,8 +65,8 @@ begins_next : (n : ℕ) (xs : List PlacedByte) → AllByRecursion (λ (m : ℕ).
 begins_next n [] all = tt
 begins_next n (x ∷ xs) all = let less = all.0 in omega (arith, less)
 
-in_order_rise : (low high : ℕ) (text : List PlacedByte) → low ≤ high → BeginsFrom low text → IsInOrder text → AllByRecursion (λ (x : PlacedByte). x.1 < high) text
-    → BytesRise low high text
+in_order_rise : (low high : ℕ) (text : List PlacedByte) → low ≤ high → BeginsFrom low text → IsInOrder text
+    → AllByRecursion (λ (x : PlacedByte). x.1 < high) text → BytesRise low high text
 in_order_rise low high [] up begins order within = up
 in_order_rise low high (x ∷ xs) up begins order within =
     let less = within.0 in
@@ -109,7 +109,8 @@ items_lower low less high [] up rise = omega (arith, up, rise)
 items_lower low less high (item ∷ items) up rise =
     (ends_lower low less item up rise.0, items_lower (end_of low item) (end_of less item) high items (end_lower low less item up) rise.1)
 
-first_rise : (low high : ℕ) (x : PlacedByte) (items : List (List PlacedByte)) → low ≤ x.1 → ItemsRise (suc x.1) high items → ItemsRise low high (with_first x items)
+first_rise : (low high : ℕ) (x : PlacedByte) (items : List (List PlacedByte)) → low ≤ x.1 → ItemsRise (suc x.1) high items
+    → ItemsRise low high (with_first x items)
 first_rise low high x [] up rise = ((up, omega arith), rise)
 first_rise low high x (item ∷ items) up rise = ((up, rise.0), rise.1)
 
@@ -160,7 +161,8 @@ fronts_rise low high [] rise = rise
 fronts_rise low high (item ∷ items) rise =
     let shorter = front_shorter low item rise.0 in (
       shorter.rise,
-      items_lower (end_of low (without_front item)) (end_of low item) high (map without_front items) shorter.end (fronts_rise (end_of low item) high items rise.1),
+      items_lower (end_of low (without_front item)) (end_of low item) high (map without_front items) shorter.end
+          (fronts_rise (end_of low item) high items rise.1),
     )
 
 block_items_rise : (block : List ℕ) → ItemsRise 0 (length block) (items_of (folded_of block))

@@ -112,7 +112,9 @@ are_changes text at (offer ∷ offers) within all =
     let end = one.end in
     let inside = one.within in
     elim (cases_Bool (is_made text at offer)) [
-      | inl t ↦ rw t (one_made text at offer (made text (ends text offer) offers) one t (are_changes text (ends text offer) offers (omega (arith, end, inside)) all.1))
+      | inl t ↦
+          let later = are_changes text (ends text offer) offers (omega (arith, end, inside)) all.1 in
+          rw t (one_made text at offer (made text (ends text offer) offers) one t later)
       | inr f ↦ rw f (are_changes text at offers within all.1)
     ]
 
@@ -131,7 +133,8 @@ in_right : (xs ys : List Change) (c : Change) → IsIn c ys → IsIn c (xs ++ ys
 in_right [] ys c is = is
 in_right (x ∷ xs) ys c is = inr (in_right xs ys c is)
 
-in_moved : (from : ℕ) (edits : List EditSeen) (edit : EditSeen) → Contains edits edit → IsIn (moved from (change_of edit)) (map (moved from) (map change_of edits))
+in_moved : (from : ℕ) (edits : List EditSeen) (edit : EditSeen) → Contains edits edit
+    → IsIn (moved from (change_of edit)) (map (moved from) (map change_of edits))
 in_moved from [] edit has = let less = has.1 in absurd (omega (arith, less))
 in_moved from (e ∷ edits) edit (zero, within, is) = inl (ap (λ (x : EditSeen). moved from (change_of x)) is)
 in_moved from (e ∷ edits) edit (suc k, within, is) = inr (in_moved from edits edit (k, omega (arith, within), is))
@@ -347,7 +350,8 @@ heard text fixes after offer ones mended (inr (inr (fix, has, early))) =
     ]
 
 -- the fixes are all the certain edits at their places
-pub text_fixed : (text : List ℕ) (offers : List OfferSeen) → AreEdits text offers → TextIsFixed text offers (made text 0 offers) (fixed_text text 0 (made text 0 offers))
+pub text_fixed : (text : List ℕ) (offers : List OfferSeen) → AreEdits text offers
+    → TextIsFixed text offers (made text 0 offers) (fixed_text text 0 (made text 0 offers))
 text_fixed text offers all =
     let fixes = made text 0 offers in
     let edits : AreEdits text fixes = made_of (λ (offer : OfferSeen). IsEditOf text offer.fix) text 0 offers all in

@@ -22,7 +22,8 @@ use Rattle.everyday_lint.proofs.Changes.{Change, Rise, changed, rise_ends}
 use Rattle.everyday_lint.proofs.FixedBlocks.{AreEdits, are_changes, change_by, is_of_one, made_of, of_diagnostics, ones_of, text_fixed}
 use Rattle.everyday_lint.proofs.MarksStay.{IsMarked, IsWhole, has_it, marked_before, mark_read, marked_is, marked_read, printed_ascii}
 use Rattle.everyday_lint.proofs.OfferedEdits.{BeginsWhole, IsEditOf}
-use Rattle.everyday_lint.proofs.OtherLines.{HasNoReturn, IsLifted, lifted, place_up, plain_changed, printed_none, stays_both, stays_one, up, up_less, up_order, up_zero}
+use Rattle.everyday_lint.proofs.OtherLines.{HasNoReturn, IsLifted, lifted, place_up, plain_changed, printed_none, stays_both, stays_one, up}
+use Rattle.everyday_lint.proofs.OtherLines.{up_less, up_order, up_zero}
 
 -- where a fix of what is read of a text is in the text
 record IsAlike (text : List ℕ) (fix : OfferSeen) : Type 0 where
@@ -195,7 +196,8 @@ no_mark text offers none edits bare =
           let marked = marked_is after t in
           let now : changed 0 plain changes ≡ 239 ∷ 187 ∷ 191 ∷ plain_lines marked.rest =
           sym are.is ∙ sym read.is ∙ ap plain_lines marked.whole ∙ mark_read marked.rest in
-          let was = by_size plain changes (plain_lines marked.rest) are.rise (λ some. later_changes plain fixes mine are.rise some) (whole_changes plain fixes mine) now in
+          let was = by_size plain changes (plain_lines marked.rest) are.rise (λ some. later_changes plain fixes mine are.rise some)
+          (whole_changes plain fixes mine) now in
           let text_marked = marked_read text was.rest was.whole in
           absurd (false≢true (sym bare ∙ has_it text text_marked))
     ]
@@ -208,7 +210,8 @@ no_mark text offers none edits bare =
 
 -- what is read of a source that was fixed
 fixed_read : (source : List ℕ) (offers : List OfferSeen) → HasNoReturn (without_mark source) → AreEdits (plain_source source) offers
-    → plain_source (fixed_source source (made (without_mark source) 0 offers)) ≡ plain_lines (fixed_text (without_mark source) 0 (made (without_mark source) 0 offers))
+    → plain_source (fixed_source source (made (without_mark source) 0 offers))
+    ≡ plain_lines (fixed_text (without_mark source) 0 (made (without_mark source) 0 offers))
 fixed_read source offers none edits =
     elim (cases_Bool (has_mark source)) [
       | inl t ↦ by_mark source (fixed_text (without_mark source) 0 (made (without_mark source) 0 offers)) t

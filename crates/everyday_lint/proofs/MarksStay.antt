@@ -63,16 +63,25 @@ first_read (byte ∷ text) x xs e other =
           record { rest = text; whole = ap (λ (n : ℕ). n ∷ text) first; read = rest }
     ]
 
+three_bytes : (text one two three : List ℕ) → text ≡ 239 ∷ one → one ≡ 187 ∷ two → two ≡ 191 ∷ three → IsMarked text
+three_bytes text one two three a b c =
+    record { rest = three; whole = a ∙ ap (λ (t : List ℕ). 239 ∷ t) b ∙ ap (λ (t : List ℕ). 239 ∷ 187 ∷ t) c }
+
 -- a mark that is read is one of the text
+marked_third : (text one two rest : List ℕ) → text ≡ 239 ∷ one → one ≡ 187 ∷ two → plain_lines two ≡ 191 ∷ rest → IsMarked text
+marked_third text one two rest a b e =
+    let third = first_read two 191 rest e (λ n. cc) in
+    three_bytes text one two third.rest a b third.whole
+
+marked_second : (text one rest : List ℕ) → text ≡ 239 ∷ one → plain_lines one ≡ 187 ∷ 191 ∷ rest → IsMarked text
+marked_second text one rest a e =
+    let second = first_read one 187 (191 ∷ rest) e (λ n. cc) in
+    marked_third text one second.rest rest a second.whole second.read
+
 pub marked_read : (text rest : List ℕ) → plain_lines text ≡ 239 ∷ 187 ∷ 191 ∷ rest → IsMarked text
 marked_read text rest e =
-    let one = first_read text 239 (187 ∷ 191 ∷ rest) e (λ n. cc) in
-    let two = first_read one.rest 187 (191 ∷ rest) one.read (λ n. cc) in
-    let three = first_read two.rest 191 rest two.read (λ n. cc) in
-    record {
-      rest = three.rest;
-      whole = one.whole ∙ ap (λ (t : List ℕ). 239 ∷ t) two.whole ∙ ap (λ (t : List ℕ). 239 ∷ 187 ∷ t) three.whole;
-    }
+    let first = first_read text 239 (187 ∷ 191 ∷ rest) e (λ n. cc) in
+    marked_second text first.rest rest first.whole first.read
 
 -- ---- in a text with changes
 

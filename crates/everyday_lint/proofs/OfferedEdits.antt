@@ -47,6 +47,7 @@ use Rattle.source_edits.specs.Pieces.{bytes_in, written_name}
 use Rattle.source_edits.specs.Shown.{shown}
 use Rattle.source_edits.proofs.Exchanging.{no_edit, only_edit}
 use Rattle.source_hints.specs.Unknown.{is_unknown_name}
+use Rattle.source_fixes.specs.Fixes.{fixes_in}
 use Rattle.source_fixes.specs.Fixes.{FixSeen, can_be_made, code_unless, edits_in, fault_of_item, fix_of, fixes_from, fixes_of, is_allowed, item_edits_by}
 use Rattle.source_fixes.specs.Fixes.{given_names, stretch_to, touched_edits, touches, used_edits, value_at}
 use Rattle.source_fixes.specs.Together.{certain_edits, certain_for, certain_from}
@@ -264,7 +265,8 @@ touched capabilities blocks at block placed edit true has certain =
     let fault = fault_of_item placed.0 block.faults in
     let value = value_at placed.0 block.items in
     let uses = used_edits blocks at (used_name item) in
-    elim (Contains-append_cases (edits_for item (option_and_then (code_unless capabilities) fault) value) (uses ++ user_renames_by capabilities item) edit has) [
+    let mine_all = edits_for item (option_and_then (code_unless capabilities) fault) value in
+    elim (Contains-append_cases mine_all (uses ++ user_renames_by capabilities item) edit has) [
       | inl mine ↦
           by_fault capabilities item fault edit
           (these_are_certain.no_others item (option_and_then (code_unless capabilities) fault) value edit mine certain)
@@ -407,41 +409,91 @@ edit_placed text front block back line ordinal item edit whole counts there cert
       next = whole_front (drop at_end text) more (subst BeginsWhole rest whole_rest);
     }
 
--- a fix of the block in which its range begins
-of_block : (capabilities : Capabilities) (text : List ℕ) (range : Range) (fix : FixSeen) (blocks front : List (List ℕ)) (block : List ℕ)
-    (back : List (List ℕ)) (spot : Spot) → source_texts text ≡ front ++ block ∷ back → spot.line ≡ head_line text + line_count (concat front)
-    → text_at blocks spot.at ≡ block → Contains (fixes_from capabilities blocks range.end spot) fix → is_certain fix.advice ≡ true → IsEditOf text fix
-of_block capabilities text range fix blocks front block back spot whole line there has certain =
-    let own = text_at blocks spot.at in
-    let stretch = stretch_to own range.end spot in
-    let items = items_of (folded_of own) in
-    let reading = reading_of_text own in
-    let edits = edits_in capabilities blocks stretch in
-    let narrow = narrowed (folded_of own) in
-    let made = of_map (fix_of spot.line own) (filter (can_be_made own) (map narrow edits)) fix has in
-    let narrowed_edit = made.of in
-    let kept = of_filter (can_be_made own) (map narrow edits) narrowed_edit made.has in
-    let from = of_map narrow edits narrowed_edit kept.0 in
-    let edit = from.of in
-    let advice : edit.advice ≡ fix.advice =
-    sym (narrowed_advice (folded_of own) edit) ∙ ap (λ (e : EditSeen). e.advice) from.is ∙ ap (λ (f : FixSeen). f.advice) made.is in
-    let sure : is_certain edit.advice ≡ true = ap is_certain advice ∙ certain in
-    let one = of_one (touched_edits capabilities blocks stretch reading) (enumerate_from 0 items) edit from.has in
-    let placed = one.of in
-    let number = numbered 0 items placed one.has in
-    let ordinal : placed.0 ≡ number.0 = number.1 ∙ zero-add number.0 in
-    let item_there : slice_get items placed.0 ≡ Some placed.1 = ap (slice_get items) ordinal ∙ number.2 in
-    let mine : Contains (certain_for placed.1 (fault_at own placed.0)) edit =
-    touched capabilities blocks stretch.at reading placed edit (touches stretch placed.1) one.is sure in
-    let of = of_few placed.1 (certain_for placed.1 (fault_at own placed.0)) edit (few_certain placed.1 (fault_at own placed.0)) mine in
-    let same : edit ≡ narrowed_edit = sym (narrowed_same own placed.0 placed.1 edit item_there of) ∙ from.is in
+-- a fix of edits of a block: the edit that it is of
+record IsFixOf (line : ℕ) (block : List ℕ) (edits : List EditSeen) (fix : FixSeen) : Type 0 where
+  edit : EditSeen
+  narrow : EditSeen
+  has : Contains edits edit
+  narrows : narrowed (folded_of block) edit ≡ narrow
+  can : can_be_made block narrow ≡ true
+  is : fix_of line block narrow ≡ fix
+  advice : edit.advice ≡ fix.advice
+
+advice_kept : (line : ℕ) (block : List ℕ) (edit narrow : EditSeen) (fix : FixSeen) → narrowed (folded_of block) edit ≡ narrow
+    → fix_of line block narrow ≡ fix → edit.advice ≡ fix.advice
+advice_kept line block edit narrow fix narrows is =
+    sym (narrowed_advice (folded_of block) edit) ∙ ap (λ (e : EditSeen). e.advice) narrows ∙ ap (λ (f : FixSeen). f.advice) is
+
+fix_from : (line : ℕ) (block : List ℕ) (edits : List EditSeen) (fix : FixSeen) → Contains (fixes_in line block edits) fix → IsFixOf line block edits fix
+fix_from line block edits fix has =
+    let narrow = narrowed (folded_of block) in
+    let made = of_map (fix_of line block) (filter (can_be_made block) (map narrow edits)) fix has in
+    let kept = of_filter (can_be_made block) (map narrow edits) made.of made.has in
+    let from = of_map narrow edits made.of kept.0 in
+    record {
+      edit = from.of;
+      narrow = made.of;
+      has = from.has;
+      narrows = from.is;
+      can = kept.1;
+      is = made.is;
+      advice = advice_kept line block from.of made.of fix from.is made.is;
+    }
+
+-- where it is, if the edit is a certain one of an item of the block
+fix_placed : (text : List ℕ) (front : List (List ℕ)) (block : List ℕ) (back : List (List ℕ)) (line ordinal : ℕ) (item : List PlacedByte)
+    (edit narrow : EditSeen) (fix : FixSeen) → source_texts text ≡ front ++ block ∷ back → line ≡ head_line text + line_count (concat front)
+    → slice_get (items_of (folded_of block)) ordinal ≡ Some item → Contains (certain_for item (fault_at block ordinal)) edit
+    → narrowed (folded_of block) edit ≡ narrow → can_be_made block narrow ≡ true → fix_of line block narrow ≡ fix → IsEditOf text fix
+fix_placed text front block back line ordinal item edit narrow fix whole counts there mine narrows can is =
+    let of = of_few item (certain_for item (fault_at block ordinal)) edit (few_certain item (fault_at block ordinal)) mine in
+    let same : edit ≡ narrow = sym (narrowed_same block ordinal item edit there of) ∙ narrows in
     let single : edit.part.end ≡ suc edit.part.start =
     ap (λ (p : Part). p.end) of.there ∙ ap (λ (p : Part). suc p.start) (sym of.there) in
-    let can = (and_parts _ _ (subst (λ (e : EditSeen). can_be_made own e ≡ true) (sym same) kept.1)).0 in
-    let is : fix_of spot.line own edit ≡ fix = ap (fix_of spot.line own) same ∙ made.is in
-    subst (IsEditOf text) is
-    (edit_placed text front own back spot.line placed.0 placed.1 edit (whole ∙ ap (λ (b : List ℕ). front ++ b ∷ back) (sym there)) line item_there mine single of.printed
-    can)
+    let exchanged_so = (and_parts _ _ (subst (λ (e : EditSeen). can_be_made block e ≡ true) (sym same) can)).0 in
+    subst (IsEditOf text) (ap (fix_of line block) same ∙ is)
+    (edit_placed text front block back line ordinal item edit whole counts there mine single of.printed exchanged_so)
+
+-- the item of an edit that is offered for one of these items
+record IsOfPlace (block : List ℕ) (edit : EditSeen) : Type 0 where
+  ordinal : ℕ
+  item : List PlacedByte
+  there : slice_get (items_of (folded_of block)) ordinal ≡ Some item
+  certain : Contains (certain_for item (fault_at block ordinal)) edit
+
+of_place : (block : List ℕ) (edit : EditSeen) (placed : ℕ × List PlacedByte) → Contains (enumerate_from 0 (items_of (folded_of block))) placed
+    → Contains (certain_for placed.1 (fault_at block placed.0)) edit → IsOfPlace block edit
+of_place block edit placed has certain =
+    let items = items_of (folded_of block) in
+    let number = numbered 0 items placed has in
+    let ordinal : placed.0 ≡ number.0 = number.1 ∙ zero-add number.0 in
+    record { ordinal = placed.0; item = placed.1; there = ap (slice_get items) ordinal ∙ number.2; certain = certain }
+
+-- a fix of the block in which its range begins
+of_block : (capabilities : Capabilities) (text : List ℕ) (range : Range) (fix : FixSeen) (blocks front back : List (List ℕ)) (spot : Spot)
+    → source_texts text ≡ front ++ text_at blocks spot.at ∷ back → spot.line ≡ head_line text + line_count (concat front)
+    → Contains (fixes_from capabilities blocks range.end spot) fix → is_certain fix.advice ≡ true → IsEditOf text fix
+of_block capabilities text range fix blocks front back spot whole line has certain =
+    let block = text_at blocks spot.at in
+    let stretch = stretch_to block range.end spot in
+    let reading = reading_of_text block in
+    let of = fix_from spot.line block (edits_in capabilities blocks stretch) fix has in
+    let sure : is_certain of.edit.advice ≡ true = ap is_certain of.advice ∙ certain in
+    let one = of_one (touched_edits capabilities blocks stretch reading) (enumerate_from 0 (items_of (folded_of block))) of.edit of.has in
+    let mine = touched capabilities blocks stretch.at reading one.of of.edit (touches stretch one.of.1) one.is sure in
+    let place_of = of_place block of.edit one.of one.has mine in
+    fix_placed text front block back spot.line place_of.ordinal place_of.item of.edit of.narrow fix whole line place_of.there place_of.certain of.narrows of.can
+    of.is
+
+text_there : (blocks front : List (List ℕ)) (block : List ℕ) (back : List (List ℕ)) (at : ℕ) → blocks ≡ front ++ block ∷ back → length front ≡ at
+    → text_at blocks at ≡ block
+text_there blocks front block back at whole is =
+    ap (λ (bs : List (List ℕ)). text_at bs at) whole ∙ ap (text_at (front ++ block ∷ back)) (sym is)
+    ∙ ap (λ (o : Option (List ℕ)). option_map_or (λ (text : List ℕ). text) o []) (got_after front block back)
+
+with_block : (texts front : List (List ℕ)) (block other : List ℕ) (back : List (List ℕ)) → texts ≡ front ++ block ∷ back → other ≡ block
+    → texts ≡ front ++ other ∷ back
+with_block texts front block other back whole same = whole ∙ ap (λ (b : List ℕ). front ++ b ∷ back) (sym same)
 
 by_spot : (capabilities : Capabilities) (text : List ℕ) (range : Range) (fix : FixSeen) (o : Option Spot) → spot_at text range.start ≡ o
     → Contains (option_map_or (fixes_from capabilities (held text) range.end) o []) fix → is_certain fix.advice ≡ true → IsEditOf text fix
@@ -450,11 +502,9 @@ by_spot capabilities text range fix (Some spot) e has certain =
     let blocks = held text in
     let s = spot_is 0 (head_line text) (settled text range.start) blocks spot e in
     let whole = not_refused (source_refusal text) (source_texts text) s.front s.block s.back s.whole in
-    let place_of : length s.front ≡ spot.at = sym (s.is ∙ zero-add (length s.front)) in
-    let there : text_at blocks spot.at ≡ s.block =
-    ap (λ (bs : List (List ℕ)). text_at bs spot.at) s.whole ∙ ap (text_at (s.front ++ s.block ∷ s.back)) (sym place_of)
-    ∙ ap (λ (o : Option (List ℕ)). option_map_or (λ (text : List ℕ). text) o []) (got_after s.front s.block s.back) in
-    of_block capabilities text range fix blocks s.front s.block s.back spot whole s.line there has certain
+    let there = text_there blocks s.front s.block s.back spot.at s.whole (sym (s.is ∙ zero-add (length s.front))) in
+    of_block capabilities text range fix blocks s.front s.back spot
+    (with_block (source_texts text) s.front s.block (text_at blocks spot.at) s.back whole there) s.line has certain
 
 -- each fix that is certain
 pub certain_fix : (capabilities : Capabilities) (text : List ℕ) (range : Range) (fix : FixSeen) → Contains (fixes_of capabilities text range) fix

@@ -122,7 +122,8 @@ column_up (byte ∷ text) column none =
           column_by byte text column (byte == 10) (ends_plain byte text f)
           ∙ both (stop || byte == 10)
           ∙ sym (ap (λ (l : List ℕ). up (byte ∷ text) (column_offset l column)) (plain_kept byte text f)
-          ∙ ap (up (byte ∷ text)) (column_by byte (plain_lines text) column (byte == 10) (ends_plain byte (plain_lines text) (starts_none byte (plain_lines text) plain.first))))
+          ∙ ap (up (byte ∷ text))
+          (column_by byte (plain_lines text) column (byte == 10) (ends_plain byte (plain_lines text) (starts_none byte (plain_lines text) plain.first))))
     ]
 
 -- a place in the first line, and in a later one
@@ -151,7 +152,8 @@ place_up (byte ∷ text) line column none =
     elim (cases_Bool (line == 0)) [
       | inl first ↦
           let is : line ≡ 0 = eqb-true line 0 first in
-          let P : ℕ → Type 0 = λ l. offset_of (byte ∷ text) (at_place l column) ≡ up (byte ∷ text) (offset_of (plain_lines (byte ∷ text)) (at_place l column)) in
+          let P : ℕ → Type 0 =
+          λ l. offset_of (byte ∷ text) (at_place l column) ≡ up (byte ∷ text) (offset_of (plain_lines (byte ∷ text)) (at_place l column)) in
           subst P (sym is)
           (in_first (byte ∷ text) column ∙ column_up (byte ∷ text) column none ∙ ap (up (byte ∷ text)) (sym (in_first (plain_lines (byte ∷ text)) column)))
       | inr later ↦

@@ -21,7 +21,7 @@
 //! - `checking`: what is found out about a source (`Linted`)
 //! - `files`: what becomes of a file, and of files in turn
 //! - `report`: what is printed about them, and the status
-//! - `laws`: which fixes are made, and what of a source they change
+//! - `laws`: which fixes are made, what of a source they change, and that they mend its items
 //! - `tool`: what comes of files (`lint_files`), and of standard input (`lint_input`); the hints on a
 //!   source for `ti-tic -c` (`hint_lines`)
 #![tactic(auto)]
