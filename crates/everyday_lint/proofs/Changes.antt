@@ -1,14 +1,14 @@
 -- Bytes of a text that are exchanged at once, each for a text.
-use Rattle.std.proofs.Common.{◌≡◌, ◌⊎◌, ℕ, suc, ◌+◌, ◌-◌, ◌<◌, ◌≤◌, Bool, true, false, List, [], ◌∷◌, ◌++◌, append_assoc, drop, filter, length, map, take}
-use Rattle.std.proofs.Common.{inl, inr, refl, sym, ap, ap₂, subst, ◌∙◌, arith}
+use Rattle.std.proofs.Common.{◌≡◌, ◌⊎◌, ℕ, suc, ◌+◌, ◌-◌, ◌<◌, ◌≤◌, Bool, true, false, List, [], ◌∷◌, ◌++◌, append_assoc, drop, filter, length, map, take, inl}
+use Rattle.std.proofs.Common.{inr, refl, sym, ap, ap₂, subst, ◌∙◌, arith}
 use Rattle.std.specs.List.{AllByRecursion, concat}
 use Rattle.std.proofs.Math.Seq.{drop-append-add, take-add, take-append-add}
 use Rattle.std.proofs.lemmas.Bool.{cases_Bool, false≢true}
 use Rattle.std.proofs.lemmas.List.{drop-append-le, drop-drop, drop_at, length-append, length-drop, length-take-le, take-append-drop, take-append-le, take-take}
 use Rattle.std.proofs.lemmas.List.Elements.{filter-append}
 use Rattle.source_edits.specs.Edits.{EditSeen}
-use Rattle.source_fixes.specs.Together.{edited_last}
 use Rattle.source_fixes.specs.Healing.{block_after}
+use Rattle.source_fixes.specs.Together.{edited_last}
 
 -- a text in the place of the byte at an offset
 pub record Change : Type 0 where

@@ -1,9 +1,9 @@
 -- A text with fixes made, of which each is a certain edit of a block, has the blocks with these edits.
 use Rattle.std.proofs.Common.{◌≡◌, ◌≢◌, ℕ, zero, suc, ◌+◌, ◌-◌, ◌≤◌, ◌==◌, ◌||◌, Bool, true, false, Contains, List, [], ◌∷◌, ◌++◌, append_assoc, drop, filter}
-use Rattle.std.proofs.Common.{length, map, max, nat_le, take, Option, None, Some, slice_get, inl, inr, refl, sym, ap, ap₂, subst, ◌∙◌, arith, zero-add}
+use Rattle.std.proofs.Common.{length, map, max, nat_le, take, Option, None, Some, slice_get, inl, inr, refl, sym, ap, ap₂, subst, ◌∙◌, arith, zero-add, ◌⊎◌}
 use Rattle.std.specs.List.{AllByRecursion, concat, list_any}
 use Rattle.std.proofs.Math.Nat.{max-eq_right}
-use Rattle.std.proofs.lemmas.Bool.{and_parts, cases_Bool, eq-eqb, eqb-true, leb-true, ne_eqb}
+use Rattle.std.proofs.lemmas.Bool.{and_parts, cases_Bool, eq-eqb, eqb-true, leb-false, leb-true, ne_eqb}
 use Rattle.std.proofs.lemmas.List.{append-nil, drop-drop, length-append}
 use Rattle.std.proofs.lemmas.List.Elements.{All-contains, All-contains_itself, All-from_recursion, All-weaker}
 use Rattle.std.proofs.lemmas.Option.{same_Some}
@@ -15,29 +15,27 @@ use Rattle.ti_source.specs.declared.code.Code.{Code}
 use Rattle.ti_source.specs.declared.code.Code.TheVariants as code
 use Rattle.tools_sources.specs.Sources.{preface_of, source_texts, with_last_newline}
 use Rattle.source_spans.specs.Replacing.{fault_at}
-use Rattle.source_blocks.specs.Places.{missing_newline}
-use Rattle.source_blocks.proofs.Placing.{ended_with}
-use Rattle.source_keeping.specs.Keeping.{stays_in_line}
 use Rattle.source_places.specs.Position.{offset_of}
+use Rattle.source_keeping.specs.Keeping.{stays_in_line}
+use Rattle.source_document.specs.Diagnostics.{Shown}
 use Rattle.source_diagnostics.specs.declared.capabilities.Capabilities.{Capabilities}
 use Rattle.source_diagnostics.specs.declared.diagnostics.Problem.{Problem}
-use Rattle.source_document.specs.Diagnostics.{Shown}
+use Rattle.source_blocks.specs.Places.{missing_newline}
+use Rattle.source_blocks.proofs.Placing.{ended_with}
 use Rattle.source_edits.specs.Edits.{EditSeen, is_certain}
 use Rattle.source_edits.proofs.Exchanging.{no_edit}
 use Rattle.source_fixes.specs.Fixes.{FixSeen, fixes_of}
 use Rattle.source_fixes.specs.Together.{AreMade, certain_edits, certain_for, edited_last}
 use Rattle.source_fixes.proofs.Together.{certain_made}
 use Rattle.everyday_lint.specs.Fixed.{BlockIsFixed, CertainFixesMendBlocks, MendsItem, MendsUnless, TextIsFixed, block_begins, is_made_by}
-use Rattle.everyday_lint.specs.Laws.{IsInTheWay}
-use Rattle.everyday_lint.proofs.Choices.{are_made}
-use Rattle.std.proofs.lemmas.Bool.{leb-false}
-use Rattle.std.proofs.Common.{◌⊎◌}
 use Rattle.everyday_lint.specs.Fixing.{begins, ends, fixed_text, is_made, made}
+use Rattle.everyday_lint.specs.Laws.{IsInTheWay}
 use Rattle.everyday_lint.specs.Offers.{OfferSeen, certain, is_fixable, offers_for, offers_of}
 use Rattle.everyday_lint.proofs.BlocksCut.{all_single, cut_so, text_joined}
 use Rattle.everyday_lint.proofs.CertainOrder.{certain_in_order}
 use Rattle.everyday_lint.proofs.Changes.{Change, IsIn, Rise, all_changes, all_edited, all_rise, blocks_changed, change_of, changed, kept_after, kept_before}
 use Rattle.everyday_lint.proofs.Changes.{moved, rise_filter, rise_higher, rise_lower, these_are}
+use Rattle.everyday_lint.proofs.Choices.{are_made}
 use Rattle.everyday_lint.proofs.OfferedEdits.{IsEditOf, certain_fix, got_after, is_of_block}
 use Rattle.everyday_lint.proofs.OpenEnds.{AreInLines, still_open}
 

@@ -1,17 +1,16 @@
 -- A text with lines that end in CR LF once fixes of what is read of it are made.
-use Rattle.std.proofs.Common.{◌≡◌, ℕ, suc, ◌+◌, ◌-◌, ◌≤◌, ◌&&◌, nat_le, Bool, true, false, List, [], ◌∷◌, ◌++◌, append_assoc, drop, map, max}
-use Rattle.std.proofs.Common.{take, inl, inr, refl, sym, ap, ap₂, subst, ◌∙◌, arith}
-use Rattle.std.proofs.Common.{◌<◌, length}
+use Rattle.std.proofs.Common.{◌≡◌, ℕ, suc, ◌+◌, ◌-◌, ◌≤◌, ◌&&◌, nat_le, Bool, true, false, List, [], ◌∷◌, ◌++◌, append_assoc, drop, map, max, take, inl, inr}
+use Rattle.std.proofs.Common.{refl, sym, ap, ap₂, subst, ◌∙◌, arith, ◌<◌, length}
 use Rattle.std.specs.List.{AllByRecursion, concat, list_any}
 use Rattle.std.proofs.Math.Nat.{max-eq_right}
 use Rattle.std.proofs.lemmas.Bool.{and_parts, cases_Bool, false≢true, leb-true}
 use Rattle.std.proofs.lemmas.List.{drop-drop}
 use Rattle.tools_sources.specs.Sources.{preface_of}
-use Rattle.source_document.specs.Diagnostics.{diagnostics_by}
 use Rattle.source_places.specs.Position.{offset_of}
 use Rattle.source_plain.specs.Reading.{has_mark, is_return, plain_lines, plain_source, without_mark}
 use Rattle.source_plain.specs.Writing.{marked_like}
 use Rattle.source_keeping.specs.Keeping.{stays_in_line}
+use Rattle.source_document.specs.Diagnostics.{diagnostics_by}
 use Rattle.everyday_lint.specs.Checking.{offers_in}
 use Rattle.everyday_lint.specs.Fates.{fixed_source}
 use Rattle.everyday_lint.specs.Fixed.{CertainFixesMendSources, TextIsFixed}
@@ -20,10 +19,10 @@ use Rattle.everyday_lint.specs.Offers.{OfferSeen}
 use Rattle.everyday_lint.specs.declared.options.LintOptions.{LintOptions}
 use Rattle.everyday_lint.proofs.Changes.{Change, Rise, changed, rise_ends}
 use Rattle.everyday_lint.proofs.FixedBlocks.{AreEdits, are_changes, change_by, is_of_one, made_of, of_diagnostics, ones_of, text_fixed}
-use Rattle.everyday_lint.proofs.MarksStay.{IsMarked, IsWhole, has_it, marked_before, mark_read, marked_is, marked_read, printed_ascii}
+use Rattle.everyday_lint.proofs.MarksStay.{IsMarked, IsWhole, has_it, mark_read, marked_before, marked_is, marked_read, printed_ascii}
 use Rattle.everyday_lint.proofs.OfferedEdits.{BeginsWhole, IsEditOf}
-use Rattle.everyday_lint.proofs.OtherLines.{HasNoReturn, IsLifted, lifted, place_up, plain_changed, printed_none, stays_both, stays_one, up}
-use Rattle.everyday_lint.proofs.OtherLines.{up_less, up_order, up_zero}
+use Rattle.everyday_lint.proofs.OtherLines.{HasNoReturn, IsLifted, lifted, place_up, plain_changed, printed_none, stays_both, stays_one, up, up_less, up_order}
+use Rattle.everyday_lint.proofs.OtherLines.{up_zero}
 
 -- where a fix of what is read of a text is in the text
 record IsAlike (text : List ℕ) (fix : OfferSeen) : Type 0 where

@@ -1,14 +1,13 @@
 -- Each fix of a text that is certain is a certain edit of a block, at its place in the text.
-use Rattle.std.proofs.Common.{◌≡◌, ◌⊎◌, ℕ, zero, suc, ◌+◌, ◌-◌, ◌≤◌, nat_lt, Bool, true, false, cond, Contains, List, [], ◌∷◌, ◌++◌, append_assoc}
-use Rattle.std.proofs.Common.{filter, flat_map, is_none, length, map, Option, None, Some, slice_get, inl, inr, refl, sym, ap, ap₂, subst, ◌∙◌, arith, zero-add}
-use Rattle.std.proofs.Common.{◌<◌, drop}
-use Rattle.source_places.specs.Position.{is_start}
+use Rattle.std.proofs.Common.{◌≡◌, ◌⊎◌, ℕ, zero, suc, ◌+◌, ◌-◌, ◌≤◌, nat_lt, Bool, true, false, cond, Contains, List, [], ◌∷◌, ◌++◌, append_assoc, filter}
+use Rattle.std.proofs.Common.{flat_map, is_none, length, map, Option, None, Some, slice_get, inl, inr, refl, sym, ap, ap₂, subst, ◌∙◌, arith, zero-add, ◌<◌}
+use Rattle.std.proofs.Common.{drop}
 use Rattle.std.specs.List.{AllByRecursion, concat, enumerate_from}
-use Rattle.std.specs.Prelude.{option_and_then, option_map}
 use Rattle.std.specs.Option.{option_map_or}
+use Rattle.std.specs.Prelude.{option_and_then, option_map}
+use Rattle.std.proofs.Math.Seq.{drop-append-add}
 use Rattle.std.proofs.lemmas.Bool.{and_parts, cases_Bool, false≢true, ltb-true}
 use Rattle.std.proofs.lemmas.List.{drop-append-le, length-append, length-drop}
-use Rattle.std.proofs.Math.Seq.{drop-append-add}
 use Rattle.std.proofs.lemmas.List.Elements.{Contains-append_cases, Contains-append_left, Contains-append_right}
 use Rattle.std.proofs.lemmas.Option.{same_Some}
 use Rattle.ti_text.specs.Lines.{line_count}
@@ -31,33 +30,32 @@ use Rattle.source_spans.specs.Parts.{spanned}
 use Rattle.source_spans.specs.Replacing.{fault_at}
 use Rattle.source_spans.specs.Subjects.{items_of, used_name}
 use Rattle.source_spans.specs.declared.parts.Part.{Part}
-use Rattle.source_places.specs.Position.{units, offset_of, position_of}
-use Rattle.source_diagnostics.specs.declared.capabilities.Capabilities.{Capabilities}
-use Rattle.source_diagnostics.specs.declared.capabilities.Capabilities.TheVariants.{Profile, UserDefined}
+use Rattle.source_places.specs.Position.{is_start, offset_of, position_of, units}
 use Rattle.source_document.specs.Diagnostics.{text_at}
 use Rattle.source_document.specs.Documents.{held, unless_refused}
+use Rattle.source_diagnostics.specs.declared.capabilities.Capabilities.{Capabilities}
+use Rattle.source_diagnostics.specs.declared.capabilities.Capabilities.TheVariants.{Profile, UserDefined}
 use Rattle.source_blocks.specs.Places.{can_be_exchanged, missing_newline}
 use Rattle.source_blocks.specs.Spots.{head_line, offset_in, settled, spot_at, spot_from}
 use Rattle.source_blocks.specs.declared.spots.Spot.{Spot}
 use Rattle.source_blocks.proofs.Placing.{ended_with, leads, missing_is, missing_size, place}
+use Rattle.source_hints.specs.Unknown.{is_unknown_name}
 use Rattle.source_edits.specs.Edits.{EditSeen, edits_for, is_certain, rename, renames_in}
 use Rattle.source_edits.specs.Narrowing.{edit_at, narrowed, without_same}
 use Rattle.source_edits.specs.Nearest.{nearest}
 use Rattle.source_edits.specs.Pieces.{bytes_in, written_name}
 use Rattle.source_edits.specs.Shown.{shown}
 use Rattle.source_edits.proofs.Exchanging.{no_edit, only_edit}
-use Rattle.source_hints.specs.Unknown.{is_unknown_name}
-use Rattle.source_fixes.specs.Fixes.{fixes_in}
-use Rattle.source_fixes.specs.Fixes.{FixSeen, can_be_made, code_unless, edits_in, fault_of_item, fix_of, fixes_from, fixes_of, is_allowed, item_edits_by}
-use Rattle.source_fixes.specs.Fixes.{given_names, stretch_to, touched_edits, touches, used_edits, value_at}
+use Rattle.source_fixes.specs.Fixes.{FixSeen, can_be_made, code_unless, edits_in, fault_of_item, fix_of, fixes_from, fixes_in, fixes_of, given_names}
+use Rattle.source_fixes.specs.Fixes.{is_allowed, item_edits_by, stretch_to, touched_edits, touches, used_edits, value_at}
 use Rattle.source_fixes.specs.Together.{certain_edits, certain_for, certain_from}
 use Rattle.source_fixes.specs.UserNames.{user_names, user_renames_by}
 use Rattle.source_fixes.proofs.Narrows.{bytes_there}
 use Rattle.source_fixes.proofs.Shrinking.{one_same}
 use Rattle.source_fixes.proofs.Together.{these_are_certain}
 use Rattle.everyday_lint.proofs.BlocksCut.{all_single, blocks_end, preface_ends, single_ends, text_joined}
-use Rattle.everyday_lint.proofs.OpenEnds.{last_both}
 use Rattle.everyday_lint.proofs.CertainOrder.{HasFew, IsOfItem, certain_later, few_certain, has_none, has_one}
+use Rattle.everyday_lint.proofs.OpenEnds.{last_both}
 
 -- ---- an element of a list that is made of another
 
