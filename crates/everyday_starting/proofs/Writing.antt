@@ -7,8 +7,8 @@ use Rattle.ti_printing.specs.declared.padding.Line.{Line}
 use Rattle.everyday_starting.specs.Starting as starting
 use Rattle.everyday_starting.specs.Starting.{AreWritten, IsRefused, IsWritten, OneIsRefused, WritesAll, by_numbers}
 use Rattle.everyday_starting.specs.Starting.{first, later, next, no_part, of_format, of_text, overflow}
-use Rattle.everyday_starting.specs.Starting.{parameters_of, plain, stuck, too_much, too_much_of_it}
-use Rattle.everyday_starting.specs.inside.Starting.{WritesPart, part_of}
+use Rattle.everyday_starting.specs.Starting.{parameters_of, part_of, plain, stuck, too_much, too_much_of_it}
+use Rattle.everyday_starting.specs.inside.Starting.{WritesPart}
 use Rattle.everyday_starting.specs.Padding.{Pads}
 use Rattle.ti_formats.specs.Formats.{IsStuck}
 use Rattle.ti_param.specs.Expansion.{Expands, Overflows}

@@ -13,6 +13,8 @@ use Rattle.ti_printing.specs.Padding.{AsksForTooMuch}
 use Rattle.ti_printing.specs.declared.padding.Line.{Line}
 use Rattle.tools_tput.specs.Entries.{content_named}
 use Rattle.tools_tput.specs.Results.{IsSent}
+use Rattle.everyday_starting.specs.declared.written.Part as declared
+use Rattle.everyday_starting.specs.declared.written.Part.TheVariants.{Blanks, ByNumbers, Plain, Stops}
 
 -- ---- the parts of what is written
 
@@ -23,6 +25,13 @@ pub data Part : Type 0 where
   by_numbers : List ℕ → ℕ → ℕ → Part
   blanks : ℕ → Part
   stops : List ℕ → ℕ → ℕ → Part
+
+-- the same, as plain data
+abbrev pub part_of : declared.Part → Part
+part_of (Plain text) = plain text.now
+part_of (ByNumbers format first second) = by_numbers format.now first second
+part_of (Blanks count) = blanks count
+part_of (Stops set interval count) = stops set.now interval count
 
 -- a string, if it is there
 abbrev pub given : Option (List ℕ) → List Part

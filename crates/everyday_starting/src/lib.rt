@@ -12,7 +12,8 @@
 //! - `named`: what an entry has of a name in the tables (`has_flag`, `table_number`, `table_text`)
 //! - `padding`: strings with their padding (`pad_once`, `pad_output`, `pad_both`)
 //! - `starting`: what is written before the file that an entry names (`first_bytes`), the file
-//!   (`file_named`), and what is written after it (`last_bytes`); `written` writes the parts
+//!   (`file_named`), and what is written after it (`last_bytes`)
+//! - `written`: the parts of what is written (`Part`), and their bytes (`write_parts`)
 //! - `modes`: what is asked of the modes of the line (`modes_asked`)
 //! - `fitness`: why no program can draw on a terminal (`Unfit`, `why_unfit`)
 #![tactic(auto)]
@@ -29,3 +30,4 @@ pub use modes::modes_asked;
 pub use named::{has_flag, table_number, table_text};
 pub use padding::{pad_both, pad_once, pad_output};
 pub use starting::{file_named, first_bytes, last_bytes};
+pub use written::{Part, write_parts};

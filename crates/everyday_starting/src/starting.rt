@@ -3,8 +3,8 @@ ghost use Rattle.std.specs.Prelude.{◌≡◌, ◌++◌, IfOk, codes, map, optio
 ghost use Rattle.std.specs.Option.{option_or};
 ghost use Rattle.ti_layout.specs.View.{entry_seen};
 ghost use Rattle.everyday_starting.specs.Starting.{WritesAll, chosen, file_named, first_parts, given, last_parts};
-ghost use Rattle.everyday_starting.specs.Starting.{margins, return_text, tabs, text_named, to_the_last};
-ghost use Rattle.everyday_starting.specs.inside.Starting.{margins_moved, margins_numbered, part_of, tabs_at};
+ghost use Rattle.everyday_starting.specs.Starting.{margins, part_of, return_text, tabs, text_named, to_the_last};
+ghost use Rattle.everyday_starting.specs.inside.Starting.{margins_moved, margins_numbered, tabs_at};
 
 use crate::named::{table_number, table_text};
 use crate::written::{Part, write_parts};

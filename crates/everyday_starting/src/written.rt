@@ -1,8 +1,8 @@
-//! The parts of what `init` and `reset` write.
+//! The parts of what `init`, `reset` and tabs(1) write.
 ghost use Rattle.std.specs.Prelude.{◌≡◌, ◌++◌, IfOk, codes, map, min, pos};
 ghost use Rattle.std.specs.List.{repeat};
-ghost use Rattle.everyday_starting.specs.Starting.{WritesAll, parameter_max, parameters_of};
-ghost use Rattle.everyday_starting.specs.inside.Starting.{Expanded, WritesPart, part_of};
+ghost use Rattle.everyday_starting.specs.Starting.{WritesAll, parameter_max, parameters_of, part_of};
+ghost use Rattle.everyday_starting.specs.inside.Starting.{Expanded, WritesPart};
 ghost use Rattle.everyday_starting.specs.Padding.{Pads};
 ghost use Rattle.ti_param.specs.Meaning.{argument_of};
 
@@ -11,7 +11,7 @@ use std::alloc::{AllocError, Global};
 use ti_param::{Line, ParamError, Statics, Value, expand};
 use ti_text::limits::PARAMETERS_MAX;
 
-/// A part of what `init` and `reset` write.
+/// A part of what sets a terminal up.
 #[derive(Clone, Copy)]
 pub enum Part<'a> {
     /// A string, with its padding.
@@ -104,7 +104,10 @@ fn write_part(alloc: Global, part: Part<'_>, line: &Line) -> Result<Option<Vec<u
 }
 
 /// What is written of parts, one after another; `None` if one of them cannot be written.
-pub(crate) fn write_parts(
+///
+/// # Errors
+/// `AllocError` if memory ran out.
+pub fn write_parts(
     alloc: Global,
     parts: &[Part<'_>],
     line: &Line,

@@ -14,7 +14,7 @@
 //! - `clearing`: what clear(1) writes (`clear`)
 //! - `parameters`: words as the parameters of a string; `numbers`: what they spell
 //! - `starting`: the result of `init` and `reset`, of which `everyday_starting` has the parts
-//! - `sizes`: how many columns and lines there are (`Sources`)
+//! - `sizes`: how many columns and lines there are (`Sources`, `column_count`)
 //! - `streaming`: commands read line by line (`tput_lines`); `terminal` takes them, and `words`
 //!   splits a line
 //! - `laws`: commands one after another; what needs nothing user-defined
@@ -40,7 +40,7 @@ pub use asked::needs_extension;
 pub use clearing::{ClearError, Cleared, clear};
 pub use entry::Entry;
 pub use running::{Ending, Stop, Until, tput};
-pub use sizes::Sources;
+pub use sizes::{Sources, column_count};
 pub use streaming::{LinesEnding, tput_lines};
 pub use strings::BAD_COMMAND;
 pub use target::{StartFile, Target};

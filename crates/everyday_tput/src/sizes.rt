@@ -71,7 +71,7 @@ fn size(is_named: bool, sources: &Sources<'_>, inherent: Option<u32>, usual: u32
 
 /// How many columns there are: by the variable `COLUMNS`, unless the terminal is named by `-T`; by the
 /// window; by the entry; else 80.
-pub(crate) fn column_count(is_named: bool, sources: &Sources<'_>, view: &View<'_>) -> u32
+pub fn column_count(is_named: bool, sources: &Sources<'_>, view: &View<'_>) -> u32
     ensures { result ≡ column_count is_named (sources_of sources.now) (entry_seen view.now) }
 {
     size(

@@ -9,15 +9,6 @@ use Rattle.ti_printing.specs.declared.padding.Line.{Line}
 use Rattle.everyday_starting.specs.Starting as starting
 use Rattle.everyday_starting.specs.Starting.{IsRefused, IsWritten, margins_by_moving, margins_by_number, parameters_of}
 use Rattle.everyday_starting.specs.Starting.{plain, return_text, stops_to, text_named, to_the_last}
-use Rattle.everyday_starting.specs.declared.written.Part.{Part}
-use Rattle.everyday_starting.specs.declared.written.Part.TheVariants.{Blanks, ByNumbers, Plain, Stops}
-
--- a part, as plain data
-abbrev pub part_of : Part → starting.Part
-part_of (Plain text) = starting.plain text.now
-part_of (ByNumbers format first second) = starting.by_numbers format.now first second
-part_of (Blanks count) = starting.blanks count
-part_of (Stops set interval count) = starting.stops set.now interval count
 
 -- a format was expanded with two numbers, or has a fault
 abbrev pub Expanded : List ℕ → ℕ → ℕ → Option (Vec ℕ) → Type 0

@@ -1,7 +1,6 @@
 use Rattle.std.proofs.Common.{map, subst}
 use Rattle.std.proofs.lemmas.List.{take_all}
-use Rattle.everyday_starting.specs.Starting.{AreWritten, no_part}
-use Rattle.everyday_starting.specs.inside.Starting.{part_of}
+use Rattle.everyday_starting.specs.Starting.{AreWritten, no_part, part_of}
 use Rattle.everyday_starting.proofs.Writing.{refused_at, written_more}
 use Rattle.everyday_starting.proofs.written.write_parts.Goals as goal
 

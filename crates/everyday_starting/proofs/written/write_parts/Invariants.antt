@@ -1,6 +1,5 @@
 use Rattle.std.proofs.Common.{map, take}
-use Rattle.everyday_starting.specs.Starting.{AreWritten}
-use Rattle.everyday_starting.specs.inside.Starting.{part_of}
+use Rattle.everyday_starting.specs.Starting.{AreWritten, part_of}
 use Rattle.everyday_starting.proofs.written.write_parts.Given as goal
 
 -- the parts so far are written
