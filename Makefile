@@ -2,7 +2,7 @@
 # two signs.
 #
 ##   make            builds the programs ti, ti-everyday (ti-tic, ti-infocmp, ti-tput, ti-clear,
-##                   ti-toe, ti-fmt and ti-lint) and ti-lsp, proving every crate below them
+##                   ti-toe, ti-tabs, ti-fmt and ti-lint) and ti-lsp, proving every crate below them
 ##   make help       prints this list
 ##   make docs       lists the contracts of all crates and their definitions, in out/docs/
 ##   make check      checks a change without proofs
@@ -73,7 +73,7 @@ VIM_FILES = $(patsubst editors/vim/%,%,$(wildcard editors/vim/*/terminfo.vim))
 EDITORS = $(wildcard $(addprefix editors/,*.el *.json *.lua *.toml *.vim *.xml textmate/* vim/*/* vscode/*))
 EDITOR_DIRS = vscode textmate vim/syntax vim/ftplugin vim/ftdetect vim
 # the links to ti-everyday
-TOOL_NAMES = ti-tic ti-infocmp ti-tput ti-clear ti-toe ti-fmt ti-lint
+TOOL_NAMES = ti-tic ti-infocmp ti-tput ti-clear ti-toe ti-tabs ti-fmt ti-lint
 # the pages of each program, and those of all
 PAGES_OF_PROGRAM = man/ti.1 man/ti-profile-tic.1 man/ti-profile-infocmp.1 man/ti-profile-tput.1 man/ti-session.1
 PAGES_OF_EVERYDAY = man/ti-everyday.1 $(TOOL_NAMES:%=man/%.1)

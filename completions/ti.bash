@@ -1,6 +1,6 @@
 # Completion for bash of ti, and of the everyday tools ti-tic, ti-infocmp, ti-tput, ti-clear,
-# ti-toe, ti-fmt and ti-lint: options, terminal names from the places of entries, capability names,
-# and files.
+# ti-toe, ti-tabs, ti-fmt and ti-lint: options, terminal names from the places of entries,
+# capability names, and files.
 
 # The capabilities of terminfo(5), booleans, numbers and strings, in the order of the tables.
 _ti_capabilities='
@@ -190,6 +190,17 @@ _ti_toe() {
     fi
 }
 
+# some options of ti-tabs are two letters
+_ti_tabs() {
+    local places
+    if [[ $previous == -T ]]; then
+        _ti_places
+        _ti_terminals "${places[@]}"
+    elif [[ $current == -* ]]; then
+        _ti_options -T -d -n -a -a2 -c -c2 -c3 -f -p -s -u -0 -8
+    fi
+}
+
 _ti_fmt() {
     if [[ $current == -* ]]; then
         _ti_options --check -1 -w
@@ -232,7 +243,7 @@ _ti() {
     esac
     case $tool in
         tic | infocmp | tput | session) "_ti_$tool" ;;
-        clear | toe | fmt | lint) [[ -z $everyday ]] || "_ti_$tool" ;;
+        clear | toe | tabs | fmt | lint) [[ -z $everyday ]] || "_ti_$tool" ;;
         help) ((COMP_CWORD > 2)) || _ti_words tic infocmp tput session ;;
     esac
     # a name may be in several places
@@ -248,4 +259,4 @@ _ti() {
     fi
 }
 
-complete -F _ti ti ti-tic ti-infocmp ti-tput ti-clear ti-toe ti-fmt ti-lint
+complete -F _ti ti ti-tic ti-infocmp ti-tput ti-clear ti-toe ti-tabs ti-fmt ti-lint

@@ -1,6 +1,6 @@
 # Completion for fish of ti, and of the everyday tools ti-tic, ti-infocmp, ti-tput, ti-clear,
-# ti-toe, ti-fmt and ti-lint: options, terminal names from the places of entries, capability names,
-# and files.
+# ti-toe, ti-tabs, ti-fmt and ti-lint: options, terminal names from the places of entries,
+# capability names, and files.
 
 # The capabilities of terminfo(5), booleans, numbers and strings, in the order of the tables.
 function __ti_capabilities
@@ -224,6 +224,24 @@ complete -c ti-toe -s h -d 'Print a heading before the entries of each directory
 complete -c ti-toe -s s -d 'Sort by name; of several directories, mark which has an entry'
 complete -c ti-toe -l help -d 'Print help'
 complete -c ti-toe -s V -l version -d 'Print version'
+
+complete -c ti-tabs -f
+complete -c ti-tabs -s T -x -a '(__ti_terminals)' -d 'The terminal'
+complete -c ti-tabs -o d -d 'Show a ruler, and where the stops are'
+complete -c ti-tabs -o n -d 'Do not set anything'
+complete -c ti-tabs -o a -d 'Set the stops of an assembler'
+complete -c ti-tabs -o a2 -d 'Set other stops of an assembler'
+complete -c ti-tabs -o c -d 'Set the stops of COBOL'
+complete -c ti-tabs -o c2 -d 'Set compact stops of COBOL'
+complete -c ti-tabs -o c3 -d 'Set more compact stops of COBOL'
+complete -c ti-tabs -o f -d 'Set the stops of FORTRAN'
+complete -c ti-tabs -o p -d 'Set the stops of PL/I'
+complete -c ti-tabs -o s -d 'Set the stops of SNOBOL'
+complete -c ti-tabs -o u -d 'Set the stops of the UNIVAC assembler'
+complete -c ti-tabs -o 0 -d 'Set no stop'
+complete -c ti-tabs -o 8 -d 'Set a stop at each eighth column'
+complete -c ti-tabs -o h -l help -d 'Print help'
+complete -c ti-tabs -o V -l version -d 'Print version'
 
 complete -c ti-fmt -l check -d 'Print the names of files that would change, and write none'
 complete -c ti-fmt -s 1 -d 'Write each item on its own line'

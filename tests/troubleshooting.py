@@ -132,6 +132,14 @@ TOOLS_ROWS = {
     "PATH: not an entry, PATH: the directory cannot be read of ti-toe": (
         ["cp dumb.ti bad/d/notes; ti-toe bad", "mkdir closed; chmod 0 closed; ti-toe closed"], {"PATH": "bad"}, "",
     ),
+    'terminal "NAME" cannot clear tab stops, cannot set tab stops of ti-tabs': (
+        [
+            "printf 'no-clear,\\n\\thts=H,\\n' | ti-tic -o entries -; TERMINFO=entries ti-tabs -T no-clear",
+            "printf 'no-set,\\n\\ttbc=T,\\n' | ti-tic -o entries -; TERMINFO=entries ti-tabs -T no-set",
+        ],
+        {"TERM": "dumb"}, "",
+    ),
+    "tab stops are not in increasing order: LIST": (["ti-tabs -T xterm 9,5,12"], {"LIST": "9,5,12"}, ""),
     "no terminal is named": (["ti-tput cols"], {}, "ti-tput cols"),
     "unknown terminfo capability 'NAME'": ([f"{ENTRIES} ti-tput -T dumb bel Tc"], {"TERM": "dumb"}, ""),
     "ti-everyday: call it ti-tic, ..": (["ti-everyday"], {"..": "-V"}, ""),

@@ -35,6 +35,8 @@ CANDIDATES = [
     ("ti-clear -", "-T", "-S"),
     ("ti-clear -x -T du", "dumb", "lantern3"),
     ("ti-toe -", "--help", "-T"),
+    ("ti-tabs -", "-a2", "-x"),
+    ("ti-tabs -T du", "dumb", "lantern3"),
     ("ti-fmt -", "--check", "-x"),
     ("ti-fmt --check lan", "lantern.ti", "dumb.ti"),
     ("ti-lint -", "--strict", "-T"),

@@ -15,11 +15,13 @@ shown_name tool.Fmt = codes "ti-fmt"
 shown_name tool.Lint = codes "ti-lint"
 shown_name tool.Clear = codes "ti-clear"
 shown_name tool.Toe = codes "ti-toe"
+shown_name tool.Tabs = codes "ti-tabs"
 
 -- the exit status of bad usage: 2, but 1 of the tools that end with 1 in ncurses
 abbrev pub usage_status : Tool → ℕ
 usage_status tool.Clear = 1
 usage_status tool.Toe = 1
+usage_status tool.Tabs = 1
 usage_status t = 2
 
 -- whether a name is one of two
@@ -36,6 +38,7 @@ named_tool name =
     else if bytes_eq name (codes "ti-lint") then Some tool.Lint
     else if is_either (codes "ti-clear") (codes "clear") name then Some tool.Clear
     else if is_either (codes "ti-toe") (codes "toe") name then Some tool.Toe
+    else if is_either (codes "ti-tabs") (codes "tabs") name then Some tool.Tabs
     else None
 
 -- the tool that is called by a word, which may be a path

@@ -22,6 +22,8 @@ pub enum Tool {
     Clear,
     /// The tool that lists the entries of directories.
     Toe,
+    /// The tool that sets tab stops.
+    Tabs,
 }
 
 impl Tool {
@@ -37,16 +39,17 @@ impl Tool {
             Tool::Lint => "ti-lint",
             Tool::Clear => "ti-clear",
             Tool::Toe => "ti-toe",
+            Tool::Tabs => "ti-tabs",
         }
     }
 
-    /// The exit status of bad usage: 2, but 1 of `ti-clear` and `ti-toe`, as clear(1) and toe(1) have
-    /// it.
+    /// The exit status of bad usage: 2, but 1 of `ti-clear`, `ti-toe` and `ti-tabs`, as clear(1),
+    /// toe(1) and tabs(1) have it.
     pub fn usage_status(self) -> u8
         ensures { result ≡ usage_status self }
     {
         match self {
-            Tool::Clear | Tool::Toe => 1,
+            Tool::Clear | Tool::Toe | Tool::Tabs => 1,
             _ => 2,
         }
     }
@@ -65,6 +68,7 @@ pub fn called_tool(word: &str) -> Option<Tool>
         "ti-lint" => Some(Tool::Lint),
         "ti-clear" | "clear" => Some(Tool::Clear),
         "ti-toe" | "toe" => Some(Tool::Toe),
+        "ti-tabs" | "tabs" => Some(Tool::Tabs),
         _ => None,
     }
 }

@@ -134,14 +134,14 @@ fn tput_status(failure: &Failure) -> u8
     }
 }
 
-/// The status of the process of a tool that stops: 1 of `ti-clear` and `ti-toe`; of the others 2 if no
-/// terminal is named, and at bad usage; else 1, but of `ti-tput` 3 if there is no entry to be had, and
-/// 255 at a fault of a device.
+/// The status of the process of a tool that stops: 1 of `ti-clear`, `ti-toe` and `ti-tabs`; of the
+/// others 2 if no terminal is named, and at bad usage; else 1, but of `ti-tput` 3 if there is no entry
+/// to be had, and 255 at a fault of a device.
 pub fn status(tool: Tool, failure: &Failure) -> u8
     ensures { result ≡ status_of tool failure.now }
 {
     match (tool, failure) {
-        (Tool::Clear | Tool::Toe, _) => 1,
+        (Tool::Clear | Tool::Toe | Tool::Tabs, _) => 1,
         (Tool::Tput, failure) => tput_status(failure),
         (_, Failure::NoName | Failure::Stopped(ToolError::Usage)) => 2,
         _ => 1,

@@ -19,6 +19,7 @@ use Rattle.everyday_words.specs.InfocmpWords.{infocmp_asked}
 use Rattle.everyday_words.specs.LintWords.{lint_asked}
 use Rattle.everyday_arguments.specs.Names.{shown_name}
 use Rattle.everyday_words.specs.Requests.{Wanted, wanted_of}
+use Rattle.everyday_words.specs.TabsWords.{tabs_asked}
 use Rattle.everyday_words.specs.TicWords.{tic_asked}
 use Rattle.everyday_words.specs.ToeWords.{toe_asked}
 use Rattle.everyday_words.specs.TputWords.{tput_asked}
@@ -41,6 +42,7 @@ supported_asked tool.Fmt rows = fmt_asked rows
 supported_asked tool.Lint rows = lint_asked rows
 supported_asked tool.Clear rows = Ok (clear_asked rows)
 supported_asked tool.Toe rows = Ok (toe_asked rows)
+supported_asked tool.Tabs rows = Ok (tabs_asked rows)
 
 -- a mistake as a sentence
 abbrev pub in_words : Result Wanted Mistake → Asked

@@ -1,5 +1,5 @@
 -- The command lines of the tools, as what clap reads of them (tic(1), infocmp(1), tput(1), clear(1),
--- toe(1)).
+-- toe(1), tabs(1)).
 use Rattle.std.specs.Prelude.{◌≡◌, codes, map, [], ◌∷◌}
 use Rattle.ti_text.specs.Ascii.{byte_of}
 use Rattle.clap.specs.Simple.{App, with_rule}
@@ -94,6 +94,10 @@ toe_app = with_rule (with_rule (with_rule (with_rule (everyday_app (codes "ti-to
     (flag_rule (codes "sorted") (byte_of "s")))
     (operands_rule (codes "directories"))
 
+-- `ti-tabs [WORD..]`
+abbrev pub tabs_app : App
+tabs_app = with_rule (everyday_app (codes "ti-tabs")) (operands_rule (codes "words"))
+
 -- lists of names, each wherever it is in memory: of the orders of `ti-infocmp`, of the forms of
 -- `ti-lint`, and of when that uses colors
 pub record Lists : Type 0 where
@@ -116,6 +120,7 @@ tool_app lists tool.Fmt = fmt_app
 tool_app lists tool.Lint = lint_app lists.forms lists.colors
 tool_app lists tool.Clear = clear_app
 tool_app lists tool.Toe = with_foreign tool.Toe toe_app
+tool_app lists tool.Tabs = tabs_app
 
 -- what holds of a tool's command line. Nothing that clap reads depends on the places of the names in
 -- memory, so this is said of some such places, or of each.

@@ -7,6 +7,7 @@ pub mod Foreign
 pub mod InfocmpWords
 pub mod LintWords
 pub mod Requests
+pub mod TabsWords
 pub mod TicWords
 pub mod ToeWords
 pub mod TputWords

@@ -12,6 +12,7 @@ use Rattle.everyday_words.specs.declared.requests.LintForm.{LintForm}
 use Rattle.everyday_words.specs.declared.requests.LintRequest.{LintRequest}
 use Rattle.everyday_words.specs.declared.requests.Request.{Request}
 use Rattle.everyday_words.specs.declared.requests.Request.TheVariants as request
+use Rattle.everyday_words.specs.declared.requests.TabsRequest.{TabsRequest}
 use Rattle.everyday_words.specs.declared.requests.TicRequest.{TicRequest}
 use Rattle.everyday_words.specs.declared.requests.ToeRequest.{ToeRequest}
 use Rattle.everyday_words.specs.declared.requests.TputRequest.{TputRequest}
@@ -77,6 +78,10 @@ pub record ToeWanted : Type 0 where
   pub sorted : Bool
   pub directories : List Text
 
+-- of `ti-tabs`: the words, options too
+pub record TabsWanted : Type 0 where
+  pub words : List Text
+
 -- what is asked of a tool; `wants_outputs` asks for the directories for entries, given that of `-o`
 pub data Wanted : Type 0 where
   wants_tic : TicWanted → Wanted
@@ -88,6 +93,7 @@ pub data Wanted : Type 0 where
   wants_lint : LintWanted → Wanted
   wants_clear : ClearWanted → Wanted
   wants_toe : ToeWanted → Wanted
+  wants_tabs : TabsWanted → Wanted
 
 -- ---- a request that holds its words in memory, as plain data
 
@@ -146,6 +152,10 @@ clear_seen r = record { keeps_scrollback = r.keeps_scrollback; term = option_map
 abbrev pub toe_seen : ToeRequest → ToeWanted
 toe_seen r = record { all = r.all; headings = r.headings; sorted = r.sorted; directories = map string_bytes r.directories.items }
 
+-- of `ti-tabs`
+abbrev pub tabs_seen : TabsRequest → TabsWanted
+tabs_seen r = record { words = map string_bytes r.words.items }
+
 -- of any tool
 abbrev pub wanted_of : Request → Wanted
 wanted_of (request.Tic r) = wants_tic (tic_seen r)
@@ -157,3 +167,4 @@ wanted_of (request.Fmt r) = wants_fmt (fmt_seen r)
 wanted_of (request.Lint r) = wants_lint (lint_seen r)
 wanted_of (request.Clear r) = wants_clear (clear_seen r)
 wanted_of (request.Toe r) = wants_toe (toe_seen r)
+wanted_of (request.Tabs r) = wants_tabs (tabs_seen r)

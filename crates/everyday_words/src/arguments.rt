@@ -7,6 +7,7 @@ ghost use Rattle.tools_commands.specs.Matches.{matched_rows};
 ghost use Rattle.everyday_words.specs.Arguments.{IsRefusalOf, IsRequestOf, IsSaidOf, TakesAs, asked_by, in_words, supported_asked, usage_line};
 ghost use Rattle.everyday_words.specs.Commands.{OfEachTool, OfTool};
 ghost use Rattle.everyday_words.specs.Requests.{Wanted};
+ghost use Rattle.everyday_words.specs.TabsWords.{read_words};
 ghost use Rattle.everyday_words.specs.inside.Answers.{Answers, AnswersTaken};
 ghost use Rattle.everyday_words.specs.declared.arguments.Refusal.TheVariants.{Memory};
 
@@ -17,6 +18,7 @@ use crate::infocmp_words::infocmp_request;
 use crate::lint_words::lint_request;
 use crate::mistakes::NoRequest;
 use crate::requests::Request;
+use crate::tabs_words::{tabs_line, tabs_request};
 use crate::tic_words::tic_request;
 use crate::toe_words::toe_request;
 use crate::tput_words::tput_request;
@@ -71,6 +73,7 @@ fn tool_request(alloc: Global, tool: Tool, matches: &ArgMatches<'_>) -> Result<R
         Tool::Lint => lint_request(alloc, matches),
         Tool::Clear => Ok(clear_request(alloc, matches)?),
         Tool::Toe => Ok(toe_request(alloc, matches)?),
+        Tool::Tabs => Ok(tabs_request(alloc, matches)?),
     }
 }
 
@@ -113,14 +116,8 @@ fn taken_request(alloc: Global, tool: Tool, matches: &ArgMatches<'_>) -> Result<
     supported_request(alloc, tool, matches)
 }
 
-/// What the words of a command line ask of a tool. The first word is the name by which the program
-/// was called.
-///
-/// # Errors
-/// Why they ask for nothing: `Text` if they ask for the help or the version, and `Usage` if they are
-/// not a command line of the tool, with the text of clap if clap finds a fault in them, else the
-/// line of the mistake; then `Memory`.
-pub fn request(alloc: Global, tool: Tool, words: &[String]) -> Result<Request, Refusal>
+// What words that clap reads as they are ask of a tool.
+fn plain_request(alloc: Global, tool: Tool, words: &[String]) -> Result<Request, Refusal>
     ensures right { IfOk result (λ request. OfTool tool (IsRequestOf tool (word_texts words.now) request)) }
     ensures answered { (wanted : Wanted) → OfEachTool tool (TakesAs tool (word_texts words.now) wanted)
         → IfErr result (λ refused. refused ≡ Refusal.Memory) }
@@ -130,5 +127,27 @@ pub fn request(alloc: Global, tool: Tool, words: &[String]) -> Result<Request, R
     match command.try_get_matches_from(words) {
         Ok(matches) => taken_request(alloc, tool, &matches),
         Err(error) => Err(refusal_by(alloc, &error)?),
+    }
+}
+
+/// What the words of a command line ask of a tool. The first word is the name by which the program
+/// was called. To clap the words of `ti-tabs` are operands.
+///
+/// # Errors
+/// Why they ask for nothing: `Text` if they ask for the help or the version, and `Usage` if they are
+/// not a command line of the tool, with the text of clap if clap finds a fault in them, else the
+/// line of the mistake; then `Memory`.
+pub fn request(alloc: Global, tool: Tool, words: &[String]) -> Result<Request, Refusal>
+    ensures right { IfOk result (λ request. OfTool tool (IsRequestOf tool (read_words tool (word_texts words.now)) request)) }
+    ensures answered { (wanted : Wanted) → OfEachTool tool (TakesAs tool (read_words tool (word_texts words.now)) wanted)
+        → IfErr result (λ refused. refused ≡ Refusal.Memory) }
+    ensures refused { IfErr result (IsRefusalOf tool (read_words tool (word_texts words.now))) }
+{
+    match tool {
+        Tool::Tabs => {
+            let line = tabs_line(alloc, words)?;
+            plain_request(alloc, tool, line.as_slice())
+        }
+        _ => plain_request(alloc, tool, words),
     }
 }

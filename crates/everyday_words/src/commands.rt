@@ -13,6 +13,7 @@ use crate::clear_words::CLEAR;
 use crate::fmt_words::FMT;
 use crate::infocmp_words::INFOCMP;
 use crate::lint_words::LINT;
+use crate::tabs_words::TABS;
 use crate::tic_words::TIC;
 use crate::toe_words::TOE;
 use crate::tput_words::TPUT;
@@ -55,6 +56,7 @@ fn command_line(tool: Tool) -> CommandLine<'static>
         Tool::Lint => LINT,
         Tool::Clear => CLEAR,
         Tool::Toe => TOE,
+        Tool::Tabs => TABS,
     }
 }
 

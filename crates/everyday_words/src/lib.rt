@@ -13,7 +13,7 @@
 //! - `arguments`: what the words ask for, or why they ask for nothing, and the message (`request`)
 //! - `commands`: the command line of each tool, for clap (`command`), of which `everyday_arguments`
 //!   has the parts; `tic_words`, `infocmp_words`, `tput_words`, `fmt_words`, `lint_words`,
-//!   `clear_words` and `toe_words` have the options of each tool, and what they ask for
+//!   `clear_words`, `toe_words` and `tabs_words` have the options of each tool, and what they ask for
 //! - `mistakes`: why words that clap takes ask for nothing
 #![tactic(auto)]
 
@@ -25,6 +25,7 @@ mod infocmp_words;
 mod lint_words;
 mod mistakes;
 mod requests;
+mod tabs_words;
 mod tic_words;
 mod toe_words;
 mod tput_words;
@@ -34,7 +35,7 @@ pub use commands::{VERSION, command};
 pub use everyday_arguments::{Tool, called_tool, called_words};
 pub use requests::{
     ClearRequest, FmtRequest, InfocmpRequest, LintColor, LintForm, LintRequest, Request,
-    TicRequest, ToeRequest, TputRequest,
+    TabsRequest, TicRequest, ToeRequest, TputRequest,
 };
 pub use ti_list::{Layout, Order};
 pub use tools_commands::{InfocmpMode, Mistake};

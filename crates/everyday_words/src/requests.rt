@@ -123,6 +123,13 @@ pub struct ToeRequest {
     pub directories: Vec<String>,
 }
 
+/// What is asked of `ti-tabs`: to set tab stops.
+#[derive(Debug, PartialEq, Eq, Drop)]
+pub struct TabsRequest {
+    /// The words, options too, of which later ones may go with earlier ones.
+    pub words: Vec<String>,
+}
+
 /// What the words of a command line ask for.
 #[derive(Debug, PartialEq, Eq, Drop)]
 pub enum Request {
@@ -144,4 +151,6 @@ pub enum Request {
     Clear(ClearRequest),
     /// To list the entries of directories.
     Toe(ToeRequest),
+    /// To set tab stops.
+    Tabs(TabsRequest),
 }

@@ -116,6 +116,14 @@ impl Variables {
         }
     }
 
+    /// What `TERM` is set to, if it is.
+    ///
+    /// # Errors
+    /// That it is not text.
+    pub fn term(&self) -> Result<Option<&str>, Stop> {
+        text("TERM", &self.term)
+    }
+
     /// What says where entries are. A `HOME` that is not text names no directory.
     ///
     /// # Errors
@@ -191,8 +199,8 @@ fn is_set<R: Env + AllocGlobal>(rt: &R, name: &str) -> bool {
     }
 }
 
-// Whether standard output is a terminal, by what its descriptor leads to.
-fn is_terminal<R: Files + AllocGlobal>(rt: &R) -> bool {
+/// Whether standard output is a terminal, by what its descriptor leads to.
+pub fn is_terminal<R: Files + AllocGlobal>(rt: &R) -> bool {
     match fs::read_link(rt, "/proc/self/fd/1") {
         Ok(path) => path.as_str().starts_with("/dev/pts/") || path.as_str().starts_with("/dev/tty"),
         Err(_) => false,

@@ -1,5 +1,5 @@
-//! The program of the everyday tools, `ti-tic`, `ti-infocmp`, `ti-tput`, `ti-clear`, `ti-toe`, `ti-fmt`
-//! and `ti-lint`, by the name that it is called by, over real files, streams and the environment.
+//! The program of the everyday tools, `ti-tic`, `ti-infocmp`, `ti-tput`, `ti-clear`, `ti-toe`,
+//! `ti-tabs`, `ti-fmt` and `ti-lint`, by the name that it is called by, over real files, streams and the environment.
 #![tactic(auto)]
 
 mod clear_tool;
@@ -10,6 +10,7 @@ mod lint_tool;
 mod output;
 mod start_files;
 mod stopping;
+mod tabs_tool;
 mod tic_tool;
 mod toe_tool;
 mod tput_tool;
@@ -55,6 +56,7 @@ fn run_request<R: Clock + Env + Files + Input + Print + Eprint + AllocGlobal + C
         Request::Lint(request) => (Tool::Lint, lint_tool::run(rt, request)),
         Request::Clear(request) => (Tool::Clear, clear_tool::run(rt, request)),
         Request::Toe(request) => (Tool::Toe, toe_tool::run(rt, request)),
+        Request::Tabs(request) => (Tool::Tabs, tabs_tool::run(rt, request)),
     };
     match done {
         Ok(status) => status,
@@ -77,7 +79,7 @@ fn words<R: Env + AllocGlobal>(rt: &R) -> Result<Vec<String>, Stop> {
 // Says by which names the program is called. It is an error of usage.
 fn unknown_name<R: Eprint>(rt: &R) -> u8 {
     let _ = rt.eprint(
-        "ti-everyday: call it ti-tic, ti-infocmp, ti-tput, ti-clear, ti-toe, ti-fmt or ti-lint, or give one of these names as the first word\n",
+        "ti-everyday: call it ti-tic, ti-infocmp, ti-tput, ti-clear, ti-toe, ti-tabs, ti-fmt or ti-lint, or give one of these names as the first word\n",
     );
     2
 }

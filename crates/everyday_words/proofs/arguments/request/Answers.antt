@@ -1,38 +1,35 @@
--- clap's answer is that of its definition of the tool's command line
-use Rattle.std.proofs.Common.{◌∙◌, ap, map, string_bytes}
-use Rattle.clap.specs.Simple.{App}
-use Rattle.clap.specs.Takes.{takes}
-use Rattle.everyday_words.proofs.Asked.{answered-taken, asked-matches, memory_alone, no_faults, refused-fault, refused-taken, right-taken}
+-- but those of `ti-tabs`, words are read as they are
+use Rattle.std.proofs.Common.{◌≡◌, IfErr, IfOk, List, refl, subst}
+use Rattle.clap.specs.Walk.{Text}
+use Rattle.tools_commands.specs.Arguments.{word_texts}
+use Rattle.everyday_arguments.specs.declared.names.Tool.{Tool}
+use Rattle.everyday_arguments.specs.declared.names.Tool.TheVariants as tool
+use Rattle.everyday_words.specs.Arguments.{IsRefusalOf, IsRequestOf, TakesAs}
+use Rattle.everyday_words.specs.Commands.{OfEachTool, OfTool}
+use Rattle.everyday_words.specs.Requests.{Wanted}
+use Rattle.everyday_words.specs.TabsWords.{read_words}
+use Rattle.everyday_words.specs.declared.arguments.Refusal.TheVariants.{Memory}
 use Rattle.everyday_words.proofs.arguments.request.Goals as goal
 
-pub returns-in-Ok-clause-right : goal.returns-in-Ok-clause-right
-returns-in-Ok-clause-right c =
-    let app = c.in_ok-command.ensures in
-    let same = asked-matches _ _ _ c.in-Ok.matches app.0 app.2 c.in-Ok.ensures.matches in
-    let no_fault = no_faults _ _ _ c.in-Ok.matches app.0 app.2 c.in-Ok.ensures.kinds in
-    right-taken _ _ app.0 app.1 _ same no_fault c.taken_request.result c.taken_request.ensures
+as_they_are : (t : Tool) (words : List Text) → (t ≡ tool.Tabs → ⊥) → words ≡ read_words t words
+as_they_are tool.Tic words other = refl
+as_they_are tool.Infocmp words other = refl
+as_they_are tool.Tput words other = refl
+as_they_are tool.Fmt words other = refl
+as_they_are tool.Lint words other = refl
+as_they_are tool.Clear words other = refl
+as_they_are tool.Toe words other = refl
+as_they_are tool.Tabs words other = absurd (other refl)
 
-pub returns-in-Ok-clause-answered : goal.returns-in-Ok-clause-answered
-returns-in-Ok-clause-answered c =
-    let app = c.in_ok-command.ensures in
-    let same = asked-matches _ _ _ c.in-Ok.matches app.0 app.2 c.in-Ok.ensures.matches in
-    let no_fault = no_faults _ _ _ c.in-Ok.matches app.0 app.2 c.in-Ok.ensures.kinds in
-    answered-taken _ _ app.0 app.1 _ same no_fault c.taken_request.result c.taken_request.ensures
-
-pub returns-in-Ok-clause-refused : goal.returns-in-Ok-clause-refused
-returns-in-Ok-clause-refused c =
-    let app = c.in_ok-command.ensures in
-    let same = asked-matches _ _ _ c.in-Ok.matches app.0 app.2 c.in-Ok.ensures.matches in
-    let no_fault = no_faults _ _ _ c.in-Ok.matches app.0 app.2 c.in-Ok.ensures.kinds in
-    refused-taken _ _ app.0 app.1 _ same no_fault c.taken_request.result c.taken_request.ensures
-
-pub returns-in_ok-refusal_by-in-Err-clause-answered : goal.returns-in_ok-refusal_by-in-Err-clause-answered
-returns-in_ok-refusal_by-in-Err-clause-answered c = λ wanted takes_words.
-    let app = c.in_ok-command.ensures in
-    let taken = ap (λ (a : App). takes a (map string_bytes c.args.words.now)) app.2 ∙ (takes_words app.0 app.1).1 in
-    memory_alone _ _ (c.in-Err.ensures.passes taken) c.in_ok-refusal_by-in-Err.ensures
-
-pub returns-in_ok-refusal_by-in-Err-clause-refused : goal.returns-in_ok-refusal_by-in-Err-clause-refused
-returns-in_ok-refusal_by-in-Err-clause-refused c =
-    let app = c.in_ok-command.ensures in
-    refused-fault _ _ _ c.in-Err.error _ app.0 app.1 app.2 c.in-Err.ensures.kinds c.in_ok-refusal_by-in-Err.ensures
+pub returns-in_default : goal.returns-in_default
+returns-in_default c =
+    let same = as_they_are c.args.tool (word_texts c.args.words.now) c.in_default.not-Tabs in
+    let answer = c.plain_request-in_default.result in
+    record {
+      right = subst (λ (words : List Text). IfOk answer (λ request. OfTool c.args.tool (IsRequestOf c.args.tool words request))) same
+          c.plain_request-in_default.ensures.right;
+      answered = subst
+          (λ (words : List Text). (wanted : Wanted) → OfEachTool c.args.tool (TakesAs c.args.tool words wanted) → IfErr answer (λ refused. refused ≡ Memory))
+          same c.plain_request-in_default.ensures.answered;
+      refused = subst (λ (words : List Text). IfErr answer (IsRefusalOf c.args.tool words)) same c.plain_request-in_default.ensures.refused;
+    }
