@@ -139,7 +139,7 @@ TOOLS_ROWS = {
         ],
         {"TERM": "dumb"}, "",
     ),
-    "tab stops are not in increasing order: LIST": (["ti-tabs -T xterm 9,5,12"], {"LIST": "9,5,12"}, ""),
+    "tab stops are not in increasing order: ..": (["ti-tabs -T xterm 9,5,12"], {"LIST": "-T xterm 5,9,12"}, ""),
     "no terminal is named": (["ti-tput cols"], {}, "ti-tput cols"),
     "unknown terminfo capability 'NAME'": ([f"{ENTRIES} ti-tput -T dumb bel Tc"], {"TERM": "dumb"}, ""),
     "ti-everyday: call it ti-tic, ..": (["ti-everyday"], {"..": "-V"}, ""),
@@ -150,6 +150,7 @@ NOT_RUN = ("No space left on device", "ti-tic: write fault")
 # where what helps looks for entries, by the row, unless the row is about that
 HELPED = {
     "write fault of ti tic FILE": {}, 'unknown terminal "xterm"': {}, "ti-tic: DIR/x/NAME: Permission denied": {},
+    "tab stops are not in increasing order: ..": {},
 }
 
 
