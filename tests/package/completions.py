@@ -75,7 +75,14 @@ CAPABILITIES = re.compile(
 
 def options_of_help(tool):
     part = help_of(tool).split("\nOptions:\n")[1].split("\n\n")[0]
-    return {word for line in part.split("\n") for word in re.findall(r"(?:^ +|, )(--?[\w-]+)", line.split("  <")[0])}
+    found = {word for line in part.split("\n") for word in re.findall(r"(?:^ +|, )(--?[\w-]+)", line.split("  <")[0])}
+    # most options of ti-tabs are words to clap, and have a list of their own
+    if tool == "ti-tabs":
+        listed = help_of(tool).split("\nOptions may share a word")[1]
+        for line in re.findall(r"^  -.*$", listed, re.M):
+            found.update(re.findall(r"(?<![\w-])-[a-zA-Z]\d?(?![\w-])", line))
+        found.discard("-N")
+    return found
 
 
 def page_of(tool):
@@ -88,7 +95,8 @@ def flags(line):
     for part in re.findall(r"Fl ((?:-?\w[\w-]*)(?: [,|] -?\w[\w-]*)*)", line):
         for name in re.split(r" [,|] ", part):
             found.add("-" + name)
-    return found
+    # a hyphen before an argument, as in -N
+    return found - {"-Ar"}
 
 
 def options_of_page(tool):
@@ -242,6 +250,9 @@ def option_faults(tools):
     for tool in tools:
         helped = options_of_help(tool)
         for place, got in option_sets(tool, helped):
+            # intervals that are completed
+            if tool == "ti-tabs":
+                got = {name for name in got if not re.fullmatch(r"-\d+", name)}
             if got != helped:
                 yield f"{command_of(tool)}: the {place} has {sorted(got)}, the help {sorted(helped)}"
 
