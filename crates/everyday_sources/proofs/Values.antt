@@ -174,13 +174,13 @@ among-lookup name (other ∷ names) all among =
 
 -- the names field of the block of an entry can be listed, if the name by which it was found is short
 -- and begins no comment
-can-begin : (field name : List ℕ) → HasName field name true → length name ≤ names_max → begins_comment name ≡ false
-    → (names : List (List ℕ)) × IsListable (block_names field name) names
+can-begin : (field name : List ℕ) → HasName field name true → (can_begin_block field ≡ false → length name ≤ names_max)
+    → (can_begin_block field ≡ false → begins_comment name ≡ false) → (names : List (List ℕ)) × IsListable (block_names field name) names
 can-begin field name (None, reads, is) short plain = absurd (true≢false is)
 can-begin field name (Some names, header, is) short plain =
     elim (cases_Bool (can_begin_block field)) [
       | inl t ↦ rw t (names, field-listable field names header t)
-      | inr f ↦ rw f (name ∷ [], name-alone name (among-lookup name names header.lookup (sym is)) short plain)
+      | inr f ↦ rw f (name ∷ [], name-alone name (among-lookup name names header.lookup (sym is)) (short f) (plain f))
     ]
 
 has-listing : ReadEntriesHaveListings → (text : List ℕ) (entry : Extended) (well : StandsWell text entry) → HasListing (in_block entry well.is.name)

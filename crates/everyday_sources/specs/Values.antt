@@ -25,7 +25,7 @@ use Rattle.user_listing.specs.Listing.{extended_listing}
 use Rattle.user_values.specs.Expansion.{owner_text, user_value_by}
 use Rattle.user_values.specs.Tables.{IsUserTableBy}
 use Rattle.user_relisting.specs.Using.{IsAlone, may_give, may_give_table, table_said_in, user_said_in}
-use Rattle.everyday_sources.specs.Installed.{HasName, begins_comment, block_names, layout}
+use Rattle.everyday_sources.specs.Installed.{HasName, begins_comment, block_names, can_begin_block, layout}
 use Rattle.everyday_sources.specs.Used.{ProblemSeen, TakesUsed}
 
 -- an entry that was found by a name, with the names field of its block
@@ -47,13 +47,13 @@ pub record StandsFor (text : List ℕ) (entry : Extended) : Type 0 where
   pub has : HasName entry.entry.names name true
   pub text_is : text ≡ extended_listing (in_block entry name) layout
 
--- it does, with a file of bytes, and was found by a name that is within the limit of a names field and
--- begins no comment, whatever else its names field has
+-- it does, with a file of bytes, and a block can have its names field, or else was found by a name that
+-- is within the limit of a names field and begins no comment
 pub record StandsWell (text : List ℕ) (entry : Extended) : Type 0 where
   pub is : StandsFor text entry
   pub of_bytes : AreBytes is.bytes
-  pub short : length is.name ≤ names_max
-  pub plain : begins_comment is.name ≡ false
+  pub short : can_begin_block entry.entry.names ≡ false → length is.name ≤ names_max
+  pub plain : can_begin_block entry.entry.names ≡ false → begins_comment is.name ≡ false
 
 -- it does, and the file was found in the directories by that name
 pub record IsInstalled (files : Option Files) (directories : List (List ℕ)) (text : List ℕ) (entry : Extended) : Type 0 where

@@ -27,8 +27,8 @@ pub fn used_entries_are_determined()
 /// source stands for an installed entry. It says of each user-defined name and of each capability of
 /// the tables what the entry has, also if user-defined capabilities are absent there, if a name has
 /// values of several kinds, or if no source can have the names field of the entry; and a block that
-/// uses it has that value of all that no other of its items can give it. The name by which the entry
-/// was found has at most 127 bytes and does not begin with `#`.
+/// uses it has that value of all that no other of its items can give it. Where no source can have the
+/// names field, the name by which the entry was found has at most 127 bytes and begins with no `#`.
 pub fn users_have_the_values_of_entries()
     ensures blocks { FurtherBlocksStandForEntries }
     ensures user_defined { StandingBlocksSayTheEntry }
