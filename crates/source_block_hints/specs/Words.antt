@@ -22,11 +22,15 @@ label_of kind.WrongPadding = codes "N7"
 label_of kind.LongDelay = codes "N7"
 label_of kind.UnknownName = codes "N8"
 
--- how grave it is: a warning for a name that is most likely misspelled, a hint for what may be meant,
+-- how sure it is: a warning for what surely does not do what it says, a hint for what may be meant,
 -- else information
 abbrev pub severity_of : HintKind → Severity
-severity_of kind.UnknownName = severity.Warning
+severity_of kind.WrongFormat = severity.Warning
+severity_of kind.FullStack = severity.Warning
+severity_of kind.MissingComma = severity.Warning
+severity_of kind.ItemsInHead = severity.Warning
 severity_of kind.UnusedParameter = severity.Hint
+severity_of kind.UnknownName = severity.Hint
 severity_of _ = severity.Information
 
 -- its name

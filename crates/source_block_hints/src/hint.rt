@@ -38,14 +38,17 @@ pub enum HintKind {
 }
 
 impl HintKind {
-    /// How grave it is: a warning for a name that is most likely misspelled, a hint for what may be
+    /// How sure it is: a warning for what surely does not do what it says, a hint for what may be
     /// meant, else information.
     pub fn severity(self) -> Severity
         ensures { result ≡ spec.severity_of self }
     {
         match self {
-            HintKind::UnknownName => Severity::Warning,
-            HintKind::UnusedParameter => Severity::Hint,
+            HintKind::WrongFormat
+            | HintKind::FullStack
+            | HintKind::MissingComma
+            | HintKind::ItemsInHead => Severity::Warning,
+            HintKind::UnusedParameter | HintKind::UnknownName => Severity::Hint,
             _ => Severity::Information,
         }
     }

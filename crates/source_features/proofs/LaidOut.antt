@@ -17,7 +17,7 @@ first_place : (text : List ℕ) → position_of text 0 ≡ record { line = 0; co
 first_place [] = refl
 first_place (x ∷ xs) = refl
 
-edit_is : (same utf8 : Bool) (laid : List ℕ) (make : List ℕ → LayoutSeen) (edit : LayoutSeen)
+pub edit_is : (same utf8 : Bool) (laid : List ℕ) (make : List ℕ → LayoutSeen) (edit : LayoutSeen)
     → cond same None (option_map make (cond utf8 (Some laid) None)) ≡ Some edit → make laid ≡ edit
 edit_is true utf8 laid make edit e = absurd cc
 edit_is false true laid make edit e = cc

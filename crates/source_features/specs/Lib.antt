@@ -4,5 +4,6 @@ pub mod Explaining
 pub mod Formatting
 pub mod Hovers
 pub mod Meanings
+pub mod RangeFormatting
 pub mod Signatures
 pub mod UserMeanings

@@ -11,7 +11,7 @@ use source_types::{Position, Range};
 use std::alloc::{AllocError, Global};
 
 // How many columns a line has at most, as `ti-fmt` has it where no width is given.
-const COLUMNS: usize = 80;
+pub(crate) const COLUMNS: usize = 80;
 
 /// A text that takes the place of a part of a document.
 #[derive(Debug, Drop)]

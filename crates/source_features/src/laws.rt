@@ -4,3 +4,4 @@ pub use crate::completions::{
     completions_replace_a_word, completions_stay_in_the_line, names_are_offered_once,
 };
 pub use crate::formatting::edits_lay_out;
+pub use crate::range_formatting::edits_lay_out_a_part;

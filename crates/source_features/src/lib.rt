@@ -6,7 +6,8 @@
 //! - `hovers`: what an editor shows about a position; `explaining`: what it says of a string there
 //! - `signatures`: which parameters the string at a position takes
 //! - `completions`: what an editor offers to complete a word with
-//! - `formatting`: the edit that lays out a document
+//! - `formatting`: the edit that lays out a document; `range_formatting`: that of the blocks that a
+//!   range touches
 //! - `laws`: what a completion offers and replaces; a document has its layout once the client has
 //!   made the edit
 #![tactic(auto)]
@@ -17,6 +18,7 @@ mod formatting;
 mod hovers;
 pub mod laws;
 mod meanings;
+mod range_formatting;
 mod signatures;
 mod user_meanings;
 
@@ -25,4 +27,5 @@ pub use explaining::explanation_of;
 pub use formatting::{LayoutEdit, layout_of};
 pub use hovers::{About, Hover, hover_of};
 pub use meanings::Meaning;
+pub use range_formatting::layout_in;
 pub use signatures::{Signature, signature_of};

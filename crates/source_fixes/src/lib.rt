@@ -1,5 +1,5 @@
-//! What an editor offers against what is wrong with an item: the code actions of the Language
-//! Server Protocol 3.17, "Code Action Request", of the kind `quickfix`. The edits of one item are
+//! What an editor offers against a mistake in an item: the code actions of the Language Server
+//! Protocol 3.17, "Code Action Request", of the kind `quickfix`. The edits of one item are
 //! those of `source_edits`.
 //!
 //! - `giving`: the names that a source can give

@@ -1,0 +1,4 @@
+pub mod Directories
+pub mod Changes
+pub mod Nearest
+pub mod Lines

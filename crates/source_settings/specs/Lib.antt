@@ -1,0 +1,9 @@
+-- The definitions that the contracts of this crate cite.
+pub mod Levels
+pub mod Settings
+pub mod Refusals
+pub mod Document
+pub mod Files
+pub mod Finding
+pub mod Comments
+pub mod inside
