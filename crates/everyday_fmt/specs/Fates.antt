@@ -2,7 +2,7 @@
 use Rattle.std.specs.Prelude.{◌≡◌, ◌≢◌, ◌⊎◌, ℕ, ◌+◌, ◌^◌, Bool, true, false, List, [], ◌∷◌, ◌++◌, Option, Some, None}
 use Rattle.std.specs.String.{string_bytes}
 use Rattle.tools_devices.specs.Tree.{ChangesOnly, Files, FindsFile, Sets}
-use Rattle.source_format.specs.Sources.{formatted_source}
+use Rattle.everyday_fmt.specs.Layouts.{laid}
 use Rattle.everyday_fmt.specs.declared.files.Done.{Done}
 use Rattle.everyday_fmt.specs.declared.files.Fate.{Fate}
 use Rattle.everyday_fmt.specs.declared.files.Fate.TheVariants.{Absent, Changed, Failed, Same}
@@ -59,17 +59,17 @@ TellsFailure cause fate = ⊥
 -- it could not be read, or could not be written in its layout, and the tree says why
 abbrev pub FormatsFile : FmtOptions → List ℕ → Held → Held → Fate → Type 0
 FormatsFile options path before after Same =
-    (source : List ℕ) × Holds path before.files source × (formatted_source options.width source ≡ source)
+    (source : List ℕ) × Holds path before.files source × (laid options source ≡ source)
     × (after.files ≡ before.files) × (after.failures ≡ before.failures)
 FormatsFile options path before after Changed =
-    (source : List ℕ) × Holds path before.files source × (formatted_source options.width source ≢ source)
-    × GetsLayout options.check path (formatted_source options.width source) before.files after.files × (after.failures ≡ before.failures)
+    (source : List ℕ) × Holds path before.files source × (laid options source ≢ source)
+    × GetsLayout options.check path (laid options source) before.files after.files × (after.failures ≡ before.failures)
 FormatsFile options path before after Absent =
     FindsFile path whole_size before.files None × (after.files ≡ before.files) × (after.failures ≡ before.failures)
 FormatsFile options path before after (Failed reason) =
     IsReason after.cause (string_bytes reason) × (after.failures ≡ before.failures + 1)
     × ((after.files ≡ before.files)
-    ⊎ ((options.check ≡ false) × (source : List ℕ) × Holds path before.files source × (formatted_source options.width source ≢ source)
+    ⊎ ((options.check ≡ false) × (source : List ℕ) × Holds path before.files source × (laid options source ≢ source)
     × ChangesOnly path before.files after.files))
 
 -- ---- files in turn

@@ -1,4 +1,5 @@
 -- The definitions that the contracts of this crate cite.
+pub mod Layouts
 pub mod Fates
 pub mod Report
 pub mod Tool

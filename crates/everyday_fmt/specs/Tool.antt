@@ -2,7 +2,7 @@
 use Rattle.std.specs.Prelude.{◌≡◌, ◌≢◌, ◌⊎◌, ℕ, Bool, true, false, List, [], codes}
 use Rattle.std.specs.List.{flat_map}
 use Rattle.everyday_fmt.specs.Fates.{FormatsFiles, Held}
-use Rattle.source_format.specs.Sources.{formatted_source}
+use Rattle.everyday_fmt.specs.Layouts.{laid}
 use Rattle.everyday_fmt.specs.Report.{error_line, name_line, status_of}
 use Rattle.everyday_fmt.specs.declared.files.Done.{Done}
 use Rattle.everyday_fmt.specs.declared.options.FmtOptions.{FmtOptions}
@@ -35,4 +35,4 @@ PrintsInput true text source outcome =
 
 -- what is printed for standard input, and the status
 abbrev pub IsOutcomeOfInput : FmtOptions → List ℕ → FmtOutcome → Type 0
-IsOutcomeOfInput options source outcome = PrintsInput options.check (formatted_source options.width source) source outcome
+IsOutcomeOfInput options source outcome = PrintsInput options.check (laid options source) source outcome

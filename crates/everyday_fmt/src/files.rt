@@ -54,7 +54,7 @@ fn format_file<T: ReasonedTree>(
         Err(TreeFault::Failed) => return failure(alloc, tree),
         Err(TreeFault::Memory) => return Err(AllocError),
     };
-    let Some(text) = changed_text(alloc, options.width, source.as_slice())? else {
+    let Some(text) = changed_text(alloc, options, source.as_slice())? else {
         return Ok(Fate::Same);
     };
     if options.check {

@@ -7,6 +7,8 @@ pub struct FmtOptions {
     pub check: bool,
     /// How many columns a line has at most.
     pub width: usize,
+    /// Keep the lines of the source, and repair white space alone.
+    pub keep: bool,
 }
 
 /// What comes of sources.

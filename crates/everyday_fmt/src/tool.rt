@@ -3,16 +3,15 @@ ghost use Rattle.std.specs.Prelude.{◌≡◌, IfOk, OnErr, false, map, true};
 ghost use Rattle.std.specs.String.{string_bytes};
 ghost use Rattle.everyday_fmt.specs.Fates.{StopsAmong, held};
 ghost use Rattle.everyday_fmt.specs.Laws.{HoldLaidOut};
+ghost use Rattle.everyday_fmt.specs.Layouts as layouts;
 ghost use Rattle.everyday_fmt.specs.Tool.{ComesOfFiles, IsOutcomeOfInput, PrintsInput};
-ghost use Rattle.source_format.specs.Sources.{IsLaidOut, formatted_source};
 
-use crate::changes::changed_text;
+use crate::changes::{changed_text, laid};
 use crate::files::format_each;
 use crate::laws;
 use crate::options::{FmtOptions, FmtOutcome};
 use crate::reasons::ReasonedTree;
 use crate::report::{error_lines, name_lines, status_of};
-use source_format::formatted_source;
 use std::alloc::{AllocError, Global};
 
 /// Gives each of these files its layout, in order, or, with `check`, finds out whether it has it. A
@@ -31,7 +30,7 @@ pub fn format_files<T: ReasonedTree>(
     paths: &[String],
 ) -> Result<FmtOutcome, AllocError>
     ensures done { IfOk result (ComesOfFiles options (map string_bytes paths.now) (held T.files T.failures T.cause tree.old) (held T.files T.failures T.cause tree.new)) }
-    ensures laid_out { IfOk result (λ outcome. options.check ≡ false → outcome.status ≡ 0 → HoldLaidOut options.width (map string_bytes paths.now) (held T.files T.failures T.cause tree.old) (held T.files T.failures T.cause tree.new)) }
+    ensures laid_out { IfOk result (λ outcome. options.check ≡ false → outcome.status ≡ 0 → HoldLaidOut options (map string_bytes paths.now) (held T.files T.failures T.cause tree.old) (held T.files T.failures T.cause tree.new)) }
     ensures refused { OnErr result (StopsAmong options (map string_bytes paths.now) (held T.files T.failures T.cause tree.old) (T.files tree.new)) }
 {
     // A law, with no code: it gives the clause `laid_out` of what is computed.
@@ -45,12 +44,16 @@ pub fn format_files<T: ReasonedTree>(
 }
 
 // What comes of standard input that is only checked.
-fn checked_input(alloc: Global, width: usize, source: &[u8]) -> Result<FmtOutcome, AllocError>
-    ensures { IfOk result (PrintsInput true (formatted_source width source.now) source.now) }
+fn checked_input(
+    alloc: Global,
+    options: FmtOptions,
+    source: &[u8],
+) -> Result<FmtOutcome, AllocError>
+    ensures { IfOk result (PrintsInput true (layouts.laid options source.now) source.now) }
 {
     let mut output = Vec::new(alloc);
     let mut status = 0;
-    if changed_text(alloc, width, source)?.is_some() {
+    if changed_text(alloc, options, source)?.is_some() {
         output.extend_from_slice(b"<stdin>\n")?;
         status = 1;
     }
@@ -72,15 +75,15 @@ pub fn format_input(
     source: &[u8],
 ) -> Result<FmtOutcome, AllocError>
     ensures outcome { IfOk result (IsOutcomeOfInput options source.now) }
-    ensures laid_out { IfOk result (λ outcome. options.check ≡ false → IsLaidOut options.width source.now outcome.output.items) }
+    ensures laid_out { IfOk result (λ outcome. options.check ≡ false → layouts.IsLaid options source.now outcome.output.items) }
 {
     // A law, with no code: it gives the clause `laid_out` of what is computed.
     laws::sources_are_laid_out();
     if options.check {
-        return checked_input(alloc, options.width, source);
+        return checked_input(alloc, options, source);
     }
     Ok(FmtOutcome {
-        output: formatted_source(alloc, options.width, source)?,
+        output: laid(alloc, options, source)?,
         errors: Vec::new(alloc),
         status: 0,
     })

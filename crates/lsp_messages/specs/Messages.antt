@@ -28,6 +28,7 @@ pub data Query : Type 0 where
   highlights : Position → Query
   folding : Query
   formatting : Query
+  range_formatting : Range → Query
   rename : Position → List ℕ → Query
   prepare_rename : Position → Query
   fixes : Range → Bool → Query
@@ -154,13 +155,18 @@ topic_of method =
     else (if bytes_eq method (codes "textDocument/documentHighlight") then Some asks.Highlights
     else (if bytes_eq method (codes "textDocument/foldingRange") then Some asks.Folding
     else (if bytes_eq method (codes "textDocument/formatting") then Some asks.Formatting
+    else (if bytes_eq method (codes "textDocument/rangeFormatting") then Some asks.RangeFormatting
     else (if bytes_eq method (codes "textDocument/rename") then Some asks.Rename
     else (if bytes_eq method (codes "textDocument/prepareRename") then Some asks.PrepareRename
-    else (if bytes_eq method (codes "textDocument/codeAction") then Some asks.Fixes else None)))))))))))
+    else (if bytes_eq method (codes "textDocument/codeAction") then Some asks.Fixes else None))))))))))))
 
 -- "TextDocumentPositionParams"
 abbrev pub asked_place : Data → Option Position
 asked_place params = option_and_then position_of (get (codes "position") params)
+
+-- the part that parameters are about
+abbrev pub asked_range : Data → Option Range
+asked_range params = option_and_then range_of (get (codes "range") params)
 
 -- "ReferenceParams"
 abbrev pub references_of : Data → Option Query
@@ -194,14 +200,14 @@ wanted_by (Some d) = option_map have_quick_fixes (as_array d)
 -- "CodeActionParams"; the diagnostics are not read
 abbrev pub fixes_of : Data → Option Query
 fixes_of params = do
-  range ← option_and_then range_of (get (codes "range") params)
+  range ← asked_range params
   context ← get (codes "context") params
   wanted ← wanted_by (get (codes "only") context)
   Some (fixes range wanted)
 
 -- "CompletionParams", "HoverParams", "DefinitionParams", "DocumentSymbolParams",
 -- "DocumentHighlightParams", "FoldingRangeParams", "PrepareRenameParams", "CodeActionParams", and
--- "DocumentFormattingParams", whose options do not count
+-- "DocumentFormattingParams" and "DocumentRangeFormattingParams", whose options do not count
 abbrev pub question_of : Topic → Data → Option Query
 question_of asks.Completion params = option_map completion (asked_place params)
 question_of asks.Hover params = option_map hover (asked_place params)
@@ -212,6 +218,7 @@ question_of asks.Symbols params = Some symbols
 question_of asks.Highlights params = option_map highlights (asked_place params)
 question_of asks.Folding params = Some folding
 question_of asks.Formatting params = Some formatting
+question_of asks.RangeFormatting params = option_map range_formatting (asked_range params)
 question_of asks.Rename params = rename_of params
 question_of asks.PrepareRename params = option_map prepare_rename (asked_place params)
 question_of asks.Fixes params = fixes_of params

@@ -9,7 +9,7 @@ use Rattle.lsp_messages.specs.declared.messages.Call.TheVariants as call
 use Rattle.lsp_messages.specs.declared.messages.Notice.{Notice}
 use Rattle.lsp_messages.specs.declared.messages.Notice.TheVariants.{Exited, Opened, Changed, Closed, Unreadable, Nothing}
 use Rattle.lsp_messages.specs.declared.messages.Question.{Question}
-use Rattle.lsp_messages.specs.declared.messages.Question.TheVariants.{Completion, Hover, Signature, Definition, References, Symbols, Highlights, Folding, Formatting, Rename, PrepareRename, Fixes}
+use Rattle.lsp_messages.specs.declared.messages.Question.TheVariants.{Completion, Hover, Signature, Definition, References, Symbols, Highlights, Folding, Formatting, RangeFormatting, Rename, PrepareRename, Fixes}
 use Rattle.lsp_messages.specs.declared.messages.Message.{Message}
 use Rattle.lsp_messages.specs.declared.messages.Message.TheVariants.{Request, Notification, Response, Faulty}
 
@@ -27,6 +27,7 @@ question_view Symbols = means.symbols
 question_view (Highlights place) = means.highlights place
 question_view Folding = means.folding
 question_view Formatting = means.formatting
+question_view (RangeFormatting range) = means.range_formatting range
 question_view (Rename place name) = means.rename place name.now
 question_view (PrepareRename place) = means.prepare_rename place
 question_view (Fixes range wanted) = means.fixes range wanted

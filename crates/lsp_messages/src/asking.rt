@@ -2,12 +2,13 @@
 ghost use Rattle.std.specs.Prelude.{◌≡◌, codes, option_and_then, option_map};
 ghost use Rattle.serde_json.specs.Find.{as_bool, get};
 ghost use Rattle.serde_json.specs.View.{items_view, view};
-ghost use Rattle.lsp_messages.specs.Messages.{about_document, about_of, fixes_of, has_quick_fixes, have_quick_fixes, question_of, references_of, rename_of, topic_of, wanted_by};
+ghost use Rattle.lsp_messages.specs.Messages.{about_document, about_of, asked_range, fixes_of, has_quick_fixes, have_quick_fixes, question_of, references_of, rename_of, topic_of, wanted_by};
 ghost use Rattle.lsp_messages.specs.Views.{asked_view, question_view};
 
 use crate::members::{position_at, read_range, text_at};
 use crate::messages::{Call, Question};
 use serde_json::Value;
+use source_types::Range;
 
 /// What a method asks about a document.
 #[derive(Clone, Copy, Debug, PartialEq, Eq)]
@@ -30,6 +31,8 @@ pub(crate) enum Topic {
     Folding,
     /// The document in its layout.
     Formatting,
+    /// A part of it in its layout.
+    RangeFormatting,
     /// The changes that give what has a name at a place another one.
     Rename,
     /// Which name a rename at a place is of.
@@ -52,6 +55,7 @@ pub(crate) fn topic_of(method: &str) -> Option<Topic>
         "textDocument/documentHighlight" => Some(Topic::Highlights),
         "textDocument/foldingRange" => Some(Topic::Folding),
         "textDocument/formatting" => Some(Topic::Formatting),
+        "textDocument/rangeFormatting" => Some(Topic::RangeFormatting),
         "textDocument/rename" => Some(Topic::Rename),
         "textDocument/prepareRename" => Some(Topic::PrepareRename),
         "textDocument/codeAction" => Some(Topic::Fixes),
@@ -112,11 +116,18 @@ fn wanted_by(kinds: Option<&Value>) -> Option<bool>
     }
 }
 
+// The part that parameters are about.
+fn range_at(params: &Value) -> Option<Range>
+    ensures { result ≡ asked_range (view params.now) }
+{
+    read_range(params.get("range")?)
+}
+
 // What is offered against faults ("CodeActionParams").
 fn read_fixes(params: &Value) -> Option<Question<'_>>
     ensures { option_map question_view result ≡ fixes_of (view params.now) }
 {
-    let range = read_range(params.get("range")?)?;
+    let range = range_at(params)?;
     let wanted = wanted_by(params.get("context")?.get("only"))?;
     Some(Question::Fixes { range, wanted })
 }
@@ -135,6 +146,7 @@ fn read_question(topic: Topic, params: &Value) -> Option<Question<'_>>
         Topic::Highlights => Some(Question::Highlights(position_at(params, "position")?)),
         Topic::Folding => Some(Question::Folding),
         Topic::Formatting => Some(Question::Formatting),
+        Topic::RangeFormatting => Some(Question::RangeFormatting(range_at(params)?)),
         Topic::Rename => read_rename(params),
         Topic::PrepareRename => Some(Question::PrepareRename(position_at(params, "position")?)),
         Topic::Fixes => read_fixes(params),

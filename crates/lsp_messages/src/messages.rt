@@ -38,6 +38,8 @@ pub enum Question<'a> {
     Folding,
     /// The document in its layout ("Document Formatting Request"), which no option changes.
     Formatting,
+    /// The same of a part of it ("Document Range Formatting Request").
+    RangeFormatting(Range),
     /// The changes that give what has a name at a place another one ("Rename Request").
     Rename {
         /// The place.

@@ -259,9 +259,10 @@ document_members client =
     (member (codes "definitionProvider") (boolean true)
     (member (codes "documentFormattingProvider") (boolean true)
     (member (codes "documentHighlightProvider") (boolean true)
+    (member (codes "documentRangeFormattingProvider") (boolean true)
     (member (codes "documentSymbolProvider") (boolean true)
     (member (codes "foldingRangeProvider") (boolean true)
-    (member (codes "hoverProvider") (boolean true) no_members)))))))
+    (member (codes "hoverProvider") (boolean true) no_members))))))))
 
 -- "ServerCapabilities"
 abbrev pub capabilities_data : Client → Data
@@ -271,6 +272,7 @@ capabilities_data client =
     (member (codes "definitionProvider") (boolean true)
     (member (codes "documentFormattingProvider") (boolean true)
     (member (codes "documentHighlightProvider") (boolean true)
+    (member (codes "documentRangeFormattingProvider") (boolean true)
     (member (codes "documentSymbolProvider") (boolean true)
     (member (codes "foldingRangeProvider") (boolean true)
     (member (codes "hoverProvider") (boolean true)
@@ -279,7 +281,7 @@ capabilities_data client =
     (member (codes "renameProvider") (rename_options_data client.prepares_renames)
     (member (codes "signatureHelpProvider") signature_options_data
     (member (codes "textDocumentSync") sync_data
-    (member (codes "workspaceSymbolProvider") (boolean true) no_members))))))))))))))
+    (member (codes "workspaceSymbolProvider") (boolean true) no_members)))))))))))))))
 
 -- "InitializeResult"
 abbrev pub server_data : List ℕ → Data

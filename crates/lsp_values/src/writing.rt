@@ -245,6 +245,8 @@ fn document_members(alloc: Global, client: Client) -> Result<Map<String, Value>,
     let members = with_value(alloc, members, "documentFormattingProvider", formats)?;
     let highlights = Value::Bool(true);
     let members = with_value(alloc, members, "documentHighlightProvider", highlights)?;
+    let formats = Value::Bool(true);
+    let members = with_value(alloc, members, "documentRangeFormattingProvider", formats)?;
     let members = with_value(alloc, members, "documentSymbolProvider", Value::Bool(true))?;
     let members = with_value(alloc, members, "foldingRangeProvider", Value::Bool(true))?;
     let hovers = Value::Bool(true);

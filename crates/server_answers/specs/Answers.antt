@@ -2,7 +2,7 @@
 use Rattle.std.specs.Prelude.{ℕ, List, [], ◌++◌, Bool, false, true, Option, None, Some, codes, map}
 use Rattle.serde_json.specs.Data.{Data, array, null}
 use Rattle.serde_json.specs.View.{items_of}
-use Rattle.lsp_messages.specs.Messages.{Query, completion, hover, signature, definition, references, symbols, highlights, folding, formatting, rename, prepare_rename, fixes}
+use Rattle.lsp_messages.specs.Messages.{Query, completion, hover, signature, definition, references, symbols, highlights, folding, formatting, range_formatting, rename, prepare_rename, fixes}
 use Rattle.lsp_values.specs.Shapes.{Said, said_answer, said_refusal, highlight_data, item_data, list_data, location_data, range_data, symbol_data, symbol_information_data}
 use Rattle.lsp_values.specs.Shapes.{text_edit_data, workspace_edit_data}
 use Rattle.lsp_messages.specs.declared.clients.Client.{Client}
@@ -12,6 +12,7 @@ use Rattle.source_diagnostics.specs.declared.capabilities.Capabilities.{Capabili
 use Rattle.source_blocks.specs.Symbols.{SymbolSeen, symbols_of}
 use Rattle.source_features.specs.Completions.{CompletionSeen, OffersSeen, completion_of, offers_capabilities, offers_names}
 use Rattle.source_features.specs.Formatting.{layout_of}
+use Rattle.source_features.specs.RangeFormatting.{layout_in}
 use Rattle.source_features.specs.Signatures.{signature_of}
 use Rattle.source_format.specs.Folds.{folds_of}
 use Rattle.server_answers.specs.Fixes.{fixes_data}
@@ -97,6 +98,7 @@ answer_of installed client text uri symbols = said_answer (outline_data client.n
 answer_of installed client text uri (highlights place) = said_answer (highlights_data (references_of text place true))
 answer_of installed client text uri folding = said_answer (folds_data (folds_of text))
 answer_of installed client text uri formatting = said_answer (layout_data (layout_of text))
+answer_of installed client text uri (range_formatting range) = said_answer (layout_data (layout_in text range))
 answer_of installed client text uri (rename place name) = renamed_said uri (renaming_of text place name)
 answer_of installed client text uri (prepare_rename place) = said_answer (renamable_data (renamable_at text place))
 answer_of installed client text uri (fixes range wanted) = said_answer (fixes_data (capabilities_of client) installed text uri range wanted)

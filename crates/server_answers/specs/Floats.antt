@@ -15,6 +15,7 @@ use Rattle.source_descriptions.specs.UserDescriptions.{UserDescribed, user_descr
 use Rattle.source_blocks.specs.Symbols.{SymbolSeen, symbols_of}
 use Rattle.source_features.specs.Completions.{CompletionSeen, OffersSeen, completion_of, offers_capabilities, offers_names}
 use Rattle.source_features.specs.Formatting.{LayoutSeen, layout_of}
+use Rattle.source_features.specs.RangeFormatting.{layout_in}
 use Rattle.source_features.specs.Explaining.{explanation_of}
 use Rattle.source_features.specs.Hovers.{HoverSeen, hover_of}
 use Rattle.source_names.specs.Names.{definition_of, references_of}
@@ -25,7 +26,7 @@ use Rattle.source_format.specs.Folds.{folds_of}
 use Rattle.source_format.specs.declared.folding.Fold.{Fold}
 use Rattle.source_edits.specs.Edits.{is_certain}
 use Rattle.server_answers.specs.Fixes.{advice_title, fix_shown, fixes_data, fixes_shown, is_offered as is_offered_fix, resolved_shown}
-use Rattle.lsp_messages.specs.Messages.{Query, completion, hover, signature, definition, references, symbols, highlights, folding, formatting, rename, prepare_rename, fixes}
+use Rattle.lsp_messages.specs.Messages.{Query, completion, hover, signature, definition, references, symbols, highlights, folding, formatting, range_formatting, rename, prepare_rename, fixes}
 use Rattle.lsp_values.specs.Shapes.{action_data, folding_data, highlight_data, location_data, parameter_data, signature_help_data, symbol_information_data}
 use Rattle.lsp_messages.specs.declared.clients.Client.{Client}
 use Rattle.source_types.specs.declared.places.Range.{Range}
@@ -216,6 +217,7 @@ answers_have_no_floats installed client text uri symbols = none_in_outline clien
 answers_have_no_floats installed client text uri (highlights place) = none_in_highlights (references_of text place true)
 answers_have_no_floats installed client text uri folding = none_in_folds (folds_of text)
 answers_have_no_floats installed client text uri formatting = none_in_layout (layout_of text)
+answers_have_no_floats installed client text uri (range_formatting range) = none_in_layout (layout_in text range)
 answers_have_no_floats installed client text uri (rename place name) = none_in_renaming uri (renaming_of text place name)
 answers_have_no_floats installed client text uri (prepare_rename place) = none_in_renamable (renamable_at text place)
 answers_have_no_floats installed client text uri (fixes range wanted) = none_in_wanted (capabilities_of client) installed text uri range wanted

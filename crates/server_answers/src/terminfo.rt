@@ -5,7 +5,7 @@ ghost use Rattle.server_answers.specs.Shown.{capabilities_of, shown_by};
 
 use crate::answering::{completion, definition, highlights, outline, references};
 use crate::fixing::fixes;
-use crate::laying::{folds, layout};
+use crate::laying::{folds, layout, part_layout};
 use crate::renaming::{renamable, renamed};
 use crate::searching::search;
 use crate::showing::{found_by, found_values, values_of};
@@ -171,6 +171,7 @@ impl HeldText for Terminfo {
             Question::Highlights(place) => highlights(alloc, &self.document, place)?,
             Question::Folding => folds(alloc, &self.document)?,
             Question::Formatting => layout(alloc, &self.document)?,
+            Question::RangeFormatting(range) => part_layout(alloc, &self.document, range)?,
             Question::Rename { place, name } => {
                 return renamed(alloc, &self.document, uri, place, name);
             }

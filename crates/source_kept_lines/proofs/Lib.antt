@@ -1,0 +1,12 @@
+pub mod Reaching
+pub mod Contents
+pub mod Rows
+pub mod Laid
+pub mod Read
+pub mod Folding
+pub mod Same
+pub mod Alike
+pub mod Blocks
+pub mod Whole
+pub mod OtherSystems
+pub mod Steps

@@ -1,0 +1,2 @@
+-- Words that only private functions and proofs use.
+pub mod Steps
