@@ -1,19 +1,14 @@
 -- What clap reads of a command line in a table: its name and its arguments in turn (own).
 use Rattle.std.specs.Prelude.{true}
 use Rattle.std.specs.List.{fold}
-use Rattle.clap.specs.Simple.{App, new_app, on_top, with_rule}
+use Rattle.clap.specs.Simple.{App, new_app, on_top}
 use Rattle.clap.specs.Walk.{Text}
-use Rattle.everyday_arguments.specs.Rules.{rule_for}
+use Rattle.tools_commands.specs.Rules.{with_argument}
 use Rattle.everyday_arguments.specs.declared.lines.CommandLine.{CommandLine}
-use Rattle.everyday_arguments.specs.declared.rules.Argument.{Argument}
 
 -- a command of that name that says its version, of which an option may be said again
 abbrev pub everyday_app : Text → App
 everyday_app name = on_top (λ top. record top { has_version = true; args_override_self = true }) (new_app name)
-
--- the command with one more argument
-abbrev pub with_argument : App → Argument → App
-with_argument app argument = with_rule app (rule_for argument)
 
 -- the command of a command line in a table
 abbrev pub app_for : CommandLine → App

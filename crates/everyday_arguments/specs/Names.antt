@@ -16,12 +16,16 @@ shown_name tool.Lint = codes "ti-lint"
 shown_name tool.Clear = codes "ti-clear"
 shown_name tool.Toe = codes "ti-toe"
 shown_name tool.Tabs = codes "ti-tabs"
+shown_name tool.Tset = codes "ti-tset"
+shown_name tool.Reset = codes "ti-reset"
 
 -- the exit status of bad usage: 2, but 1 of the tools that end with 1 in ncurses
 abbrev pub usage_status : Tool → ℕ
 usage_status tool.Clear = 1
 usage_status tool.Toe = 1
 usage_status tool.Tabs = 1
+usage_status tool.Tset = 1
+usage_status tool.Reset = 1
 usage_status t = 2
 
 -- whether a name is one of two
@@ -39,6 +43,8 @@ named_tool name =
     else if is_either (codes "ti-clear") (codes "clear") name then Some tool.Clear
     else if is_either (codes "ti-toe") (codes "toe") name then Some tool.Toe
     else if is_either (codes "ti-tabs") (codes "tabs") name then Some tool.Tabs
+    else if is_either (codes "ti-tset") (codes "tset") name then Some tool.Tset
+    else if is_either (codes "ti-reset") (codes "reset") name then Some tool.Reset
     else None
 
 -- the tool that is called by a word, which may be a path

@@ -1,13 +1,12 @@
 //! The command line of a tool, for clap: its options, its help, and what is below that.
 ghost use Rattle.std.specs.Prelude.{◌≡◌, IfOk, false};
-ghost use Rattle.std.specs.List.{fold};
 ghost use Rattle.clap.specs.Words.{app_of};
 ghost use Rattle.clap.specs.declared.builder.Command.TheViews.{out-Command as fields_of};
-ghost use Rattle.everyday_arguments.specs.Lines.{app_for, everyday_app, with_argument};
+ghost use Rattle.everyday_arguments.specs.Lines.{app_for, everyday_app};
 
-use crate::rules::Argument;
 use clap::Command;
 use std::alloc::{AllocError, Global};
+use tools_commands::{Argument, with_arguments};
 
 /// The command line of a tool.
 #[derive(Clone, Copy)]
@@ -35,22 +34,6 @@ fn described<'a>(alloc: Global, line: &CommandLine<'a>) -> Command<'a>
         .args_override_self(true)
         .about(line.about)
         .after_help(line.notes)
-}
-
-// The command with these arguments after those that it has.
-fn with_arguments<'a>(
-    alloc: Global,
-    mut command: Command<'a>,
-    arguments: &[Argument<'a>],
-) -> Result<Command<'a>, AllocError>
-    requires { (fields_of command).has_globals ≡ false }
-    ensures app { IfOk result (λ r. app_of r ≡ fold with_argument (app_of command.entry) arguments.now) }
-    ensures local { IfOk result (λ r. (fields_of r).has_globals ≡ false) }
-{
-    for argument in arguments {
-        command = command.arg(argument.to_argument(alloc))?;
-    }
-    Ok(command)
 }
 
 impl<'a> CommandLine<'a> {

@@ -24,6 +24,10 @@ pub enum Tool {
     Toe,
     /// The tool that sets tab stops.
     Tabs,
+    /// The tool that sets a terminal up.
+    Tset,
+    /// The same tool, which resets the terminal.
+    Reset,
 }
 
 impl Tool {
@@ -40,16 +44,18 @@ impl Tool {
             Tool::Clear => "ti-clear",
             Tool::Toe => "ti-toe",
             Tool::Tabs => "ti-tabs",
+            Tool::Tset => "ti-tset",
+            Tool::Reset => "ti-reset",
         }
     }
 
-    /// The exit status of bad usage: 2, but 1 of `ti-clear`, `ti-toe` and `ti-tabs`, as clear(1),
-    /// toe(1) and tabs(1) have it.
+    /// The exit status of bad usage: 2, but 1 of `ti-clear`, `ti-toe`, `ti-tabs`, `ti-tset` and
+    /// `ti-reset`, as clear(1), toe(1), tabs(1) and tset(1) have it.
     pub fn usage_status(self) -> u8
         ensures { result ≡ usage_status self }
     {
         match self {
-            Tool::Clear | Tool::Toe | Tool::Tabs => 1,
+            Tool::Clear | Tool::Toe | Tool::Tabs | Tool::Tset | Tool::Reset => 1,
             _ => 2,
         }
     }
@@ -69,6 +75,8 @@ pub fn called_tool(word: &str) -> Option<Tool>
         "ti-clear" | "clear" => Some(Tool::Clear),
         "ti-toe" | "toe" => Some(Tool::Toe),
         "ti-tabs" | "tabs" => Some(Tool::Tabs),
+        "ti-tset" | "tset" => Some(Tool::Tset),
+        "ti-reset" | "reset" => Some(Tool::Reset),
         _ => None,
     }
 }

@@ -1,15 +1,14 @@
 -- The modes that are named, looked at one after another.
 use Rattle.std.proofs.Common.{◌≡◌, Bool, true, false, List, codes, refl}
 use Rattle.clap.specs.Walk.{Row}
-use Rattle.tools_commands.specs.InfocmpWords.{modes_named}
+use Rattle.tools_commands.specs.InfocmpWords.{choice_from, choice_with, modes_named}
 use Rattle.tools_commands.specs.Matches.{is_on}
-use Rattle.tools_commands.specs.inside.Choice.{choice_from, choice_with}
-use Rattle.tools_commands.specs.declared.infocmp_words.Choice.{Choice}
-use Rattle.tools_commands.specs.declared.infocmp_words.Choice.TheVariants as choice
+use Rattle.tools_commands.specs.declared.listing.ModeChoice.{ModeChoice}
+use Rattle.tools_commands.specs.declared.listing.ModeChoice.TheVariants as choice
 use Rattle.tools_commands.specs.declared.jobs.InfocmpMode.TheVariants as mode
 
 -- the choice after each option in turn
-abbrev looked_at : Bool → Bool → Bool → Bool → Bool → Choice
+abbrev looked_at : Bool → Bool → Bool → Bool → Bool → ModeChoice
 looked_at list differ common neither relative =
     choice_with (choice_with (choice_with (choice_with (choice_with choice.Nothing
     list mode.List) differ mode.Differ) common mode.Common) neither mode.Neither) relative mode.Relative

@@ -1,5 +1,5 @@
 -- What the words after `infocmp` ask for (infocmp(1)).
-use Rattle.std.specs.Prelude.{◌≡◌, ℕ, Bool, true, not, ◌==◌, nat_le, nat_lt, if◌then◌else◌, List, [], ◌∷◌, filter, length, map, codes}
+use Rattle.std.specs.Prelude.{◌≡◌, ℕ, Bool, true, false, not, ◌==◌, nat_le, nat_lt, if◌then◌else◌, List, [], ◌∷◌, filter, length, map, codes}
 use Rattle.std.specs.Prelude.{Option, Some, None, Result, Ok, Err, unwrap_or}
 use Rattle.std.specs.Str.{bytes_eq}
 use Rattle.std.specs.Str.Parse.{digits_value, without_leading_plus}
@@ -13,6 +13,8 @@ use Rattle.tools_commands.specs.Matches.{is_on}
 use Rattle.tools_commands.specs.Names.{infocmp_name}
 use Rattle.tools_commands.specs.Rules.{Choices, choice_rule, flag_rule, number_rule, operands_rule, option_rule}
 use Rattle.tools_commands.specs.Tasks.{Task, task_infocmp}
+use Rattle.tools_commands.specs.declared.listing.ModeChoice.{ModeChoice}
+use Rattle.tools_commands.specs.declared.listing.ModeChoice.TheVariants as choice
 use Rattle.tools_commands.specs.declared.jobs.InfocmpMode.{InfocmpMode}
 use Rattle.tools_commands.specs.declared.jobs.InfocmpMode.TheVariants as mode
 use Rattle.tools_commands.specs.declared.mistakes.Mistake.{Mistake}
@@ -82,6 +84,19 @@ mode_options =
 -- the modes that are named: those of the options that are on
 abbrev pub modes_named : List Row → List InfocmpMode
 modes_named rows = map (λ o. o.1) (filter (λ o. is_on o.0 rows) mode_options)
+
+-- the modes that are named, of which two tell of a mistake
+abbrev pub choice_from : List InfocmpMode → ModeChoice
+choice_from [] = choice.Nothing
+choice_from (named ∷ []) = choice.One named
+choice_from (first ∷ second ∷ others) = choice.Two first second
+
+-- the choice once one more option is looked at
+abbrev pub choice_with : ModeChoice → Bool → InfocmpMode → ModeChoice
+choice_with held false named = held
+choice_with choice.Nothing true named = choice.One named
+choice_with (choice.One earlier) true named = choice.Two earlier named
+choice_with (choice.Two first second) true named = choice.Two first second
 
 -- whether a mode can have this number of names: without names the terminal's own is taken, by `-n`
 -- for both

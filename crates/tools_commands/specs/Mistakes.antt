@@ -26,6 +26,7 @@ mistake_text (mistake.TwoModes first second) =
     option_of first ++ codes " and " ++ option_of second ++ codes " exclude each other"
 mistake_text (mistake.TooFewNames mode.Neither) = codes "-n needs two names, or none"
 mistake_text (mistake.TooFewNames named) = option_of named ++ codes " needs two names"
+mistake_text mistake.KeepBesideOne = codes "--keep and -1 exclude each other"
 
 -- the line that standard error shows
 abbrev pub usage_line : Mistake → Text

@@ -1,6 +1,4 @@
 -- Computed forms of what the other files define by relations, and words that only private functions
 -- and proofs use.
-pub mod Rules
 pub mod Commands
-pub mod Choice
 pub mod Jobs

@@ -4,13 +4,13 @@ ghost use Rattle.std.specs.List.{fold};
 ghost use Rattle.clap.specs.Simple.{new_app};
 ghost use Rattle.clap.specs.Words.{app_of};
 ghost use Rattle.clap.specs.declared.builder.Command.TheViews.{out-Command as fields_of};
-ghost use Rattle.tools_commands.specs.inside.Commands.{app_for, choices_in, choices_of, program_app, tool_app, with_argument, with_tool};
+ghost use Rattle.tools_commands.specs.inside.Commands.{app_for, choices_in, choices_of, program_app, tool_app, with_tool};
 ghost use Rattle.tools_commands.specs.Commands.{OfProgram, ti_app};
 ghost use Rattle.tools_commands.specs.InfocmpWords.{IsOrders};
 
 use crate::infocmp_words::INFOCMP;
 use crate::names::{self, PROGRAM};
-use crate::rules::{Argument, Form};
+use crate::rules::{Argument, Form, with_arguments};
 use clap::Command;
 use std::alloc::{AllocError, Global};
 
@@ -157,22 +157,6 @@ fn described<'a>(alloc: Global, name: &'a str, about: &'a str, notes: &'a str) -
     ensures local { (fields_of result).has_globals ≡ false }
 {
     Command::new(alloc, name).about(about).after_help(notes)
-}
-
-// The command with these arguments after those that it has.
-fn with_arguments<'a>(
-    alloc: Global,
-    mut command: Command<'a>,
-    arguments: &[Argument<'a>],
-) -> Result<Command<'a>, AllocError>
-    requires { (fields_of command).has_globals ≡ false }
-    ensures app { IfOk result (λ r. app_of r ≡ fold with_argument (app_of command.entry) arguments.now) }
-    ensures local { IfOk result (λ r. (fields_of r).has_globals ≡ false) }
-{
-    for argument in arguments {
-        command = command.arg(argument.to_argument(alloc))?;
-    }
-    Ok(command)
 }
 
 impl<'a> Tool<'a> {

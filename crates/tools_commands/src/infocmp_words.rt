@@ -1,29 +1,19 @@
 //! What the words after `infocmp` are, for clap, and what they ask for.
-ghost use Rattle.std.specs.Prelude.{◌≡◌, codes, map};
-ghost use Rattle.clap.specs.Words.{first_of};
-ghost use Rattle.tools_commands.specs.InfocmpWords.{infocmp_task, infocmp_with, mode_for, modes_named, order_for, suits, width_for};
+ghost use Rattle.std.specs.Prelude.{◌≡◌, map};
+ghost use Rattle.tools_commands.specs.InfocmpWords.{choice_from, infocmp_task, infocmp_with, mode_for, suits};
 ghost use Rattle.tools_commands.specs.Matches.{matched_rows};
-ghost use Rattle.tools_commands.specs.inside.Choice.{choice_from, choice_with};
 ghost use Rattle.tools_commands.specs.inside.Jobs.{Answers};
 
 use crate::commands::Tool;
 use crate::jobs::{InfocmpMode, Job};
-use crate::matches::{is_on, text, texts, value, values};
+use crate::listing::{ModeChoice, WIDTH_MAX, WIDTH_MIN, choice_of, order_of, width_of};
+use crate::matches::{is_on, text, texts, values};
 use crate::mistakes::{Mistake, NoJob};
 use crate::names;
 use crate::rules::{Argument, Form};
 use clap::ArgMatches;
-use std::alloc::{AllocError, Global};
-use ti_list::{Layout, Order};
-
-// The width of a listing's lines if none is given.
-const WIDTH: usize = 60;
-
-// The least width that may be asked for.
-const WIDTH_MIN: usize = 20;
-
-// The greatest width that may be asked for.
-const WIDTH_MAX: usize = 4096;
+use std::alloc::Global;
+use ti_list::Layout;
 
 /// `infocmp [-I|-d|-c|-n|-u] [-1] [-w N] [-s d|i] [-A DIR] [-B DIR] [NAME..]`.
 pub(crate) const INFOCMP: Tool<'static> = Tool {
@@ -105,43 +95,6 @@ Examples:
   ti infocmp -u xterm-256color xterm",
 };
 
-/// The modes that options name.
-#[derive(Clone, Copy)]
-pub(crate) enum Choice {
-    Nothing,
-    One(InfocmpMode),
-    /// Two or more modes, of which these are the first.
-    Two(InfocmpMode, InfocmpMode),
-}
-
-impl Choice {
-    // The choice once one more option is looked at.
-    fn choose_if(self, on: bool, mode: InfocmpMode) -> Choice
-        ensures { result ≡ choice_with self on mode }
-    {
-        if !on {
-            return self;
-        }
-        match self {
-            Choice::Nothing => Choice::One(mode),
-            Choice::One(earlier) => Choice::Two(earlier, mode),
-            Choice::Two(first, second) => Choice::Two(first, second),
-        }
-    }
-}
-
-// The modes that the options name.
-fn choice_of(matches: &ArgMatches<'_>) -> Choice
-    ensures { result ≡ choice_from (modes_named (matched_rows matches.now)) }
-{
-    Choice::Nothing
-        .choose_if(is_on(matches, "list"), InfocmpMode::List)
-        .choose_if(is_on(matches, "differ"), InfocmpMode::Differ)
-        .choose_if(is_on(matches, "common"), InfocmpMode::Common)
-        .choose_if(is_on(matches, "neither"), InfocmpMode::Neither)
-        .choose_if(is_on(matches, "relative"), InfocmpMode::Relative)
-}
-
 // Whether a mode can have this number of names.
 fn suits(mode: InfocmpMode, names: usize) -> bool
     ensures { result ≡ suits mode names }
@@ -154,47 +107,15 @@ fn suits(mode: InfocmpMode, names: usize) -> bool
 }
 
 // The mode for this number of names.
-fn mode_for(choice: Choice, names: usize) -> Result<InfocmpMode, Mistake>
+fn mode_for(choice: ModeChoice, names: usize) -> Result<InfocmpMode, Mistake>
     ensures { (named : _) → choice ≡ choice_from named → result ≡ mode_for named names }
 {
     match choice {
-        Choice::Nothing if names > 1 => Ok(InfocmpMode::Differ),
-        Choice::Nothing => Ok(InfocmpMode::List),
-        Choice::One(mode) if suits(mode, names) => Ok(mode),
-        Choice::One(mode) => Err(Mistake::TooFewNames(mode)),
-        Choice::Two(first, second) => Err(Mistake::TwoModes(first, second)),
-    }
-}
-
-// The width that a text says.
-fn width_in(text: &str) -> Option<usize>
-    ensures { result ≡ width_for (Some text.now) }
-{
-    match text.parse::<usize>() {
-        Ok(width) if width >= WIDTH_MIN && width <= WIDTH_MAX => Some(width),
-        _ => None,
-    }
-}
-
-// The width that is given, or the default.
-fn width_of(matches: &ArgMatches<'_>) -> Option<usize>
-    ensures { result ≡ width_for (first_of (codes "width") (matched_rows matches.now)) }
-{
-    match value(matches, "width") {
-        Some(text) => width_in(text),
-        None => Some(WIDTH),
-    }
-}
-
-// The order that is given, or the default.
-fn order_of(matches: &ArgMatches<'_>) -> Option<Order>
-    ensures { result ≡ order_for (first_of (codes "sort") (matched_rows matches.now)) }
-{
-    match value(matches, "sort") {
-        None => Some(Order::Name),
-        Some("d") => Some(Order::Table),
-        Some("i") => Some(Order::Name),
-        Some(_) => None,
+        ModeChoice::Nothing if names > 1 => Ok(InfocmpMode::Differ),
+        ModeChoice::Nothing => Ok(InfocmpMode::List),
+        ModeChoice::One(mode) if suits(mode, names) => Ok(mode),
+        ModeChoice::One(mode) => Err(Mistake::TooFewNames(mode)),
+        ModeChoice::Two(first, second) => Err(Mistake::TwoModes(first, second)),
     }
 }
 

@@ -24,6 +24,8 @@ pub enum Mistake {
     TwoModes(InfocmpMode, InfocmpMode),
     /// Fewer names than the mode of `infocmp` compares.
     TooFewNames(InfocmpMode),
+    /// `ti-fmt` is to keep the lines of sources, and to write an item a line.
+    KeepBesideOne,
 }
 
 // The option that names a mode.
@@ -59,6 +61,7 @@ impl fmt::Display for Mistake {
                 let option = option_of(mode);
                 write!(f, "{option} needs two names")
             }
+            Mistake::KeepBesideOne => f.write_str("--keep and -1 exclude each other"),
         }
     }
 }

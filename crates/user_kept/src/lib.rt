@@ -1,4 +1,4 @@
-//! A database that keeps what was found out about the user-defined capabilities of its blocks
+//! A database that keeps what was found out about its blocks: of their user-defined capabilities
 //! (user_caps(5)), so that after an edit only what depends on it is found out anew.
 //!
 //! ```text

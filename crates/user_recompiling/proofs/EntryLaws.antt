@@ -37,7 +37,6 @@ use Rattle.user_listing.specs.Entries.{Extended}
 use Rattle.user_listing.specs.Listing.{extended_listing}
 use Rattle.user_listing.specs.RelativeSource.{extended_relative}
 use Rattle.user_values.specs.Expansion.{UserMention, first_said, expansion_by}
-use Rattle.user_values.proofs.Counting.{names_there}
 use Rattle.user_compiling.specs.Rows.{AreRowsOf}
 use Rattle.user_compiling.specs.Entries.{IsStateBy, does_resolve, HasStateBy}
 use Rattle.user_compiling.specs.ReadBack.{RowsAreUserDefined, StatesOfBlocksAreDetermined}
@@ -55,8 +54,9 @@ use Rattle.user_relisting.proofs.Related.{relative_laid_out, relative-plain}
 use Rattle.user_relisting.proofs.Telling.{can-use, has-listing, writable}
 use Rattle.user_recompiling.specs.Entries.{IsEntry, IsUsedEntry, CompilesTo, ShownEntry, listings, with_others, OwnTheirNames}
 use Rattle.user_recompiling.specs.Entries.{Relisting, RelistingAnywhere, Relistings, RelativeSource}
+use Rattle.user_recompiling.specs.Shown.{IsShown, IsShownFrom, IsUsedShown, ShownComeBack, ShownRelativeSource}
 use Rattle.user_recompiling.proofs.Blocks.{good-block}
-use Rattle.user_recompiling.proofs.SourceNames.{IsAmong, rows-among}
+use Rattle.user_recompiling.proofs.SourceNames.{rows-among}
 use Rattle.user_recompiling.proofs.UserBytes.{ContentBytes, GivesBytes, user-bytes}
 
 -- the laws of the layers below
@@ -101,18 +101,6 @@ rows-bytes known rule texts at text ms rows are stands e of_block =
 some-long : (w : List ℕ) → w ≢ [] → 0 < length w
 some-long [] some = absurd (some refl)
 some-long (x ∷ w) some = omega arith
-
--- an entry can be listed, and is that of what is shown
-pub record IsShown (bytes : List ℕ) (shown : Extended) : Type 0 where
-  pub can : CanBeListed shown
-  pub rows : AreRowsOf (said shown.rows) can.rows
-  pub is : entry shown.entry.names shown.entry.contents can.rows ≡ bytes
-  pub within : length bytes ≤ entry_limit shown.entry.contents can.rows
-
--- and its user-defined names are among those of the source of which it is
-pub record IsShownFrom (bytes : List ℕ) (shown : Extended) (texts : List (List ℕ)) : Type 0 where
-  pub is : IsShown bytes shown
-  pub names : All (IsAmong (names_there texts)) is.can.rows
 
 pub shown-from : AreKnown → (bytes : List ℕ) (shown : Extended) → (made : IsEntry bytes shown) → IsShownFrom bytes shown made.texts
 shown-from known bytes shown made =
@@ -215,6 +203,12 @@ listing-compiles known user tables rule bytes shown layout is texts =
     (becomes rule texts text bytes shown is of_tables.0 of_user.0 of_tables.1 of_user.1 read.same_field (λ c valid. ap without_cancel (of_tables.2 c valid))
     (λ name. ap without_cancel (of_user.2 name)))
 
+pub shown_come_back : AreKnown → ListingsSayTheEntry → ListingsSayTheTables → ShownComeBack
+shown_come_back known user tables rule bytes shown layout texts is =
+    let text = extended_listing shown layout in
+    let one = listing-stands known shown layout is.can in
+    (record { cut = one.cut; single = All-cons OneBlock text [] one (All-nil OneBlock) }, listing-compiles known user tables rule bytes shown layout is texts)
+
 pub relisting : AreKnown → ListingsSayTheEntry → ListingsSayTheTables → Relisting
 relisting known user tables rule bytes shown layout made =
     let is = is-shown known bytes shown made in
@@ -256,15 +250,15 @@ abbrev listing_of : Listed → List ℕ
 listing_of one = extended_listing one.0 one.1
 
 -- the first name of each of the others leads to its listing
-others-listed : AreKnown → (shown : Extended) (layout : Layout) (listed : List Listed) → All IsUsedEntry (entries_of listed) → OwnTheirNames shown layout listed
+others-listed : AreKnown → (shown : Extended) (layout : Layout) (listed : List Listed) → All IsUsedShown (entries_of listed) → OwnTheirNames shown layout listed
     → All (IsListedIn (with_others shown layout listed)) listed
 others-listed known shown layout listed used owns =
     let texts = with_others shown layout listed in
     all-from_places (IsListedIn texts) listed
     (λ i one here.
-    let use_of = All-at IsUsedEntry (entries_of listed) i one.0 used
+    let use_of = All-at IsUsedShown (entries_of listed) i one.0 used
     (slice_get-map (λ (l : Listed). l.0) listed i ∙ ap (option_map (λ (l : Listed). l.0)) here) in
-    let can = (is-shown known use_of.bytes one.0 use_of.entry).can in
+    let can = use_of.is.can in
     record {
       listed = can;
       first = record { lookup = first-lookup one.0.entry.names can.names can.listable.header; bare = use_of.bare };
@@ -274,9 +268,8 @@ others-listed known shown layout listed used owns =
 longer : (x : List ℕ) (xs : List (List ℕ)) → 0 < length (x ∷ xs)
 longer x xs = omega arith
 
-pub relative_source : AreKnown → RelativesSayTheEntryInASource → RelativesSayTheTablesInASource → RelativeSource
-relative_source known user tables rule bytes shown layout listed made used owns =
-    let is = is-shown known bytes shown made in
+pub shown_relative_source : AreKnown → RelativesSayTheEntryInASource → RelativesSayTheTablesInASource → ShownRelativeSource
+shown_relative_source known user tables rule bytes shown layout listed is used owns =
     let can = is.can in
     let others = entries_of listed in
     let texts = with_others shown layout listed in
@@ -300,3 +293,11 @@ relative_source known user tables rule bytes shown layout listed made used owns 
           (becomes rule texts text bytes shown is of_tables.0 of_user.0 of_tables.1 of_user.1 read.same_field of_tables.2
           (λ name. ap without_cancel (sym (of_user.2 name)) ∙ uncancelled-twice (first_said of_user.0 name))),
     )
+
+used-shown : AreKnown → (entries : List Extended) → All IsUsedEntry entries → All IsUsedShown entries
+used-shown known entries used =
+    All-weaker IsUsedEntry IsUsedShown (λ shown one. record { bytes = one.bytes; is = is-shown known one.bytes shown one.entry; bare = one.bare }) entries used
+
+pub relative_source : AreKnown → RelativesSayTheEntryInASource → RelativesSayTheTablesInASource → RelativeSource
+relative_source known user tables rule bytes shown layout listed made used owns =
+    shown_relative_source known user tables rule bytes shown layout listed (is-shown known bytes shown made) (used-shown known (entries_of listed) used) owns

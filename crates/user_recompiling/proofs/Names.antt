@@ -12,7 +12,7 @@ use Rattle.user_values.proofs.Counting.{Names, count_of_all, names_there, no_mor
 use Rattle.user_relisting.specs.ReadingBack.{ListingsAreRead}
 use Rattle.user_recompiling.specs.Entries.{ListingsHaveNoMoreNames}
 use Rattle.user_recompiling.proofs.EntryLaws.{AreKnown, shown-from}
-use Rattle.user_recompiling.proofs.SourceNames.{IsAmong}
+use Rattle.user_recompiling.specs.Shown.{IsAmong, ShownHaveNoMoreNames}
 
 names-said : (items : List ReadUserItem) → names_of items ≡ flat_map name_said (map (λ (item : ReadUserItem). item.said) items)
 names-said [] = refl
@@ -27,12 +27,11 @@ names-among : (names : Names) (rows : List Row) → AllByRecursion (IsAmong name
 names-among names [] all = tt
 names-among names (row ∷ rows) all = (all.0, names-among names rows all.1)
 
-pub no_more : AreKnown → ListingsAreRead → ListingsHaveNoMoreNames
-no_more known read bytes shown layout made =
+pub shown_no_more : ListingsAreRead → ShownHaveNoMoreNames
+shown_no_more read bytes shown layout texts from =
     let text = extended_listing shown layout in
-    let from = shown-from known bytes shown made in
     let can = from.is.can in
-    let names = names_there made.texts in
+    let names = names_there texts in
     let items = (user_reading_of_text text).items in
     let says_rows = (read shown can.names can.rows layout can.listable can.holds can.are_rows can.of_source).says in
     let listed : names_there (text ∷ []) ≡ map (λ (row : Row). row.0) can.rows =
@@ -41,5 +40,8 @@ no_more known read bytes shown layout made =
     let fewer = no_more_names (names_there (text ∷ [])) names
     (subst (λ (ns : Names). AllByRecursion (λ (name : List ℕ). has_name names name ≡ true) ns) (sym listed) among) in
     let a = count_of_all (text ∷ []) in
-    let b = count_of_all made.texts in
+    let b = count_of_all texts in
     omega (arith, a, b, fewer)
+
+pub no_more : AreKnown → ListingsAreRead → ListingsHaveNoMoreNames
+no_more known read bytes shown layout made = shown_no_more read bytes shown layout made.texts (shown-from known bytes shown made)

@@ -12,11 +12,8 @@ use Rattle.user_values.specs.Expansion.{UserMention, expansion_by, first_said}
 use Rattle.user_values.specs.Limit.{has_name, name_said, names_of}
 use Rattle.user_values.proofs.Counting.{Names, has-back, has-front, names_there}
 use Rattle.user_compiling.specs.Rows.{AreRowsOf}
+use Rattle.user_recompiling.specs.Shown.{IsAmong}
 use Rattle.user_compiling.proofs.Mentioned.{UserItemsHave, UserSaidHas, rows-have, user-mentions-have}
-
--- a name is among these
-abbrev pub IsAmong : Names → UserMention → Type 0
-IsAmong names m = has_name names m.0 ≡ true
 
 said-among : (names : Names) (s : UserSaid) (rest : Names) → ((name : List ℕ) → has_name (name_said s ++ rest) name ≡ true → has_name names name ≡ true)
     → UserSaidHas (IsAmong names) s

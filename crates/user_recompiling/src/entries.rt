@@ -1,5 +1,6 @@
 //! The laws of compiled entries with user-defined capabilities: they come back byte for byte.
 ghost use Rattle.user_recompiling.specs.Entries.{EntriesOfSources, ListingsHaveNoMoreNames, RelativeSource, Relisting, RelistingAnywhere, Relistings};
+ghost use Rattle.user_recompiling.specs.Shown.{EntriesAreShown, ShownComeBack, ShownHaveNoMoreNames, ShownRelativeSource};
 
 use ti_layout::laws::one_reading as entries_have_one_reading;
 
@@ -73,5 +74,32 @@ pub fn relative_sources_compile_back()
     user_compiling::laws::states_of_blocks_are_determined();
     user_relisting::items_are_blocks();
     user_relisting::items_are_read_by_the_profile();
+    user_relisting::relatives_say_the_entry_in_a_source();
+}
+
+/// A compiled entry with user-defined capabilities can be listed, and is that of what is shown. Of
+/// each such entry, of whatever it is made, the listing in any layout is a source of one block, which
+/// compiles to the entry by `-x`, byte for byte, in whatever source and by any rule; it has no more
+/// user-defined names than what is shown; and so does its relative source, with the listings of the
+/// entries that it uses.
+pub fn shown_entries_come_back()
+    ensures shown { EntriesAreShown }
+    ensures come_back { ShownComeBack }
+    ensures names { ShownHaveNoMoreNames }
+    ensures relative { ShownRelativeSource }
+{
+    ti_caps::laws::each_kind_is_in_order();
+    ti_source::laws::one_outcome();
+    ti_source::laws::one_reading();
+    ti_source::laws::each_is_well_read();
+    entries_have_one_reading();
+    user_items::laws::one_user_reading();
+    user_extension::laws::entries_are_read();
+    user_compiling::laws::rows_are_user_defined();
+    user_compiling::laws::states_of_blocks_are_determined();
+    user_relisting::items_are_blocks();
+    user_relisting::items_are_read_by_the_profile();
+    user_relisting::listings_are_read();
+    user_relisting::listings_say_the_entry();
     user_relisting::relatives_say_the_entry_in_a_source();
 }

@@ -14,5 +14,5 @@ mod entries;
 
 pub use entries::{
     listings_compile_back, relative_sources_compile_back, several_listings_compile_back,
-    sources_have_entries,
+    shown_entries_come_back, sources_have_entries,
 };

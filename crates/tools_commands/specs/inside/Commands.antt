@@ -1,13 +1,12 @@
 -- What clap reads of a tool in a table: its name and its arguments in turn (own).
 use Rattle.std.specs.Prelude.{List, [], ◌∷◌, Option, Some, None, codes, if◌then◌else◌, true}
 use Rattle.std.specs.Str.{bytes_eq}
-use Rattle.clap.specs.Simple.{App, new_app, on_top, with_rule, with_subcommand}
+use Rattle.clap.specs.Simple.{App, new_app, on_top, with_subcommand}
 use Rattle.clap.specs.Walk.{Text}
 use Rattle.tools_commands.specs.InfocmpWords.{infocmp_app}
 use Rattle.tools_commands.specs.Commands.{tic_app, session_app, tput_app}
 use Rattle.tools_commands.specs.Names.{infocmp_name, program_name, session_name, tic_name, tput_name}
-use Rattle.tools_commands.specs.Rules.{Choices}
-use Rattle.tools_commands.specs.inside.Rules.{rule_for}
+use Rattle.tools_commands.specs.Rules.{Choices, with_argument}
 use Rattle.std.specs.List.{fold}
 use Rattle.tools_commands.specs.declared.commands.Tool.{Tool}
 use Rattle.tools_commands.specs.declared.rules.Argument.{Argument}
@@ -22,10 +21,6 @@ tool_app orders name =
     else if bytes_eq name session_name then Some session_app
     else if bytes_eq name infocmp_name then Some (infocmp_app orders)
     else None
-
--- the command line with one more argument
-abbrev pub with_argument : App → Argument → App
-with_argument app argument = with_rule app (rule_for argument)
 
 -- the command line of a tool alone
 abbrev pub app_for : Tool → App

@@ -1,9 +1,9 @@
 -- each argument is after those before it
 use Rattle.std.proofs.Common.{◌∙◌, rules, sym}
 use Rattle.std.proofs.lemmas.List.Sums.{fold_more}
-use Rattle.everyday_arguments.specs.Lines.{with_argument}
-use Rattle.everyday_arguments.proofs.Added.{rule_added, still_local}
-use Rattle.everyday_arguments.proofs.lines.with_arguments.Goals as goal
+use Rattle.tools_commands.specs.Rules.{with_argument}
+use Rattle.tools_commands.proofs.Added.{rule_added, still_local}
+use Rattle.tools_commands.proofs.rules.with_arguments.Goals as goal
 
 pub loop-argument-preserved : goal.loop-argument-preserved
 loop-argument-preserved c =

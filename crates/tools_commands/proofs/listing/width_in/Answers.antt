@@ -1,7 +1,7 @@
 -- the number is within the bounds exactly if clap's test says so
 use Rattle.std.proofs.Common.{refl}
-use Rattle.everyday_arguments.proofs.Widths.{within, no_number}
-use Rattle.everyday_arguments.proofs.numbers.width_in.Goals as goal
+use Rattle.tools_commands.proofs.Widths.{within, no_number}
+use Rattle.tools_commands.proofs.listing.width_in.Goals as goal
 
 pub returns-in-Ok : goal.returns-in-Ok
 returns-in-Ok c =

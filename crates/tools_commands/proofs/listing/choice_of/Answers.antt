@@ -1,7 +1,7 @@
 -- each option is looked at in turn
 use Rattle.clap.specs.Words.{found_of, rows_of}
 use Rattle.tools_commands.proofs.Choices.{choice-named}
-use Rattle.tools_commands.proofs.infocmp_words.choice_of.Goals as goal
+use Rattle.tools_commands.proofs.listing.choice_of.Goals as goal
 
 pub returns : goal.returns
 returns c =

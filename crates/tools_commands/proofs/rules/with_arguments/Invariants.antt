@@ -2,8 +2,8 @@ use Rattle.std.proofs.Common.{◌≡◌, false, take}
 use Rattle.std.specs.List.{fold}
 use Rattle.clap.specs.Words.{app_of}
 use Rattle.clap.specs.declared.builder.Command.TheViews.{out-Command as fields_of}
-use Rattle.everyday_arguments.specs.Lines.{with_argument}
-use Rattle.everyday_arguments.proofs.lines.with_arguments.Given as goal
+use Rattle.tools_commands.specs.Rules.{with_argument}
+use Rattle.tools_commands.proofs.rules.with_arguments.Given as goal
 
 -- the arguments before are after those that the command had
 abbrev pub invariant-loop-argument : goal.invariant-loop-argument

@@ -1,7 +1,7 @@
 use Rattle.std.proofs.Common.{◌≡◌, drop}
 use Rattle.tools_commands.specs.Matches.{matched_rows}
-use Rattle.everyday_arguments.specs.Rules.{first_refused}
-use Rattle.everyday_arguments.proofs.rules.refused_option.Given as goal
+use Rattle.tools_commands.specs.Rules.{first_refused}
+use Rattle.tools_commands.proofs.rules.refused_option.Given as goal
 
 -- those before are not refused
 abbrev pub invariant-loop-argument : goal.invariant-loop-argument
