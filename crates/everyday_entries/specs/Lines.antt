@@ -11,7 +11,7 @@ use Rattle.user_extension.specs.declared.fault.ExtensionError.{ExtensionError}
 use Rattle.user_extension.specs.declared.fault.ExtensionError.TheVariants.{Entry, BadExtension}
 use Rattle.everyday_arguments.specs.Names.{shown_name}
 use Rattle.everyday_arguments.specs.declared.names.Tool.{Tool}
-use Rattle.everyday_arguments.specs.declared.names.Tool.TheVariants.{Tput, Clear, Toe, Tabs}
+use Rattle.everyday_arguments.specs.declared.names.Tool.TheVariants.{Tput, Clear, Toe, Tabs, Tset, Reset}
 use Rattle.everyday_entries.specs.declared.failure.Failure.{Failure}
 use Rattle.everyday_entries.specs.declared.failure.Failure.TheVariants.{NoName, Unknown, Absent, Unreadable, Unwritable, BadEntry, Stopped}
 
@@ -63,13 +63,15 @@ capability_head false = codes ": unknown terminfo capability '"
 abbrev pub capability_line : Tool → List ℕ → Bool → List ℕ
 capability_line tool capability known = shown_name tool ++ capability_head known ++ capability ++ codes "'\n"
 
--- the status: of `ti-clear`, `ti-toe` and `ti-tabs` 1 (clear(1), toe(1), tabs(1)); of the others 2 if no
--- terminal is named, and at bad usage; else 1, but of `ti-tput` 3 if there is no entry to be had, and 255
--- at a fault of a device
+-- the status: of `ti-clear`, `ti-toe`, `ti-tabs`, `ti-tset` and `ti-reset` 1 (clear(1), toe(1), tabs(1),
+-- tset(1)); of the others 2 if no terminal is named, and at bad usage; else 1, but of `ti-tput` 3 if there is
+-- no entry to be had, and 255 at a fault of a device
 abbrev pub status_of : Tool → Failure → ℕ
 status_of Clear failure = 1
 status_of Toe failure = 1
 status_of Tabs failure = 1
+status_of Tset failure = 1
+status_of Reset failure = 1
 status_of tool NoName = 2
 status_of tool (Stopped Usage) = 2
 status_of Tput (Stopped error) = 255

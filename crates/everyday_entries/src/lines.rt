@@ -1,7 +1,7 @@
 //! The line on standard error of a tool that stops, and the status of the process.
 ghost use Rattle.std.specs.Prelude.{◌≡◌, ◌++◌, IfOk};
 ghost use Rattle.std.specs.String.{string_bytes};
-ghost use Rattle.everyday_entries.specs.Lines.{capability_line, fault_text, line_of, refusal_name, status_of};
+ghost use Rattle.everyday_entries.specs.Lines.{capability_line, failure_text, fault_text, line_of, refusal_name, status_of};
 
 use crate::failure::Failure;
 use everyday_arguments::Tool;
@@ -67,6 +67,28 @@ fn path_text(
     Ok(text)
 }
 
+// What is said of a failure, after the name of the tool.
+fn failure_text(alloc: Global, failure: &Failure, reason: &str) -> Result<String, AllocError>
+    ensures { IfOk result (λ text. string_bytes text ≡ failure_text failure.now reason.now) }
+{
+    match failure {
+        Failure::NoName => String::from_str(alloc, "no terminal is named\n"),
+        Failure::Unknown(terminal) => { format!(in alloc; "unknown terminal \"{terminal}\"\n") }
+        Failure::Absent(path) => format!(in alloc; "{path}: No such file or directory\n"),
+        Failure::Unreadable(path) | Failure::Unwritable(path) => {
+            path_text(alloc, path.as_str(), ": ", reason, "\n")
+        }
+        Failure::BadEntry(path, why) => {
+            let why = refusal_name(*why);
+            path_text(alloc, path.as_str(), ": bad entry (", why, ")\n")
+        }
+        Failure::Stopped(error) => {
+            let fault = fault_text(error);
+            format!(in alloc; "{fault}\n")
+        }
+    }
+}
+
 /// The line for standard error on which a tool that stops says why. `reason` is what the system says
 /// of a file that could not be read or written, such as `Permission denied`.
 ///
@@ -81,26 +103,8 @@ pub fn line(
     ensures { IfOk result (λ line. string_bytes line ≡ line_of tool failure.now reason.now) }
 {
     let name = tool.name();
-    match failure {
-        Failure::NoName => format!(in alloc; "{name}: no terminal is named\n"),
-        Failure::Unknown(terminal) => {
-            format!(in alloc; "{name}: unknown terminal \"{terminal}\"\n")
-        }
-        Failure::Absent(path) => format!(in alloc; "{name}: {path}: No such file or directory\n"),
-        Failure::Unreadable(path) | Failure::Unwritable(path) => {
-            let text = path_text(alloc, path.as_str(), ": ", reason, "\n")?;
-            format!(in alloc; "{name}: {text}")
-        }
-        Failure::BadEntry(path, why) => {
-            let why = refusal_name(*why);
-            let text = path_text(alloc, path.as_str(), ": bad entry (", why, ")\n")?;
-            format!(in alloc; "{name}: {text}")
-        }
-        Failure::Stopped(error) => {
-            let fault = fault_text(error);
-            format!(in alloc; "{name}: {fault}\n")
-        }
-    }
+    let text = failure_text(alloc, failure, reason)?;
+    format!(in alloc; "{name}: {text}")
 }
 
 /// The line for standard error on a capability that is unknown, or whose string is bad.
@@ -134,14 +138,14 @@ fn tput_status(failure: &Failure) -> u8
     }
 }
 
-/// The status of the process of a tool that stops: 1 of `ti-clear`, `ti-toe` and `ti-tabs`; of the
-/// others 2 if no terminal is named, and at bad usage; else 1, but of `ti-tput` 3 if there is no entry
-/// to be had, and 255 at a fault of a device.
+/// The status of the process of a tool that stops: 1 of `ti-clear`, `ti-toe`, `ti-tabs`, `ti-tset` and
+/// `ti-reset`; of the others 2 if no terminal is named, and at bad usage; else 1, but of `ti-tput` 3 if
+/// there is no entry to be had, and 255 at a fault of a device.
 pub fn status(tool: Tool, failure: &Failure) -> u8
     ensures { result ≡ status_of tool failure.now }
 {
     match (tool, failure) {
-        (Tool::Clear | Tool::Toe | Tool::Tabs, _) => 1,
+        (Tool::Clear | Tool::Toe | Tool::Tabs | Tool::Tset | Tool::Reset, _) => 1,
         (Tool::Tput, failure) => tput_status(failure),
         (_, Failure::NoName | Failure::Stopped(ToolError::Usage)) => 2,
         _ => 1,

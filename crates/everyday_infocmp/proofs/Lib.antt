@@ -1,2 +1,4 @@
 pub mod Printing
 pub mod Files
+pub mod Breaks
+pub mod Termcaps

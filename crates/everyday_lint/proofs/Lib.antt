@@ -14,3 +14,4 @@ pub mod OtherLines
 pub mod Sentences
 pub mod Turns
 pub mod Walking
+pub mod Unread

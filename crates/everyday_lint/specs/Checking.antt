@@ -5,6 +5,8 @@ use Rattle.std.specs.Prelude.{◌≡◌, ℕ, List, [], if◌then◌else◌}
 use Rattle.source_plain.specs.Reading.{plain_source, without_mark}
 use Rattle.source_document.specs.Diagnostics.{diagnostics_by}
 use Rattle.source_remarks.specs.Remarks.{remarks_of}
+use Rattle.source_published.specs.Published.{SeenPublished, published}
+use Rattle.source_settings.specs.Settings.{SeenSettings}
 use Rattle.everyday_lint.specs.Fixing.{made}
 use Rattle.everyday_lint.specs.Offers.{OfferSeen, offers_of}
 use Rattle.everyday_lint.specs.Telling.{severities_of, told_of_all}
@@ -19,9 +21,13 @@ offers_in options text = if options.fix then offers_of options.capabilities text
 abbrev pub made_in : LintOptions → List ℕ → List OfferSeen
 made_in options source = made (without_mark source) 0 (offers_in options (plain_source source))
 
+-- what is published of the remarks on a source, by what is settled
+abbrev pub published_in : LintOptions → SeenSettings → List ℕ → List SeenPublished
+published_in options settings source = published settings (plain_source source) (remarks_of options.capabilities source)
+
 -- what is found out about a source of a file, of which this was told before: what is told are its
--- faults, with its hints among them
-pub record IsLintedSource (options : LintOptions) (file source before : List ℕ) (linted : Linted) : Type 0 where
+-- faults, with its hints among them, as they are published
+pub record IsLintedSource (options : LintOptions) (settings : SeenSettings) (file source before : List ℕ) (linted : Linted) : Type 0 where
   pub fixes : linted.fixes.items ≡ before
-  pub told : linted.told.items ≡ told_of_all options.form file (plain_source source) (remarks_of options.capabilities source)
-  pub severities : linted.severities.items ≡ severities_of (remarks_of options.capabilities source)
+  pub told : linted.told.items ≡ told_of_all options.form file (plain_source source) (published_in options settings source)
+  pub severities : linted.severities.items ≡ severities_of (published_in options settings source)

@@ -1,16 +1,21 @@
 -- What becomes of files (own).
-use Rattle.std.specs.Prelude.{◌≡◌, ◌⊎◌, ℕ, ◌+◌, Bool, true, false, List, [], ◌∷◌, ◌++◌, Option, None}
+use Rattle.std.specs.Prelude.{◌≡◌, ◌⊎◌, ℕ, ◌+◌, Bool, true, false, List, [], ◌∷◌, ◌++◌, Option, None, String, codes}
+use Rattle.std.specs.declared.alloc.Global.{Global}
 use Rattle.std.specs.String.{string_bytes}
 use Rattle.tools_devices.specs.Tree.{ChangesOnly, Files, FindsFile, Sets}
 use Rattle.source_plain.specs.Reading.{without_mark}
 use Rattle.source_plain.specs.Writing.{marked_like}
+use Rattle.source_settings.specs.Finding.{IsReadFor, IsSettled}
+use Rattle.source_settings.specs.Settings.{SeenSettings, settings_seen}
+use Rattle.source_settings.specs.declared.finding.Settled.TheVariants.{By, Unread, Wrong}
+use Rattle.source_settings.specs.declared.settings.Settings.{Settings}
 use Rattle.everyday_fmt.specs.Fates.{Held, Holds, IsReason, whole_size}
 use Rattle.everyday_lint.specs.Checking.{IsLintedSource, made_in}
 use Rattle.everyday_lint.specs.Fixing.{fix_lines, fixed_text}
 use Rattle.everyday_lint.specs.Offers.{OfferSeen}
 use Rattle.everyday_lint.specs.declared.files.Done.{Done}
 use Rattle.everyday_lint.specs.declared.files.Fate.{Fate}
-use Rattle.everyday_lint.specs.declared.files.Fate.TheVariants.{Absent, Checked, Failed}
+use Rattle.everyday_lint.specs.declared.files.Fate.TheVariants.{Absent, Checked, Failed, Unsettled}
 use Rattle.everyday_lint.specs.declared.options.LintOptions.{LintOptions}
 
 -- ---- one file
@@ -35,36 +40,68 @@ fixed_source source offers = marked_like source (fixed_text (without_mark source
 
 -- what becomes of the file at a path, of this source, in which these fixes are made: it gets the source
 -- with them, and that is what is told of; or it could not be written, and the tree says why
-abbrev pub Fixes : LintOptions → (path source : List ℕ) → List OfferSeen → Held → Held → Fate → Type 0
-Fixes options path source offers before after (Checked linted) =
-    IsLintedSource options path (fixed_source source offers) (fix_lines path (without_mark source) offers) linted
+abbrev pub Fixes : LintOptions → SeenSettings → (path source : List ℕ) → List OfferSeen → Held → Held → Fate → Type 0
+Fixes options settings path source offers before after (Checked linted) =
+    IsLintedSource options settings path (fixed_source source offers) (fix_lines path (without_mark source) offers) linted
     × Sets (path, fixed_source source offers) before.files after.files × (after.failures ≡ before.failures)
-Fixes options path source offers before after Absent = ⊥
-Fixes options path source offers before after (Failed reason) =
+Fixes options settings path source offers before after (Failed reason) =
     IsReason after.cause (string_bytes reason) × (after.failures ≡ before.failures + 1) × ChangesOnly path before.files after.files
+Fixes options settings path source offers before after fate = ⊥
 
 -- the same if there may be no fixes: then it stays as it is
-abbrev pub FixesIfSome : LintOptions → (path source : List ℕ) → List OfferSeen → Held → Held → Fate → Type 0
-FixesIfSome options path source [] before after (Checked linted) =
-    IsLintedSource options path source [] linted × (after.files ≡ before.files) × (after.failures ≡ before.failures)
-FixesIfSome options path source [] before after fate = ⊥
-FixesIfSome options path source (offer ∷ offers) before after fate = Fixes options path source (offer ∷ offers) before after fate
+abbrev pub FixesIfSome : LintOptions → SeenSettings → (path source : List ℕ) → List OfferSeen → Held → Held → Fate → Type 0
+FixesIfSome options settings path source [] before after (Checked linted) =
+    IsLintedSource options settings path source [] linted × (after.files ≡ before.files) × (after.failures ≡ before.failures)
+FixesIfSome options settings path source [] before after fate = ⊥
+FixesIfSome options settings path source (offer ∷ offers) before after fate = Fixes options settings path source (offer ∷ offers) before after fate
 
--- what becomes of the file at a path, of this source
-abbrev pub Finds : LintOptions → (path source : List ℕ) → Held → Held → Fate → Type 0
-Finds options path source before after fate = FixesIfSome options path source (made_in options source) before after fate
+-- what becomes of the file at a path, of this source, for which this is settled
+abbrev pub Finds : LintOptions → SeenSettings → (path source : List ℕ) → Held → Held → Fate → Type 0
+Finds options settings path source before after fate = FixesIfSome options settings path source (made_in options source) before after fate
+
+-- ---- what is settled
+
+-- this is settled for the source at a path
+abbrev pub SettlesFor : Option Files → List ℕ → SeenSettings → Type 0
+SettlesFor files path settings = (by_file : Settings) × IsReadFor files path (By by_file) × (settings_seen by_file ≡ settings)
+
+-- the text says that the file of settings at a path could not be read, and why
+abbrev pub SaysUnread : Option (List ℕ) → (path text : List ℕ) → Type 0
+SaysUnread cause path text = (reason : List ℕ) × IsReason cause reason × (text ≡ path ++ codes ": " ++ reason)
+
+-- that is what becomes of a source
+abbrev pub IsUnread : Option (List ℕ) → List ℕ → Fate → Type 0
+IsUnread cause path (Unsettled text) = SaysUnread cause path (string_bytes text)
+IsUnread cause path fate = ⊥
+
+-- what is settled for the source at a path is not known, and the text says why: something is wrong with the
+-- nearest file of settings, or it could not be read
+abbrev pub IsUnsettled : (path : List ℕ) → Held → Held → String Global → Type 0
+IsUnsettled path before after text =
+    (IsReadFor before.files path (Wrong text) × (after.failures ≡ before.failures))
+    ⊎ ((unread : String Global) × IsSettled before.files path before.failures after.failures (Unread unread)
+    × SaysUnread after.cause (string_bytes unread) (string_bytes text))
+
+-- what becomes of the file at a path, of this source, by what is settled for it
+abbrev pub LintsSource : LintOptions → (path source : List ℕ) → Held → Held → Fate → Type 0
+LintsSource options path source before after Absent = ⊥
+LintsSource options path source before after (Unsettled text) = (after.files ≡ before.files) × IsUnsettled path before after text
+LintsSource options path source before after fate =
+    (settings : SeenSettings) × SettlesFor before.files path settings × Finds options settings path source before after fate
+
+-- ---- the file
 
 -- what becomes of the file at a path: what is in it is told of; or it is not there, or could not be
--- read, and the tree says why
+-- read, and the tree says why; or what is settled for it is not known
 abbrev pub LintsFile : LintOptions → List ℕ → Held → Held → Fate → Type 0
 LintsFile options path before after Absent =
     FindsFile path whole_size before.files None × (after.files ≡ before.files) × (after.failures ≡ before.failures)
-LintsFile options path before after (Checked linted) =
-    (source : List ℕ) × Holds path before.files source × Finds options path source before after (Checked linted)
 LintsFile options path before after (Failed reason) =
     IsReason after.cause (string_bytes reason) × (after.failures ≡ before.failures + 1)
     × ((after.files ≡ before.files)
-    ⊎ ((source : List ℕ) × Holds path before.files source × Finds options path source before after (Failed reason)))
+    ⊎ ((source : List ℕ) × Holds path before.files source × LintsSource options path source before after (Failed reason)))
+LintsFile options path before after fate =
+    (source : List ℕ) × Holds path before.files source × LintsSource options path source before after fate
 
 -- ---- files in turn
 

@@ -1,16 +1,16 @@
 -- What comes of files, and of standard input (own).
-use Rattle.std.specs.Prelude.{◌≡◌, ℕ, ◌++◌, List, codes, count_by, flat_map, if◌then◌else◌}
-use Rattle.std.specs.List.{list_any}
+use Rattle.std.specs.Prelude.{◌≡◌, ℕ, List, [], ◌∷◌, ◌++◌, codes, count_by, flat_map}
 use Rattle.everyday_fmt.specs.Fates.{Held}
-use Rattle.source_plain.specs.Reading.{plain_source}
-use Rattle.source_remarks.specs.Remarks.{remarks_of}
-use Rattle.everyday_forms.specs.Counts.{is_bad, summary}
+use Rattle.std.specs.String.{string_bytes}
+use Rattle.source_settings.specs.Settings.{SeenSettings}
+use Rattle.everyday_forms.specs.Counts.{summary}
 use Rattle.everyday_forms.specs.Forms.{whole}
-use Rattle.everyday_lint.specs.Fates.{LintsFiles}
+use Rattle.everyday_lint.specs.Checking.{IsLintedSource}
+use Rattle.everyday_lint.specs.Fates.{IsUnsettled, LintsFiles, SettlesFor}
 use Rattle.everyday_lint.specs.Report.{is_checked, lines_of, severities_of, status_of, told_of}
-use Rattle.everyday_lint.specs.Telling.{told_of_all}
-use Rattle.everyday_lint.specs.Telling as telling
 use Rattle.everyday_lint.specs.declared.files.Done.{Done}
+use Rattle.everyday_lint.specs.declared.files.Fate.{Fate}
+use Rattle.everyday_lint.specs.declared.files.Fate.TheVariants.{Checked, Unsettled}
 use Rattle.everyday_lint.specs.declared.options.LintOptions.{LintOptions}
 use Rattle.everyday_lint.specs.declared.options.LintOutcome.{LintOutcome}
 
@@ -25,10 +25,17 @@ abbrev pub ComesOfFiles : LintOptions → List (List ℕ) → Held → Held → 
 ComesOfFiles options paths before after outcome =
     (done : List Done) × LintsFiles options paths before after done × IsOutcomeOf options done outcome
 
--- what is printed for standard input, by its faults and hints, and the status
-pub record IsOutcomeOfInput (options : LintOptions) (source : List ℕ) (outcome : LintOutcome) : Type 0 where
-  pub output : outcome.output.items
-      ≡ whole options.form (told_of_all options.form (codes "<stdin>") (plain_source source) (remarks_of options.capabilities source))
-  pub errors : outcome.errors.items ≡ summary (telling.severities_of (remarks_of options.capabilities source)) 1
-  pub status : outcome.status
-      ≡ (if list_any (is_bad options.strict) (telling.severities_of (remarks_of options.capabilities source)) then 1 else 0)
+-- ---- standard input
+
+-- what becomes of standard input, by what is settled for a file in the current directory
+abbrev pub ChecksInput : LintOptions → List ℕ → Held → Held → Fate → Type 0
+ChecksInput options source before after (Checked linted) =
+    (settings : SeenSettings) × SettlesFor before.files [] settings × IsLintedSource options settings (codes "<stdin>") source [] linted
+    × (after.files ≡ before.files)
+ChecksInput options source before after (Unsettled text) = (after.files ≡ before.files) × IsUnsettled [] before after text
+ChecksInput options source before after fate = ⊥
+
+-- what comes of it: what became of it is printed as that of a file
+abbrev pub ComesOfInput : LintOptions → List ℕ → Held → Held → LintOutcome → Type 0
+ComesOfInput options source before after outcome =
+    (done : Done) × (string_bytes done.path ≡ codes "<stdin>") × ChecksInput options source before after done.fate × IsOutcomeOf options (done ∷ []) outcome

@@ -1,6 +1,7 @@
 //! What is found out about a source.
 ghost use Rattle.source_plain.specs.Reading.{plain_source};
 ghost use Rattle.std.specs.Prelude.{◌≡◌, IfOk, map};
+ghost use Rattle.source_settings.specs.Settings.{settings_seen};
 ghost use Rattle.everyday_lint.specs.Checking.{IsLintedSource, offers_in};
 ghost use Rattle.everyday_lint.specs.Offers.{offer_seen};
 
@@ -9,7 +10,9 @@ use crate::options::LintOptions;
 use crate::telling::{severities_of, told_of_all};
 use source_document::Document;
 use source_plain::plain;
+use source_published::published_of;
 use source_remarks::{remarks_of, source_hints_in};
+use source_settings::{Allowances, Settings};
 use source_types::Severity;
 use std::alloc::{AllocError, Global};
 
@@ -38,26 +41,29 @@ pub(crate) fn document_of(alloc: Global, source: &[u8]) -> Result<Document, Allo
     Document::open(alloc, text)
 }
 
-/// What is found out about a source, of which this was told before.
+/// What is found out about a source, of which this was told before, by what is settled for it.
 ///
 /// # Errors
 /// Out of memory.
 pub(crate) fn check_source(
     alloc: Global,
     options: LintOptions,
+    settings: &Settings,
     file: &str,
     source: &[u8],
     document: &mut Document,
     fixes: Vec<u8>,
 ) -> Result<Linted, AllocError>
     requires { document.old ≡ plain_source source.now }
-    ensures linted { IfOk result (IsLintedSource options file.now source.now fixes.items) }
+    ensures linted { IfOk result (IsLintedSource options (settings_seen settings.now) file.now source.now fixes.items) }
     ensures text { document.new ≡ document.old }
 {
     let faults = document.diagnostics_by(alloc, options.capabilities)?;
     let kept = &mut Vec::new(alloc);
     let hints = source_hints_in(alloc, options.capabilities, source, document, kept)?;
-    let all = remarks_of(alloc, &faults, &hints)?;
+    let remarks = remarks_of(alloc, &faults, &hints)?;
+    let allowances = Allowances::of(alloc, document.text())?;
+    let all = published_of(alloc, settings, &allowances, &remarks)?;
     Ok(Linted {
         fixes,
         told: told_of_all(alloc, options.form, file, document.text(), &all)?,

@@ -14,7 +14,7 @@ fn told_of(done: &Done) -> &[u8]
 {
     match &done.fate {
         Fate::Checked(linted) => linted.told.as_slice(),
-        Fate::Absent | Fate::Failed(_) => b"",
+        Fate::Absent | Fate::Failed(_) | Fate::Unsettled(_) => b"",
     }
 }
 
@@ -38,7 +38,7 @@ fn severities_of(done: &Done) -> &[Severity]
 {
     match &done.fate {
         Fate::Checked(linted) => linted.severities.as_slice(),
-        Fate::Absent | Fate::Failed(_) => &[],
+        Fate::Absent | Fate::Failed(_) | Fate::Unsettled(_) => &[],
     }
 }
 
@@ -56,7 +56,7 @@ pub(crate) fn severities_of_files(alloc: Global, done: &[Done]) -> Result<Vec<Se
     Ok(severities)
 }
 
-// Adds the line of a file that could not be read or written.
+// Adds the line of a file that was not checked.
 fn push_failure(out: &mut Vec<u8>, path: &str, reason: &str) -> Result<(), AllocError>
     ensures { OnOk result (out.new.items ≡ out.old.items ++ spec.failure_line path.now reason.now) }
 {
@@ -67,19 +67,21 @@ fn push_failure(out: &mut Vec<u8>, path: &str, reason: &str) -> Result<(), Alloc
     out.extend_from_slice(b"\n")
 }
 
-// Adds the lines of a file: of the fixes that were made, or why it could not be read or written.
+// Adds the lines of a file: of the fixes that were made, or why it was not checked.
 fn push_lines(out: &mut Vec<u8>, done: &Done) -> Result<(), AllocError>
     ensures { OnOk result (out.new.items ≡ out.old.items ++ spec.lines_of done.now) }
 {
     match &done.fate {
         Fate::Checked(linted) => out.extend_from_slice(linted.fixes.as_slice()),
         Fate::Absent => push_failure(out, done.path.as_str(), "No such file or directory"),
-        Fate::Failed(reason) => push_failure(out, done.path.as_str(), reason.as_str()),
+        Fate::Failed(reason) | Fate::Unsettled(reason) => {
+            push_failure(out, done.path.as_str(), reason.as_str())
+        }
     }
 }
 
-/// The lines of files, one after another: of the fixes that were made in them, and why they could not
-/// be read or written.
+/// The lines of files, one after another: of the fixes that were made in them, and why they were not
+/// checked.
 ///
 /// # Errors
 /// Out of memory.
@@ -99,7 +101,7 @@ fn is_checked(done: &Done) -> bool
 {
     match done.fate {
         Fate::Checked(_) => true,
-        Fate::Absent | Fate::Failed(_) => false,
+        Fate::Absent | Fate::Failed(_) | Fate::Unsettled(_) => false,
     }
 }
 

@@ -3,18 +3,20 @@ ghost use Rattle.std.specs.Prelude.{◌≡◌, IfOk, OnErr, map};
 ghost use Rattle.std.specs.String.{string_bytes};
 ghost use Rattle.everyday_fmt.specs.Fates.{held};
 ghost use Rattle.everyday_lint.specs.Fates.{StopsAmong};
-ghost use Rattle.everyday_lint.specs.Tool.{ComesOfFiles, IsOutcomeOf, IsOutcomeOfInput};
+ghost use Rattle.everyday_lint.specs.Tool.{ChecksInput, ComesOfFiles, ComesOfInput, IsOutcomeOf};
 ghost use Rattle.everyday_lint.specs.Telling.{hint_lines};
 
 use crate::checking::{check_source, document_of};
-use crate::files::{Done, lint_each};
+use crate::files::{Done, Fate, lint_each, unread};
 use crate::options::{LintOptions, LintOutcome};
 use crate::report::{count_of, lines_of_files, severities_of_files, status_of, told_of_files};
 use crate::telling::told_of_all;
 use everyday_fmt::ReasonedTree;
-use everyday_forms::{Form, has_bad, push_summary, whole};
+use everyday_forms::{Form, push_summary, whole};
 use source_document::Capabilities;
+use source_published::as_they_are;
 use source_remarks::{remarks_of, source_hints_in};
+use source_settings::{Settled, settle};
 use std::alloc::{AllocError, Global};
 
 // What standard input is called.
@@ -40,8 +42,9 @@ fn outcome_of(alloc: Global, options: LintOptions, done: &[Done]) -> Result<Lint
 /// if there is no such fix. A byte order mark and line ends stay. A file that cannot be read or
 /// written is reported, and the others are still done.
 ///
-/// What is printed are the remarks of `source_remarks` on the source once the fixes are made. Each fix
-/// is a line on standard error, and so is each file that failed; the line that counts comes last.
+/// What is printed are the remarks of `source_remarks` on the source once the fixes are made, as
+/// `source_published` publishes them by what is settled for the file. A file for which that is not known
+/// is not checked. Each fix is a line on standard error, and so is each file that failed; the line that counts comes last.
 /// The status is 1 if a remark is bad, or a file was not checked, else 0.
 ///
 /// # Errors
@@ -59,39 +62,51 @@ pub fn lint_files<T: ReasonedTree>(
     outcome_of(alloc, options, &done)
 }
 
-/// Finds out what is wrong with standard input. No fix is made.
+// What becomes of standard input, by what is settled in the current directory.
+fn check_input<T: ReasonedTree>(
+    alloc: Global,
+    tree: &mut T,
+    options: LintOptions,
+    source: &[u8],
+) -> Result<Fate, AllocError>
+    ensures { IfOk result (ChecksInput options source.now (held T.files T.failures T.cause tree.old) (held T.files T.failures T.cause tree.new)) }
+{
+    match settle(alloc, tree, "")? {
+        Settled::By(settings) => {
+            let mut document = document_of(alloc, source)?;
+            let fixes = Vec::new(alloc);
+            let linted = check_source(
+                alloc,
+                options,
+                &settings,
+                STANDARD_INPUT,
+                source,
+                &mut document,
+                fixes,
+            )?;
+            Ok(Fate::Checked(linted))
+        }
+        Settled::Wrong(text) => Ok(Fate::Unsettled(text)),
+        Settled::Unread(file) => unread(alloc, tree, file.as_str()),
+    }
+}
+
+/// Finds out what is wrong with standard input, by what is settled in the current directory. No fix is
+/// made.
 ///
 /// # Errors
 /// Out of memory.
-pub fn lint_input(
+pub fn lint_input<T: ReasonedTree>(
     alloc: Global,
+    tree: &mut T,
     options: LintOptions,
-    source: Vec<u8>,
+    source: &[u8],
 ) -> Result<LintOutcome, AllocError>
-    ensures { IfOk result (IsOutcomeOfInput options source.items) }
+    ensures { IfOk result (ComesOfInput options source.now (held T.files T.failures T.cause tree.old) (held T.files T.failures T.cause tree.new)) }
 {
-    let mut document = document_of(alloc, &source)?;
-    let fixes = Vec::new(alloc);
-    let linted = check_source(
-        alloc,
-        options,
-        STANDARD_INPUT,
-        &source,
-        &mut document,
-        fixes,
-    )?;
-    let mut errors = Vec::new(alloc);
-    push_summary(alloc, &mut errors, &linted.severities, 1)?;
-    let status = if has_bad(options.strict, &linted.severities) {
-        1
-    } else {
-        0
-    };
-    Ok(LintOutcome {
-        output: whole(alloc, options.form, linted.told)?,
-        errors,
-        status,
-    })
+    let path = String::from_str(alloc, STANDARD_INPUT)?;
+    let fate = check_input(alloc, tree, options, source)?;
+    outcome_of(alloc, options, &[Done { path, fate }])
 }
 
 /// The hints on a source, by which capabilities it may have, each as a line of compilers:
@@ -110,6 +125,7 @@ pub fn hint_lines(
     let document = document_of(alloc, &source)?;
     let kept = &mut Vec::new(alloc);
     let hints = source_hints_in(alloc, capabilities, &source, &document, kept)?;
-    let all = remarks_of(alloc, &[], &hints)?;
+    let remarks = remarks_of(alloc, &[], &hints)?;
+    let all = as_they_are(alloc, &remarks)?;
     told_of_all(alloc, Form::Lines, file, document.text(), &all)
 }

@@ -1,2 +1,4 @@
 -- Lemmas of this crate.
+pub mod Listed
+pub mod Names
 pub mod WrittenFiles

@@ -1,34 +1,35 @@
 -- The files that `ti-tic -x` writes are those of blocks, and are read as what these say.
 use Rattle.std.proofs.Common.{◌≡◌, ◌+◌, ◌<◌, ◌≤◌, inl, inr, ℕ, zero, suc, Bool, true, false, cond, List, [], ◌∷◌, ◌++◌, map, length, get_or, All, Contains}
-use Rattle.std.proofs.Common.{Option, None, Some, Ok, Err, option_and_then, slice_get, flat_map, sym, ap, ◌∙◌, refl, subst, arith}
+use Rattle.std.proofs.Common.{Option, None, Some, Ok, Err, option_and_then, slice_get, flat_map, option_map, sym, ap, ◌∙◌, refl, subst, arith}
 use Rattle.std.specs.List.{AllByRecursion, range_with_len}
 use Rattle.std.specs.Option.{option_map_or}
-use Rattle.std.proofs.lemmas.List.{length-append}
-use Rattle.std.proofs.lemmas.Bool.{eq-eqb}
-use Rattle.std.proofs.lemmas.List.Elements.{All-contains_itself, All-from_recursion, All-head, All-weaker, recursion_from_All}
-use Rattle.std.proofs.lemmas.Option.{same_Some, none-some, slice_get-get_or}
+use Rattle.std.proofs.lemmas.List.Elements.{All-contains_itself, All-from_recursion, recursion_from_All}
+use Rattle.std.proofs.lemmas.Option.{same_Some, none-some, slice_get-get_or, slice_get-map}
 use Rattle.ti_source.specs.declared.parsing.Rule.TheVariants.{OwnFirst}
-use Rattle.ti_source.specs.Cutting.{EachHasCut, IsOnlyCut, OneBlock, blocks_from_head, front_of, last_byte}
+use Rattle.ti_source.specs.Cutting.{OneBlock}
 use Rattle.base_meaning.specs.Compiled.{EntryState, unresolved, oversized, written}
 use Rattle.base_meaning.specs.Owner.{readings}
 use Rattle.base_meaning.specs.OwnNames.{own_names}
 use Rattle.tools_devices.specs.Paths.{path_of}
 use Rattle.tools_devices.specs.Tree.{FileAt, Files}
 use Rattle.tools_sources.specs.EntryFiles.{entry_files, files_for, names_at}
-use Rattle.tools_sources.specs.Sources.{AreTaken, first_line, source_texts, with_last_newline}
+use Rattle.tools_sources.specs.Sources.{AreTaken, first_line, source_texts}
 use Rattle.tools_sources.specs.declared.source_error.SourceError.{SourceError}
 use Rattle.tools_sources.specs.declared.source_error.SourceError.TheVariants.{BlockTooLong, TooManyBlocks}
 use Rattle.user_base.proofs.Keeping.{zip_at}
-use Rattle.user_listing.specs.Entries.{Extended}
-use Rattle.user_listing.specs.Listing.{extended_listing}
-use Rattle.user_compiling.specs.Entries.{AreStatesBy, IsStateBy, entry_in}
-use Rattle.user_compiling.specs.ReadBack.{EntriesReadBack}
-use Rattle.user_recompiling.specs.Entries.{CompilesTo, IsEntry, Relisting, RelistingAnywhere}
+use Rattle.user_compiling.specs.Entries.{entry_in}
+use Rattle.everyday_graphics.specs.Entries.{AreWrittenStates, IsDrawnState, IsWrittenState}
+use Rattle.everyday_graphics.specs.ReadBack.{DrawnEntriesReadBack, DrawnReadsBack}
+use Rattle.everyday_names.specs.Fields.{fitted, long_field}
+use Rattle.everyday_names.specs.Laws.{FittedBlocksReadAlike, NamedEntriesRead}
+use Rattle.everyday_names.proofs.SourceLemmas.{all-fitted}
 use Rattle.everyday_sources.specs.Selection.{is_chosen}
 use Rattle.everyday_sources.specs.Used.{ProblemSeen, PutsIn, SourcesComeFirst, TakesFound, TakesName, TakesNames, TakesUsed, missing_names}
-use Rattle.everyday_tic.specs.Entries.{BecomeThese, block_files, entry_at, first_files}
+use Rattle.everyday_tic.specs.Entries.{block_files, entry_at, first_files}
+use Rattle.everyday_tic.specs.Named.{named_states}
 use Rattle.everyday_tic.specs.Outcomes.{Asked, ComesOf, ComesOfPlain, Made, refusal_of}
-use Rattle.everyday_recompiling.specs.WrittenFiles.{IsEntryFile, IsShownOf, ListedFilesComeBack, WrittenFilesAreRead, WrittenFilesCompileBack}
+use Rattle.everyday_recompiling.specs.WrittenFiles.{IsEntryFile, WrittenFilesAreRead}
+use Rattle.everyday_recompiling.proofs.Names.{IsNamedOf, named-at, read-with_names}
 
 -- ---- lists
 
@@ -94,188 +95,173 @@ was-written states at (Some unresolved) image is e = absurd (none-some image e)
 was-written states at (Some oversized) image is e = absurd (none-some image e)
 was-written states at (Some (written bytes)) image is e = is ∙ ap (λ (b : List ℕ). Some (written b)) (same_Some bytes image e)
 
-module _ (known : EntriesReadBack) (files : Option Files) (directories : List (List ℕ)) (directory source : List ℕ) (before after : ℕ) where
-  abbrev IsFile : FileAt → Type 0
-  IsFile file = IsEntryFile files directories directory source before after file
+map-length : {X Y : Type 0} (f : X → Y) (xs : List X) → length (map f xs) ≡ length xs
+map-length f [] = refl
+map-length f (x ∷ xs) = let later = map-length f xs in omega (arith, later)
 
-  module _ (texts : List (List ℕ)) (problems : List ProblemSeen) (used : TakesUsed OwnFirst true files directories (source_texts source) before after texts problems)
-      (blocks : All OneBlock texts) (others : List (List ℕ)) (first : texts ≡ source_texts source ++ others) (states : List EntryState)
-      (are : AreStatesBy OwnFirst texts states)
-    where
-      -- those of a block, one for each name that it owns
-      named : (at : ℕ) (image : List ℕ) → at < length (source_texts source) → slice_get states at ≡ Some (written image)
-          → AllByRecursion IsFile (files_for directory (own_names (readings texts) at (names_at texts at)) image)
-      named at image within state =
-          of-each IsFile (λ name. (path_of directory name, image)) names
-          (each-named names (recursion_from_All (Contains names) names (All-contains_itself names)))
-        where
-          names : List (List ℕ)
-          names = own_names (readings texts) at (names_at texts at)
+get-front : {X : Type 0} (xs ys : List X) (at : ℕ) (x : X) → slice_get xs at ≡ Some x → slice_get (xs ++ ys) at ≡ Some x
+get-front [] ys at x e = absurd (none-some x e)
+get-front (z ∷ zs) ys zero x e = e
+get-front (z ∷ zs) ys (suc at) x e = get-front zs ys at x e
 
-          low : at < length texts
-          low = omega (arith, within, ap length first, length-append (source_texts source) others)
+pick : {X : Type 0} (P : X → Type 0) (xs : List X) (at : ℕ) (x : X) → AllByRecursion P xs → slice_get xs at ≡ Some x → P x
+pick P [] at x all e = absurd (none-some x e)
+pick P (z ∷ zs) zero x all e = subst P (same_Some z x e) all.0
+pick P (z ∷ zs) (suc at) x all e = pick P zs at x all.1 e
 
-          text : List ℕ
-          text = get_or texts at []
+pub record AreNamed : Type 0 where
+  pub alike : FittedBlocksReadAlike
+  pub names : NamedEntriesRead
 
-          stands : slice_get texts at ≡ Some text
-          stands = slice_get-get_or texts at [] low
+module _ (known : DrawnEntriesReadBack) (laws : AreNamed) (draws : Bool) (files : Option Files) (directories : List (List ℕ)) (directory source : List ℕ)
+    (before after : ℕ)
+  where
+    abbrev IsFile : FileAt → Type 0
+    IsFile file = IsEntryFile draws files directories directory source before after file
 
-          is : IsStateBy OwnFirst texts text (written image)
-          is = zip_at (IsStateBy OwnFirst texts) texts states at text (written image) are stands state
+    abbrev count : ℕ
+    count = length (map fitted (source_texts source))
 
-          each-named : (ns : List (List ℕ)) → AllByRecursion (Contains names) ns → AllByRecursion (λ (name : List ℕ). IsFile (path_of directory name, image)) ns
-          each-named [] has = tt
-          each-named (name ∷ ns) has = (
-            record {
-              texts = texts;
-              problems = problems;
-              used = used;
-              blocks = blocks;
-              at = at;
-              own = within;
-              text = text;
-              stands = stands;
-              is = is;
-              name = name;
-              owned = has.0;
-              path = refl;
-              reads = known OwnFirst texts at text image blocks stands is;
-            },
-            each-named ns has.1,
-          )
+    module _ (texts : List (List ℕ)) (problems : List ProblemSeen)
+        (used : TakesUsed OwnFirst true files directories (map fitted (source_texts source)) before after texts problems)
+        (singles : AllByRecursion OneBlock (source_texts source)) (blocks : All OneBlock texts) (others : List (List ℕ))
+        (first : texts ≡ map fitted (source_texts source) ++ others) (drawn : List EntryState) (are : AreWrittenStates OwnFirst true draws texts drawn)
+      where
+        abbrev given : List EntryState
+        given = named_states (map long_field (source_texts source)) drawn
 
-      -- those of a block, none if it is not chosen or has no entry
-      of-block : (asked : Option (List ℕ)) (at : ℕ) → at < length (source_texts source) → AllByRecursion IsFile (block_files directory asked texts states at)
-      of-block asked at within = by_choice (is_chosen asked (names_at texts at)) (entry_at states at) refl
-        where
-          by_choice : (chosen : Bool) (image : Option (List ℕ)) → entry_at states at ≡ image
-              → AllByRecursion IsFile (cond chosen (option_map_or (entry_files directory texts at) image []) [])
-          by_choice false image is = tt
-          by_choice true None is = tt
-          by_choice true (Some image) is = named at image within (was-written states at (slice_get states at) image refl is)
+        -- those of a block, one for each name that it owns
+        named : (at : ℕ) (image : List ℕ) → at < count → slice_get given at ≡ Some (written image)
+            → AllByRecursion IsFile (files_for directory (own_names (readings texts) at (names_at texts at)) image)
+        named at image within state =
+            of-each IsFile (λ name. (path_of directory name, image)) names
+            (each-named names (recursion_from_All (Contains names) names (All-contains_itself names)))
+          where
+            names : List (List ℕ)
+            names = own_names (readings texts) at (names_at texts at)
 
-      -- those of the blocks of the source
-      of-blocks : (asked : Option (List ℕ)) → AllByRecursion IsFile (first_files directory asked texts states (length (source_texts source)))
-      of-blocks asked =
-          let count = length (source_texts source) in
-          each-of-each IsFile (λ at. at < count) (block_files directory asked texts states) (range_with_len 0 count) (of-block asked)
-          (below count 0 count (omega arith))
+            low : at < length (source_texts source)
+            low = subst (λ (n : ℕ). at < n) (map-length fitted (source_texts source)) within
 
-      -- none if the source is only checked
-      of-source : (check : Bool) (asked : Option (List ℕ))
-          → AllByRecursion IsFile (cond check [] (first_files directory asked texts states (length (source_texts source))))
-      of-source true asked = tt
-      of-source false asked = of-blocks asked
+            whole : List ℕ
+            whole = get_or (source_texts source) at []
+
+            there : slice_get (source_texts source) at ≡ Some (get_or (source_texts source) at [])
+            there = slice_get-get_or (source_texts source) at [] low
+
+            single : OneBlock (get_or (source_texts source) at [])
+            single = pick OneBlock (source_texts source) at (get_or (source_texts source) at []) singles there
+
+            stands : slice_get texts at ≡ Some (fitted (get_or (source_texts source) at []))
+            stands = ap (λ (ts : List (List ℕ)). slice_get ts at) first
+                ∙ get-front (map fitted (source_texts source)) others at (fitted (get_or (source_texts source) at []))
+                (slice_get-map fitted (source_texts source) at ∙ ap (option_map fitted) there)
+
+            field : slice_get (map long_field (source_texts source)) at ≡ Some (long_field (get_or (source_texts source) at []))
+            field = slice_get-map long_field (source_texts source) at ∙ ap (option_map long_field) there
+
+            found : (s : EntryState) × (slice_get drawn at ≡ Some s) × IsNamedOf (long_field (get_or (source_texts source) at [])) image s
+            found = named-at (map long_field (source_texts source)) drawn at (long_field (get_or (source_texts source) at [])) image field state
+
+            is : IsDrawnState draws OwnFirst texts (fitted (get_or (source_texts source) at [])) (written found.2.bytes)
+            is = zip_at (IsWrittenState OwnFirst true draws texts) texts drawn at (fitted (get_or (source_texts source) at [])) (written found.2.bytes) are stands
+                (found.1 ∙ ap (λ (s : EntryState). Some s) found.2.is)
+
+            reads : DrawnReadsBack draws OwnFirst texts at (fitted (get_or (source_texts source) at [])) found.2.bytes
+            reads = known draws OwnFirst texts at (fitted (get_or (source_texts source) at [])) found.2.bytes blocks stands is
+
+            each-named : (ns : List (List ℕ)) → AllByRecursion (Contains names) ns → AllByRecursion (λ (name : List ℕ). IsFile (path_of directory name, image)) ns
+            each-named [] has = tt
+            each-named (name ∷ ns) has = (
+              record {
+                texts = texts;
+                problems = problems;
+                used = used;
+                blocks = blocks;
+                at = at;
+                own = low;
+                whole = get_or (source_texts source) at [];
+                there = there;
+                single = single;
+                stands = stands;
+                bytes = found.2.bytes;
+                is = is;
+                named = found.2.named;
+                name = name;
+                owned = has.0;
+                path = refl;
+                reads = reads;
+                reads_named = read-with_names laws.alike laws.names (get_or (source_texts source) at []) found.2.bytes image reads.contents single found.2.named
+                    reads.reads reads.ends_well;
+              },
+              each-named ns has.1,
+            )
+
+        -- those of a block, none if it is not chosen or has no entry
+        of-block : (asked : Option (List ℕ)) (at : ℕ) → at < count → AllByRecursion IsFile (block_files directory asked texts given at)
+        of-block asked at within = by_choice (is_chosen asked (names_at texts at)) (entry_at given at) refl
+          where
+            by_choice : (chosen : Bool) (image : Option (List ℕ)) → entry_at given at ≡ image
+                → AllByRecursion IsFile (cond chosen (option_map_or (entry_files directory texts at) image []) [])
+            by_choice false image is = tt
+            by_choice true None is = tt
+            by_choice true (Some image) is = named at image within (was-written given at (slice_get given at) image refl is)
+
+        -- those of the blocks of the source
+        of-blocks : (asked : Option (List ℕ)) → AllByRecursion IsFile (first_files directory asked texts given count)
+        of-blocks asked =
+            each-of-each IsFile (λ at. at < count) (block_files directory asked texts given) (range_with_len 0 count) (of-block asked)
+            (below count 0 count (omega arith))
+
+        -- none if the source is only checked
+        of-source : (check : Bool) (asked : Option (List ℕ))
+            → AllByRecursion IsFile (cond check [] (first_files directory asked texts (cond check drawn given) count))
+        of-source true asked = tt
+        of-source false asked = of-blocks asked
 
 -- ---- what comes of a source
 
-abbrev AreFiles : Option Files → List (List ℕ) → List ℕ → List ℕ → ℕ → ℕ → List FileAt → Type 0
-AreFiles files directories directory source before after all = AllByRecursion (IsEntryFile files directories directory source before after) all
+abbrev AreFiles : Bool → Option Files → List (List ℕ) → List ℕ → List ℕ → ℕ → ℕ → List FileAt → Type 0
+AreFiles draws files directories directory source before after all = AllByRecursion (IsEntryFile draws files directories directory source before after) all
 
-module _ (known : EntriesReadBack) (come_first : SourcesComeFirst) (asked : Asked) (user : asked.user_defined ≡ true) (files : Option Files)
-    (directories : List (List ℕ)) (file source : List ℕ) (before after : ℕ)
+module _ (known : DrawnEntriesReadBack) (laws : AreNamed) (come_first : SourcesComeFirst) (asked : Asked) (user : asked.user_defined ≡ true)
+    (files : Option Files) (directories : List (List ℕ)) (file source : List ℕ) (before after : ℕ)
   where
     of-all : (texts : List (List ℕ)) (problems : List ProblemSeen) (made : Made) → AreTaken (source_texts source)
-        → TakesUsed OwnFirst true files directories (source_texts source) before after texts problems
-        → ComesOf OwnFirst asked file (first_line source) texts (length (source_texts source)) problems made
-        → AreFiles files directories asked.directory source before after made.files
+        → TakesUsed OwnFirst true files directories (map fitted (source_texts source)) before after texts problems
+        → ComesOf OwnFirst asked file (first_line source) (map long_field (source_texts source)) texts (length (map fitted (source_texts source))) problems made
+        → AreFiles asked.draws files directories asked.directory source before after made.files
     of-all texts problems made taken used (inl refused) =
-        subst (λ (m : Made). AreFiles files directories asked.directory source before after m.files) (sym refused.3) tt
-    of-all texts problems made taken used (inr (few, states, are, is)) =
+        subst (λ (m : Made). AreFiles asked.draws files directories asked.directory source before after m.files) (sym refused.3) tt
+    of-all texts problems made taken used (inr (few, states, are, drawn, are_drawn, is)) =
+        let singles = are-blocks (source_texts source) taken in
+        let fitted_blocks : AllByRecursion OneBlock (map fitted (source_texts source)) =
+        recursion_from_All OneBlock (map fitted (source_texts source))
+        (all-fitted laws.alike (source_texts source) (All-from_recursion OneBlock (source_texts source) singles)) in
         let blocks : AllByRecursion OneBlock texts =
-        take-names true files directories (source_texts source) (missing_names OwnFirst (source_texts source)) before after texts problems
-        (are-blocks (source_texts source) taken) used in
-        let behind = come_first OwnFirst true files directories (source_texts source) before after texts problems used in
-        let there : AreStatesBy OwnFirst texts states = subst (λ (b : Bool). BecomeThese OwnFirst b texts states) user are in
-        subst (λ (m : Made). AreFiles files directories asked.directory source before after m.files) (sym is)
-        (of-source known files directories asked.directory source before after texts problems used (All-from_recursion OneBlock texts blocks) behind.0 behind.1
-        states there asked.check asked.entries)
+        take-names true files directories (map fitted (source_texts source)) (missing_names OwnFirst (map fitted (source_texts source))) before after texts
+        problems fitted_blocks used in
+        let behind = come_first OwnFirst true files directories (map fitted (source_texts source)) before after texts problems used in
+        let there : AreWrittenStates OwnFirst true asked.draws texts drawn = subst (λ (b : Bool). AreWrittenStates OwnFirst b asked.draws texts drawn) user are_drawn in
+        subst (λ (m : Made). AreFiles asked.draws files directories asked.directory source before after m.files) (sym is)
+        (of-source known laws asked.draws files directories asked.directory source before after texts problems used singles
+        (All-from_recursion OneBlock texts blocks) behind.0 behind.1 drawn there asked.check asked.entries)
 
     of-plain : (made : Made) → ComesOfPlain asked files directories file source before after made
-        → AreFiles files directories asked.directory source before after made.files
+        → AreFiles asked.draws files directories asked.directory source before after made.files
     of-plain made (inl refused) =
-        subst (λ (m : Made). AreFiles files directories asked.directory source before after m.files) (sym refused.3) (none refused.0)
+        subst (λ (m : Made). AreFiles asked.draws files directories asked.directory source before after m.files) (sym refused.3) (none refused.0)
       where
-        none : (error : SourceError) → AreFiles files directories asked.directory source before after (refusal_of file error).files
+        none : (error : SourceError) → AreFiles asked.draws files directories asked.directory source before after (refusal_of file error).files
         none (BlockTooLong line) = tt
         none (TooManyBlocks line) = tt
     of-plain made (inr (taken, inl termcap)) =
-        subst (λ (m : Made). AreFiles files directories asked.directory source before after m.files) (sym termcap.3) tt
+        subst (λ (m : Made). AreFiles asked.draws files directories asked.directory source before after m.files) (sym termcap.3) tt
     of-plain made (inr (taken, inr (none, texts, problems, used, comes))) =
         of-all texts problems made taken
-        (subst (λ (b : Bool). TakesUsed OwnFirst b files directories (source_texts source) before after texts problems) user used) comes
+        (subst (λ (b : Bool). TakesUsed OwnFirst b files directories (map fitted (source_texts source)) before after texts problems) user used) comes
 
-pub files_are_read : EntriesReadBack → SourcesComeFirst → WrittenFilesAreRead
-files_are_read known come_first asked files directories file source before after made user comes =
-    All-from_recursion (IsEntryFile files directories asked.directory source before after) made.files
-    (of-plain known come_first asked user files directories file source before after made comes)
-
--- ---- what is listed of them
-
--- the file is an entry of which the laws of recompiling speak
-entry-of : (files : Option Files) (directories : List (List ℕ)) (directory source : List ℕ) (before after : ℕ) (file : FileAt) (shown : Extended)
-    → (is : IsEntryFile files directories directory source before after file) → IsShownOf is.texts file.1 shown → IsEntry file.1 shown
-entry-of files directories directory source before after file shown is shows = record {
-  rule = OwnFirst;
-  texts = is.texts;
-  at = is.at;
-  text = is.text;
-  blocks = is.blocks;
-  of_bytes = shows.of_bytes;
-  stands = is.stands;
-  is = is.is;
-  reads = shows.reads;
-  rows = shows.rows;
-}
-
-pub files_compile_back : Relisting → WrittenFilesCompileBack
-files_compile_back relisting files directories directory source before after file shown layout is shows =
-    let entry = entry-of files directories directory source before after file shown is shows in
-    let back = relisting OwnFirst file.1 shown layout entry in
-    (entry, back.0, back.1)
-
--- a block is a source of one block
-block-ended : (text : List ℕ) → OneBlock text → last_byte 10 text ≡ 10
-block-ended [] one = absurd one.cut.each.1
-block-ended (x ∷ xs) one = one.ends
-
-same-text : (text : List ℕ) → last_byte 10 text ≡ 10 → with_last_newline text ≡ text
-same-text text last = let is = eq-eqb (last_byte 10 text) 10 last in rw is refl
-
-one-text : EachHasCut → IsOnlyCut → (text : List ℕ) → OneBlock text → source_texts text ≡ text ∷ []
-one-text each only text one =
-    ap (λ (t : List ℕ). blocks_from_head 10 t) (same-text text (block-ended text one))
-    ∙ (only text (front_of 10 text) [] (blocks_from_head 10 text) (text ∷ []) (each text) one.cut).1
-
--- it is the only one before the others
-only-one : (texts others : List (List ℕ)) (listing text : List ℕ) (at : ℕ) → texts ≡ listing ∷ others → at < 1 → slice_get texts at ≡ Some text → text ≡ listing
-only-one texts others listing text zero is within stands = sym (same_Some listing text (sym (ap (λ (ts : List (List ℕ)). slice_get ts 0) is) ∙ stands))
-only-one texts others listing text (suc at) is within stands = absurd (omega (arith, within))
-
-same-bytes : (one other : List ℕ) → written one ≡ written other → one ≡ other
-same-bytes one other is = same_Some one other (ap entry_in is)
-
-module _ (each : EachHasCut) (only : IsOnlyCut) (come_first : SourcesComeFirst) (files : Option Files) (directories : List (List ℕ)) (directory : List ℕ)
-    (listing bytes : List ℕ) (before after : ℕ) (one : OneBlock listing) (compiles : (texts : List (List ℕ)) → CompilesTo OwnFirst texts listing bytes)
-  where
-    -- a file that comes of a listing has the bytes to which this compiles
-    comes-back : (file : FileAt) → IsEntryFile files directories directory listing before after file → file.1 ≡ bytes
-    comes-back file is =
-        let of_source : source_texts listing ≡ listing ∷ [] = one-text each only listing one in
-        let behind = come_first OwnFirst true files directories (source_texts listing) before after is.texts is.problems is.used in
-        let within : is.at < 1 = subst (λ (ts : List (List ℕ)). is.at < length ts) of_source is.own in
-        let first : is.texts ≡ listing ∷ behind.0 = behind.1 ∙ ap (λ (ts : List (List ℕ)). ts ++ behind.0) of_source in
-        let same : is.text ≡ listing = only-one is.texts behind.0 listing is.text is.at first within is.stands in
-        let state : IsStateBy OwnFirst is.texts listing (written file.1) = subst (λ (t : List ℕ). IsStateBy OwnFirst is.texts t (written file.1)) same is.is in
-        same-bytes file.1 bytes ((compiles is.texts (written file.1)).0 state)
-
-pub files_come_back : EntriesReadBack → SourcesComeFirst → EachHasCut → IsOnlyCut → Relisting → RelistingAnywhere → ListedFilesComeBack
-files_come_back known come_first each only relisting anywhere files directories directory source before after file shown layout is shows asked there places
-    name start end made user comes =
-    let entry = entry-of files directories directory source before after file shown is shows in
-    let listing = extended_listing shown layout in
-    let one : OneBlock listing = All-head OneBlock listing [] (relisting OwnFirst file.1 shown layout entry).0.single in
-    All-weaker (IsEntryFile there places asked.directory listing start end) (λ (again : FileAt). again.1 ≡ file.1)
-    (comes-back each only come_first there places asked.directory listing file.1 start end one (λ texts. anywhere OwnFirst file.1 shown layout texts entry)) made.files
-    (files_are_read known come_first asked there places name listing start end made user comes)
+pub files_are_read : DrawnEntriesReadBack → AreNamed → SourcesComeFirst → WrittenFilesAreRead
+files_are_read known laws come_first asked files directories file source before after made user comes =
+    All-from_recursion (IsEntryFile asked.draws files directories asked.directory source before after) made.files
+    (of-plain known laws come_first asked user files directories file source before after made comes)

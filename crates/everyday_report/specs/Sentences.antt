@@ -1,13 +1,15 @@
 -- The sentence of each error and warning (own): that of the language server, but for a use whose name
--- nobody has, since installed entries are searched here.
+-- nobody has, since installed entries are searched here, and for names that are too long here too.
 use Rattle.std.specs.Prelude.{ℕ, List, codes}
 use Rattle.ti_source.specs.declared.code.Code.{Code}
-use Rattle.ti_source.specs.declared.code.Code.TheVariants.{MissingUse}
+use Rattle.ti_source.specs.declared.code.Code.TheVariants.{MissingUse, NamesTooLong}
 use Rattle.source_spans.specs.Sentences as server
 
 -- what is reported about an error or a warning of the profile
 abbrev pub sentence : Code → List ℕ
 sentence MissingUse = codes "No block and no installed entry has this name. Correct it, or add the block."
+sentence NamesTooLong =
+    codes "The names up to the first comma are over 512 bytes, or over 125 without the description, or on several lines. Shorten them, or add the missing comma."
 sentence code = server.sentence code
 
 -- what is reported about an invalid value of a user-defined name

@@ -1,5 +1,4 @@
-//! What is reported about a source on standard error: a line for each fault, in the form of GNU's
-//! compilers.
+//! The report of `ti-tic` on standard error: a line for each fault, in the form of GNU's compilers.
 //!
 //! ```text
 //! mine.ti:4:9: error: cols: Invalid number. .. [E3 BadNumber]

@@ -21,6 +21,7 @@ use Rattle.everyday_sources.proofs.Finding.{left}
 use Rattle.source_plain.specs.Reading.{plain_source}
 use Rattle.everyday_sources.specs.Used.{KeepsFaults, ProblemSeen, TakesUsed, problem_seen}
 use Rattle.everyday_sources.specs.declared.problem.Problem.{Problem}
+use Rattle.everyday_names.specs.Fields.{fitted, long_field}
 use Rattle.everyday_tic.specs.Outcomes.{Asked, Comes, ComesOf, ComesOfBlocks, ComesOfPlain, made_of, termcap_refusal}
 use Rattle.everyday_tic.specs.Termcap.{IsFirstTermcap}
 use Rattle.everyday_tic.specs.declared.options.TicOutcome.{TicOutcome}
@@ -66,47 +67,49 @@ within_all texts last others count is same = omega (arith, ap length is, length-
 
 module _ {E : Type 0} (rule : Rule) (asked : Asked) (files : Option Files) (directories : List (List ℕ)) (file : List ℕ) where
   -- of blocks, by what is found for them
-  pub comes_of_all : (first count : ℕ) (texts last : List (List ℕ)) (before after : ℕ) (problems : List Problem) (result : Result TicOutcome E)
+  pub comes_of_all : (first count : ℕ) (fields : List (Option (List ℕ))) (texts last : List (List ℕ)) (before after : ℕ) (problems : List Problem) (result : Result TicOutcome E)
       → count ≡ length texts → TakesUsed rule asked.user_defined files directories texts before after last (map problem_seen problems)
-      → IfOk result (λ outcome. ComesOf rule asked file first last count (map problem_seen problems) (made_of outcome))
+      → IfOk result (λ outcome. ComesOf rule asked file first fields last count (map problem_seen problems) (made_of outcome))
       → IfOk result (λ outcome. (ts : List (List ℕ)) × (ps : List ProblemSeen)
       × TakesUsed rule asked.user_defined files directories texts before after ts ps
-      × ComesOf rule asked file first ts (length texts) ps (made_of outcome))
-  comes_of_all first count texts last before after problems (Ok outcome) many taken h = (
+      × ComesOf rule asked file first fields ts (length texts) ps (made_of outcome))
+  comes_of_all first count fields texts last before after problems (Ok outcome) many taken h = (
     last,
     map problem_seen problems,
     taken,
-    subst (λ (n : ℕ). ComesOf rule asked file first last n (map problem_seen problems) (made_of outcome)) many h,
+    subst (λ (n : ℕ). ComesOf rule asked file first fields last n (map problem_seen problems) (made_of outcome)) many h,
   )
-  comes_of_all first count texts last before after problems (Err e) many taken h = tt
+  comes_of_all first count fields texts last before after problems (Err e) many taken h = tt
 
   -- of blocks of which none is termcap
-  pub none_comes : (first : ℕ) (blocks : List (List ℕ)) (before after : ℕ) (result : Result TicOutcome E) → IsFirstTermcap blocks None
+  pub none_comes : (first : ℕ) (fields : List (Option (List ℕ))) (blocks : List (List ℕ)) (before after : ℕ) (result : Result TicOutcome E) → IsFirstTermcap blocks None
       → IfOk result (λ outcome. (ts : List (List ℕ)) × (ps : List ProblemSeen)
       × TakesUsed rule asked.user_defined files directories blocks before after ts ps
-      × ComesOf rule asked file first ts (length blocks) ps (made_of outcome))
-      → IfOk result (λ outcome. ComesOfBlocks rule asked files directories file first blocks before after (made_of outcome))
-  none_comes first blocks before after (Ok outcome) none h = inr (none, h.0, h.1, h.2, h.3)
-  none_comes first blocks before after (Err e) none h = tt
+      × ComesOf rule asked file first fields ts (length blocks) ps (made_of outcome))
+      → IfOk result (λ outcome. ComesOfBlocks rule asked files directories file first fields blocks before after (made_of outcome))
+  none_comes first fields blocks before after (Ok outcome) none h = inr (none, h.0, h.1, h.2, h.3)
+  none_comes first fields blocks before after (Err e) none h = tt
 
   -- of blocks of which one is termcap
-  pub some_comes : (first at : ℕ) (blocks : List (List ℕ)) (before after : ℕ) (result : Result TicOutcome E) → IsFirstTermcap blocks (Some at)
+  pub some_comes : (first at : ℕ) (fields : List (Option (List ℕ))) (blocks : List (List ℕ)) (before after : ℕ) (result : Result TicOutcome E) → IsFirstTermcap blocks (Some at)
       → after ≡ before
       → IfOk result (λ outcome. made_of outcome ≡ termcap_refusal file first blocks at)
-      → IfOk result (λ outcome. ComesOfBlocks rule asked files directories file first blocks before after (made_of outcome))
-  some_comes first at blocks before after (Ok outcome) is same h = inl (at, is, same, h)
-  some_comes first at blocks before after (Err e) is same h = tt
+      → IfOk result (λ outcome. ComesOfBlocks rule asked files directories file first fields blocks before after (made_of outcome))
+  some_comes first at fields blocks before after (Ok outcome) is same h = inl (at, is, same, h)
+  some_comes first at fields blocks before after (Err e) is same h = tt
 
 module _ {E : Type 0} (asked : Asked) (files : Option Files) (directories : List (List ℕ)) (file : List ℕ) where
   -- of a source that a database takes
   pub plain_comes : (rule : Rule) (source : List ℕ) (before after first : ℕ) (texts : List (List ℕ)) (result : Result TicOutcome E)
       → rule ≡ OwnFirst → texts ≡ source_texts source → AreTaken (source_texts source) → first ≡ first_line source
-      → IfOk result (λ outcome. ComesOfBlocks rule asked files directories file first texts before after (made_of outcome))
+      → IfOk result (λ outcome. ComesOfBlocks rule asked files directories file first (map long_field texts) (map fitted texts) before after (made_of outcome))
       → IfOk result (λ outcome. ComesOfPlain asked files directories file source before after (made_of outcome))
   plain_comes rule source before after first texts (Ok outcome) ruled held taken number h =
-      let by_rule = subst (λ (r : Rule). ComesOfBlocks r asked files directories file first texts before after (made_of outcome)) ruled h in
-      let by_texts = subst (λ (xs : List (List ℕ)). ComesOfBlocks OwnFirst asked files directories file first xs before after (made_of outcome)) held by_rule in
-      let by_line = subst (λ (n : ℕ). ComesOfBlocks OwnFirst asked files directories file n (source_texts source) before after (made_of outcome)) number by_texts in
+      let by_rule = subst (λ (r : Rule). ComesOfBlocks r asked files directories file first (map long_field texts) (map fitted texts) before after (made_of outcome)) ruled h in
+      let by_texts = subst (λ (xs : List (List ℕ)). ComesOfBlocks OwnFirst asked files directories file first (map long_field xs) (map fitted xs) before after (made_of outcome))
+      held by_rule in
+      let by_line = subst (λ (n : ℕ). ComesOfBlocks OwnFirst asked files directories file n (map long_field (source_texts source)) (map fitted (source_texts source))
+      before after (made_of outcome)) number by_texts in
       inr (taken, by_line)
   plain_comes rule source before after first texts (Err e) ruled held taken number h = tt
 
@@ -117,3 +120,17 @@ module _ {E : Type 0} (asked : Asked) (files : Option Files) (directories : List
   read_plain source text before after (Ok outcome) is h =
       subst (λ (t : List ℕ). ComesOfPlain asked files directories file t before after (made_of outcome)) is h
   read_plain source text before after (Err e) is h = tt
+
+-- ---- blocks with long names fields
+
+-- of blocks that are fitted
+pub fitted_comes : {E : Type 0} (rule old : Rule) (asked : Asked) (files : Option Files) (directories : List (List ℕ)) (file : List ℕ) (first before after : ℕ)
+    (fields seen : List (Option (List ℕ))) (texts blocks : List (List ℕ)) (result : Result TicOutcome E) → rule ≡ old → seen ≡ fields → blocks ≡ texts
+    → IfOk result (λ outcome. ComesOfBlocks rule asked files directories file first seen blocks before after (made_of outcome))
+    → IfOk result (λ outcome. ComesOfBlocks old asked files directories file first fields texts before after (made_of outcome))
+fitted_comes rule old asked files directories file first before after fields seen texts blocks result ruled these held h =
+    subst (λ (r : Rule). IfOk result (λ outcome. ComesOfBlocks r asked files directories file first fields texts before after (made_of outcome))) ruled
+    (subst (λ (fs : List (Option (List ℕ))).
+    IfOk result (λ outcome. ComesOfBlocks rule asked files directories file first fs texts before after (made_of outcome))) these
+    (subst (λ (ts : List (List ℕ)).
+    IfOk result (λ outcome. ComesOfBlocks rule asked files directories file first seen ts before after (made_of outcome))) held h))

@@ -1,7 +1,9 @@
 -- Lemmas of this crate.
 pub mod Becoming
 pub mod Determined
+pub mod Drawn
 pub mod Filing
 pub mod Running
 pub mod Stopping
+pub mod WholeNames
 pub mod Winning

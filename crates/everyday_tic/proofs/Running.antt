@@ -1,5 +1,5 @@
 -- What a run does, by what comes of its source and what is written of that.
-use Rattle.std.proofs.Common.{◌≡◌, ◌⊎◌, ℕ, Bool, List, Option, Result, inr, subst}
+use Rattle.std.proofs.Common.{◌≡◌, ℕ, Bool, List, Option, Result, inr, subst}
 use Rattle.tools_devices.specs.Counted.{Observed}
 use Rattle.tools_devices.specs.Tree.{Files}
 use Rattle.everyday_tic.specs.Outcomes.{Asked, ComesOfPlain, Made}

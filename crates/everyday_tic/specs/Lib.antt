@@ -2,6 +2,8 @@
 pub mod Entries
 pub mod Laws
 pub mod Messages
+pub mod Named
+pub mod Notes
 pub mod Outcomes
 pub mod Termcap
 pub mod Writing

@@ -14,8 +14,12 @@ use Rattle.tools_sources.specs.declared.source_error.SourceError.{SourceError}
 use Rattle.tools_sources.specs.declared.source_error.SourceError.TheVariants.{BlockTooLong, TooManyBlocks}
 use Rattle.user_compiling.specs.Faults.{ExtendedSourceFault, extended_faults_by, of_profile}
 use Rattle.user_values.specs.Limit.{IsOverLimitAt, name_count, name_limit}
+use Rattle.everyday_graphics.specs.Entries.{AreWrittenStates}
+use Rattle.everyday_names.specs.Fields.{fitted, long_field}
+use Rattle.everyday_tic.specs.Named.{named_states}
 use Rattle.everyday_tic.specs.Entries.{BecomeThese, entry_count, first_files}
 use Rattle.everyday_tic.specs.Messages.{problem_line, unknown_lines}
+use Rattle.everyday_tic.specs.Notes.{note_lines}
 use Rattle.everyday_tic.specs.Termcap.{IsFirstTermcap, termcap_source}
 use Rattle.everyday_report.specs.Report.{fault_lines, has_error, said}
 use Rattle.everyday_report.specs.Sentences.{too_many_names}
@@ -26,10 +30,11 @@ use Rattle.everyday_tic.specs.declared.options.TicOptions.{TicOptions}
 use Rattle.everyday_tic.specs.declared.options.TicOutcome.{TicOutcome}
 use Rattle.std.specs.Option.{option_map}
 
--- what is asked for, as plain data: whether user-defined capabilities are kept, whether the source is
--- only checked, which entries are written, and below which directory
+-- what is asked for, as plain data: whether user-defined capabilities are kept, whether line graphics
+-- are drawn, whether the source is only checked, which entries are written, and below which directory
 pub record Asked : Type 0 where
   pub user_defined : Bool
+  pub draws : Bool
   pub check : Bool
   pub entries : Option (List ℕ)
   pub directory : List ℕ
@@ -38,6 +43,7 @@ pub record Asked : Type 0 where
 abbrev pub asked_of : TicOptions → Asked
 asked_of options = record {
   user_defined = options.user_defined;
+  draws = options.draws;
   check = options.check;
   entries = option_map (λ e. e.now) options.entries;
   directory = options.directory.now;
@@ -95,46 +101,56 @@ faults_by rule false texts states = map of_profile (faults (readings_by rule tex
 abbrev pub front_lines : Asked → List (List ℕ) → ℕ → List ProblemSeen → List ℕ
 front_lines asked texts count problems = flat_map problem_line problems ++ unknown_lines texts count asked.entries
 
--- what comes of the first blocks of these, of that many, read by a rule; the others are installed
--- entries
-abbrev pub compilation : Rule → Asked → List ℕ → ℕ → List (List ℕ) → ℕ → List EntryState → List ProblemSeen → Made
-compilation rule asked file first texts count states problems = record {
-  files = if asked.check then [] else first_files asked.directory asked.entries texts states count;
-  entries = if asked.check then 0 else entry_count asked.directory asked.entries texts states count;
-  report = front_lines asked texts count problems ++ fault_lines file texts first count (faults_by rule asked.user_defined texts states);
+-- what comes of the first blocks of these, of that many, read by a rule, of which the former becomes
+-- and the latter is written; the others are installed entries
+abbrev pub compilation : Rule → Asked → List ℕ → ℕ → List (List ℕ) → ℕ → List EntryState → List EntryState → List ProblemSeen → Made
+compilation rule asked file first texts count states drawn problems = record {
+  files = if asked.check then [] else first_files asked.directory asked.entries texts drawn count;
+  entries = if asked.check then 0 else entry_count asked.directory asked.entries texts drawn count;
+  report = front_lines asked texts count problems ++ fault_lines file texts first count (faults_by rule asked.user_defined texts states)
+      ++ (if asked.check then note_lines file first texts states drawn count else []);
   status = if not (length (front_lines asked texts count problems) == 0) || has_error count (faults_by rule asked.user_defined texts states) then 1 else 0;
 }
+
+-- what is written of blocks with these names fields: a source that is only checked gets no files, and
+-- so no names
+abbrev pub written_of : Asked → List (Option (List ℕ)) → List EntryState → List EntryState
+written_of asked fields drawn = if asked.check then drawn else named_states fields drawn
 
 -- there are at most as many user-defined names as may be, if they are kept
 abbrev pub FewNames : Bool → List (List ℕ) → Type 0
 FewNames user_defined texts = user_defined ≡ true → name_count texts (length texts) ≤ name_limit
 
 -- The same of a source with the entries that it uses after it: it has one user-defined name too
--- many, or each block becomes something.
-abbrev pub ComesOf : Rule → Asked → List ℕ → ℕ → List (List ℕ) → ℕ → List ProblemSeen → Made → Type 0
-ComesOf rule asked file first texts count problems made =
+-- many, or each block becomes something, and that is written with its line graphics, and with these
+-- names fields of the first blocks, where they are too long for the profile.
+abbrev pub ComesOf : Rule → Asked → List ℕ → ℕ → List (Option (List ℕ)) → List (List ℕ) → ℕ → List ProblemSeen → Made → Type 0
+ComesOf rule asked file first fields texts count problems made =
     ((asked.user_defined ≡ true) × (at : ℕ) × IsOverLimitAt texts at × (made ≡ names_refusal file first texts at))
     ⊎ (FewNames asked.user_defined texts
     × (states : List EntryState) × BecomeThese rule asked.user_defined texts states
-    × (made ≡ compilation rule asked file first texts count states problems))
+    × (drawn : List EntryState) × AreWrittenStates rule asked.user_defined asked.draws texts drawn
+    × (made ≡ compilation rule asked file first texts count states (written_of asked fields drawn) problems))
 
--- what comes of the blocks of a source, read by a rule, the first on the line of that number: it is
--- refused if one of them is termcap
-abbrev pub ComesOfBlocks : Rule → Asked → Option Files → List (List ℕ) → List ℕ → ℕ → List (List ℕ) → ℕ → ℕ → Made → Type 0
-ComesOfBlocks rule asked files directories file first blocks before after made =
+-- what comes of the blocks of a source, read by a rule, the first on the line of that number, with
+-- these names fields: it is refused if one of them is termcap
+abbrev pub ComesOfBlocks : Rule → Asked → Option Files → List (List ℕ) → List ℕ → ℕ → List (Option (List ℕ)) → List (List ℕ) → ℕ → ℕ → Made → Type 0
+ComesOfBlocks rule asked files directories file first fields blocks before after made =
     ((at : ℕ) × IsFirstTermcap blocks (Some at) × (after ≡ before) × (made ≡ termcap_refusal file first blocks at))
     ⊎ (IsFirstTermcap blocks None × (texts : List (List ℕ)) × (problems : List ProblemSeen)
     × TakesUsed rule asked.user_defined files directories blocks before after texts problems
-    × ComesOf rule asked file first texts (length blocks) problems made)
+    × ComesOf rule asked file first fields texts (length blocks) problems made)
 
 -- What comes of a source without a mark and without CR LF, by the files of the tree and how often it
 -- failed before and after. The value of a capability is that of ncurses's tic: what a block says
--- itself decides before its uses.
+-- itself decides before its uses. A block with a names field that is too long for the profile is read
+-- with a part of it, and its entry is written with the whole field.
 abbrev pub ComesOfPlain : Asked → Option Files → List (List ℕ) → List ℕ → List ℕ → ℕ → ℕ → Made → Type 0
 ComesOfPlain asked files directories file source before after made =
     ((error : SourceError) × IsSourceRefusal source error × (after ≡ before) × (made ≡ refusal_of file error))
     ⊎ (AreTaken (source_texts source)
-    × ComesOfBlocks OwnFirst asked files directories file (first_line source) (source_texts source) before after made)
+    × ComesOfBlocks OwnFirst asked files directories file (first_line source) (map long_field (source_texts source)) (map fitted (source_texts source))
+    before after made)
 
 -- what comes of a source
 abbrev pub Comes : Asked → Option Files → List (List ℕ) → List ℕ → List ℕ → ℕ → ℕ → TicOutcome → Type 0

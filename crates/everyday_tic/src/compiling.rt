@@ -13,8 +13,9 @@ ghost use Rattle.user_values.specs.declared.fault.ValuesError.{ValuesError};
 ghost use Rattle.user_values.specs.declared.fault.ValuesError.TheVariants.{TooManyNames};
 ghost use Rattle.everyday_tic.specs.Entries.{BecomeThese, entry_count, first_files};
 ghost use Rattle.everyday_tic.specs.Messages.{unknown_lines};
+ghost use Rattle.everyday_tic.specs.Notes.{note_lines};
 ghost use Rattle.everyday_tic.specs.Outcomes as spec;
-ghost use Rattle.everyday_tic.specs.Outcomes.{Comes, ComesOf, ComesOfBlocks, ComesOfPlain, FewNames, asked_of, compilation, made_of};
+ghost use Rattle.everyday_tic.specs.Outcomes.{Comes, ComesOf, ComesOfBlocks, ComesOfPlain, FewNames, asked_of, compilation, made_of, written_of};
 ghost use Rattle.everyday_report.specs.Report as report;
 ghost use Rattle.base_meaning.specs.Readings.{readings_by};
 ghost use Rattle.base_meaning.specs.Report.{lines_before};
@@ -22,12 +23,19 @@ ghost use Rattle.std.specs.Option.{is_some};
 ghost use Rattle.base_meaning.specs.Faults as profile;
 ghost use Rattle.everyday_sources.specs.Used.{AreFaults, ProblemSeen, TakesUsed, problem_seen};
 ghost use Rattle.everyday_tic.specs.inside.Found.{AreFoundFaults};
-ghost use Rattle.everyday_tic.specs.inside.States.{states_of};
+ghost use Rattle.everyday_tic.specs.inside.States.{others_seen, over, states_of};
+ghost use Rattle.base_meaning.specs.Compiled.{EntryState};
+ghost use Rattle.everyday_graphics.specs.Entries.{AreWrittenStates};
+ghost use Rattle.everyday_names.specs.Fields.{fields_seen, fitted, long_field};
 
+use crate::drawing::drawn_entries;
 use crate::entries::{EntryFiles, entry_files};
 use crate::messages::{write_problems, write_unknowns};
+use crate::naming::written_entries;
+use crate::notes::notes;
 use crate::options::{TicOptions, TicOutcome};
 use crate::termcap::{TERMCAP_SOURCE, first_termcap};
+use everyday_names::{fit, long_fields};
 use everyday_report::{
     BLOCK_TOO_LONG, Place, TOO_MANY_BLOCKS, TOO_MANY_NAMES, write_faults, write_said,
 };
@@ -223,16 +231,18 @@ fn files_of(
     alloc: Global,
     database: &RuledDatabase,
     compiled: Option<&[Compiled]>,
+    others: &[Option<Vec<u8>>],
     count: usize,
     options: &TicOptions<'_>,
 ) -> Result<EntryFiles, AllocError>
     requires within { count ≤ length database.now.texts }
+    requires as_many { length (states_of database.now.rule database.now.texts (option_map (λ c. c.now) compiled)) ≡ length database.now.texts }
     ensures files { IfOk result (λ made. entries made.files.items
         ≡ (if options.now.check then [] else first_files options.now.directory.now (option_map (λ e. e.now) options.now.entries) database.now.texts
-        (states_of database.now.rule database.now.texts (option_map (λ c. c.now) compiled.entry)) count)) }
+        (over (states_of database.now.rule database.now.texts (option_map (λ c. c.now) compiled.entry)) (others_seen others.now)) count)) }
     ensures entries { IfOk result (λ made. made.entries
         ≡ (if options.now.check then 0 else entry_count options.now.directory.now (option_map (λ e. e.now) options.now.entries) database.now.texts
-        (states_of database.now.rule database.now.texts (option_map (λ c. c.now) compiled.entry)) count)) }
+        (over (states_of database.now.rule database.now.texts (option_map (λ c. c.now) compiled.entry)) (others_seen others.now)) count)) }
 {
     if options.check {
         return Ok(EntryFiles {
@@ -240,7 +250,7 @@ fn files_of(
             entries: 0,
         });
     }
-    entry_files(alloc, database, compiled, count, options)
+    entry_files(alloc, database, compiled, others, count, options)
 }
 
 // Appends a line for each name that was asked for and that no block of the source has.
@@ -262,7 +272,34 @@ fn write_unknown_names(
     }
 }
 
-// What comes of the first blocks, `count` of them; the others are installed entries.
+// Appends what is noted of the entries of the first blocks, `count` of them, if these are only checked.
+fn write_notes(
+    alloc: Global,
+    out: &mut Vec<u8>,
+    database: &RuledDatabase,
+    compiled: Option<&[Compiled]>,
+    others: &[Option<Vec<u8>>],
+    count: usize,
+    file: &str,
+    first_line: u64,
+    check: bool,
+) -> Result<(), AllocError>
+    requires within { count ≤ length database.now.texts }
+    requires as_many { length (states_of database.now.rule database.now.texts (option_map (λ c. c.now) compiled)) ≡ length database.now.texts }
+    requires first { first_line ≤ 9223372036854775808 }
+    ensures { OnOk result (out.new.items ≡ out.old.items ++ (if check then note_lines file.now first_line database.now.texts
+        (states_of database.now.rule database.now.texts (option_map (λ c. c.now) compiled.entry))
+        (over (states_of database.now.rule database.now.texts (option_map (λ c. c.now) compiled.entry)) (others_seen others.now)) count else [])) }
+{
+    if !check {
+        return Ok(());
+    }
+    let lines = notes(alloc, database, compiled, others, count, file, first_line)?;
+    out.extend_from_slice(&lines)
+}
+
+// What comes of the first blocks, `count` of them, with other entries in the places of some; the other
+// blocks are installed entries.
 fn outcome(
     alloc: Global,
     file: &str,
@@ -271,6 +308,7 @@ fn outcome(
     count: usize,
     used: UsedEntries,
     compiled: Option<&[Compiled]>,
+    others: &[Option<Vec<u8>>],
     options: &TicOptions<'_>,
 ) -> Result<TicOutcome, AllocError>
     requires within { count ≤ length database.now.texts }
@@ -280,7 +318,9 @@ fn outcome(
     requires kept { options.now.user_defined ≡ is_some compiled }
     ensures { IfOk result (λ outcome. made_of outcome
         ≡ compilation database.now.rule (asked_of options.now) file.now first_line database.now.texts count
-        (states_of database.now.rule database.now.texts (option_map (λ c. c.now) compiled.entry)) (map problem_seen used.problems.items)) }
+        (states_of database.now.rule database.now.texts (option_map (λ c. c.now) compiled.entry))
+        (over (states_of database.now.rule database.now.texts (option_map (λ c. c.now) compiled.entry)) (others_seen others.now))
+        (map problem_seen used.problems.items)) }
 {
     let UsedEntries { problems, faults } = used;
     let faults = faults_of(alloc, database, compiled, faults)?;
@@ -297,7 +337,20 @@ fn outcome(
         file,
         first_line,
     )?;
-    let EntryFiles { files, entries } = files_of(alloc, database, compiled, count, options)?;
+    write_notes(
+        alloc,
+        &mut report,
+        database,
+        compiled,
+        others,
+        count,
+        file,
+        first_line,
+        options.check,
+    )?;
+    let EntryFiles { files, entries } = files_of(
+        alloc, database, compiled, others, count, options,
+    )?;
     Ok(TicOutcome {
         files,
         entries,
@@ -362,11 +415,44 @@ fn slice_of(compiled: &Option<Vec<Compiled>>) -> Option<&[Compiled]>
     }
 }
 
-// What comes of these blocks, of which the first, `count` of them, are those of the source.
+// What comes of these blocks, of which this becomes, with these names fields of the first.
+fn draw_all(
+    alloc: Global,
+    file: &str,
+    first_line: u64,
+    fields: &[Option<Vec<u8>>],
+    database: &RuledDatabase,
+    count: usize,
+    used: UsedEntries,
+    compiled: Option<&[Compiled]>,
+    options: &TicOptions<'_>,
+) -> Result<TicOutcome, AllocError>
+    requires within { count ≤ length database.now.texts }
+    requires found { AreFoundFaults database.now.rule database.now.texts used.faults }
+    requires states { BecomeThese database.now.rule options.now.user_defined database.now.texts (states_of database.now.rule database.now.texts (option_map (λ c. c.now) compiled)) }
+    requires as_many { length (states_of database.now.rule database.now.texts (option_map (λ c. c.now) compiled)) ≡ length database.now.texts }
+    requires first { first_line ≤ 9223372036854775808 }
+    requires kept { options.now.user_defined ≡ is_some compiled }
+    ensures { IfOk result (λ outcome. (drawn : List EntryState)
+        × AreWrittenStates database.now.rule options.now.user_defined options.now.draws database.now.texts drawn
+        × (made_of outcome ≡ compilation database.now.rule (asked_of options.now) file.now first_line database.now.texts count
+        (states_of database.now.rule database.now.texts (option_map (λ c. c.now) compiled.entry))
+        (written_of (asked_of options.now) (fields_seen fields.now) drawn) (map problem_seen used.problems.items))) }
+{
+    let others = drawn_entries(alloc, database, compiled, options.draws)?;
+    let written = written_entries(alloc, database, compiled, others, fields, options.check)?;
+    outcome(
+        alloc, file, first_line, database, count, used, compiled, &written, options,
+    )
+}
+
+// What comes of these blocks, of which the first, `count` of them, are those of the source, with these
+// names fields.
 fn compile_all(
     alloc: Global,
     file: &str,
     first_line: u64,
+    fields: &[Option<Vec<u8>>],
     database: &RuledDatabase,
     count: usize,
     used: UsedEntries,
@@ -375,13 +461,14 @@ fn compile_all(
     requires within { count ≤ length database.now.texts }
     requires found { AreFoundFaults database.now.rule database.now.texts used.faults }
     requires first { first_line ≤ 9223372036854775808 }
-    ensures { IfOk result (λ outcome. ComesOf database.now.rule (asked_of options.now) file.now first_line database.now.texts count (map problem_seen used.problems.items) (made_of outcome)) }
+    ensures { IfOk result (λ outcome. ComesOf database.now.rule (asked_of options.now) file.now first_line (fields_seen fields.now) database.now.texts count (map problem_seen used.problems.items) (made_of outcome)) }
 {
     match compile_if(alloc, database, options.user_defined) {
-        Ok(compiled) => outcome(
+        Ok(compiled) => draw_all(
             alloc,
             file,
             first_line,
+            fields,
             database,
             count,
             used,
@@ -392,13 +479,15 @@ fn compile_all(
     }
 }
 
-// What comes of blocks of terminfo source, of which the first begins on the line of that number.
+// What comes of blocks of terminfo source, of which the first begins on the line of that number, with
+// these names fields.
 fn compile_terminfo<T: Tree>(
     alloc: Global,
     tree: &mut T,
     directories: &[String],
     file: &str,
     first_line: u64,
+    fields: &[Option<Vec<u8>>],
     database: RuledDatabase,
     options: &TicOptions<'_>,
 ) -> Result<TicOutcome, AllocError>
@@ -406,7 +495,7 @@ fn compile_terminfo<T: Tree>(
     ensures comes { IfOk result (λ outcome. (texts : List (List ℕ)) × (problems : List ProblemSeen)
         × TakesUsed database.rule options.now.user_defined (T.files tree.old) (map string_bytes directories.now) database.texts
         (T.failures tree.old) (T.failures tree.new) texts problems
-        × ComesOf database.rule (asked_of options.now) file.now first_line texts (length database.texts) problems (made_of outcome)) }
+        × ComesOf database.rule (asked_of options.now) file.now first_line (fields_seen fields.now) texts (length database.texts) problems (made_of outcome)) }
     ensures kept { T.files tree.new ≡ T.files tree.old }
 {
     // A law, with no code: the blocks of the source come first.
@@ -420,22 +509,26 @@ fn compile_terminfo<T: Tree>(
         &mut database,
         options.user_defined,
     )?;
-    compile_all(alloc, file, first_line, &database, count, used, options)
+    compile_all(
+        alloc, file, first_line, fields, &database, count, used, options,
+    )
 }
 
-// What comes of the blocks of a source, of which the first begins on the line of that number.
+// What comes of the blocks of a source, of which the first begins on the line of that number, with
+// these names fields.
 fn compile_blocks<T: Tree>(
     alloc: Global,
     tree: &mut T,
     directories: &[String],
     file: &str,
     first_line: u64,
+    fields: &[Option<Vec<u8>>],
     database: RuledDatabase,
     options: &TicOptions<'_>,
 ) -> Result<TicOutcome, AllocError>
     requires first { first_line ≤ 9223372036854775808 }
     ensures comes { IfOk result (λ outcome. ComesOfBlocks database.rule (asked_of options.now) (T.files tree.old) (map string_bytes directories.now) file.now first_line
-        database.texts (T.failures tree.old) (T.failures tree.new) (made_of outcome)) }
+        (fields_seen fields.now) database.texts (T.failures tree.old) (T.failures tree.new) (made_of outcome)) }
     ensures kept { T.files tree.new ≡ T.files tree.old }
 {
     match first_termcap(&database) {
@@ -454,10 +547,41 @@ fn compile_blocks<T: Tree>(
             directories,
             file,
             first_line,
+            fields,
             database,
             options,
         ),
     }
+}
+
+// What comes of the blocks of a source, of which the first begins on the line of that number: those with
+// names fields that are too long for the profile are read with a part of them.
+fn compile_fitted<T: Tree>(
+    alloc: Global,
+    tree: &mut T,
+    directories: &[String],
+    file: &str,
+    first_line: u64,
+    database: RuledDatabase,
+    options: &TicOptions<'_>,
+) -> Result<TicOutcome, AllocError>
+    requires first { first_line ≤ 9223372036854775808 }
+    ensures comes { IfOk result (λ outcome. ComesOfBlocks database.rule (asked_of options.now) (T.files tree.old) (map string_bytes directories.now) file.now first_line
+        (map long_field database.texts) (map fitted database.texts) (T.failures tree.old) (T.failures tree.new) (made_of outcome)) }
+    ensures kept { T.files tree.new ≡ T.files tree.old }
+{
+    let fields = long_fields(alloc, &database)?;
+    let database = fit(alloc, database, &fields)?;
+    compile_blocks(
+        alloc,
+        tree,
+        directories,
+        file,
+        first_line,
+        &fields,
+        database,
+        options,
+    )
 }
 
 // What comes of a source that has neither a mark in front nor lines that end in CR LF.
@@ -476,7 +600,7 @@ fn compile_plain<T: Tree>(
     match database_by(alloc, Rule::OwnFirst, source) {
         Ok(database) => {
             let first = first_line(source) as u64;
-            compile_blocks(alloc, tree, directories, file, first, database, options)
+            compile_fitted(alloc, tree, directories, file, first, database, options)
         }
         // What is wrong with the source comes before out of memory.
         Err(_) => refused_source(alloc, file, source),
@@ -490,7 +614,8 @@ fn compile_plain<T: Tree>(
 /// wherever its uses are, and the last of it; else the first of its uses that says something.
 ///
 /// A byte order mark in front and the CR of lines that end in CR LF are left out, and a missing
-/// newline at the end is added. The entry of a name that an item uses and that no block has is
+/// newline at the end is added. A names field of up to 512 bytes is taken, if its names have at most
+/// 125. The entry of a name that an item uses and that no block has is
 /// looked for in the tree, in the directories, and is a further block at the end, which is neither
 /// written nor reported. `file` is what the source is called in the report.
 ///

@@ -6,6 +6,9 @@ use tools_devices::File;
 pub struct TicOptions<'a> {
     /// `-x`: user-defined capabilities are kept.
     pub user_defined: bool,
+    /// An entry whose block has `smacs` and `rmacs` and lacks `acsc` gets that of a VT100; not with
+    /// `-U` or `-N`.
+    pub draws: bool,
     /// `-c`: only report, and give no file.
     pub check: bool,
     /// `-e`: the names, between commas, of the entries that are written; all are if it is `None`.

@@ -40,7 +40,7 @@ pub use asked::needs_extension;
 pub use clearing::{ClearError, Cleared, clear};
 pub use entry::Entry;
 pub use running::{Ending, Stop, Until, tput};
-pub use sizes::{Sources, column_count};
+pub use sizes::{Sources, column_count, line_count};
 pub use streaming::{LinesEnding, tput_lines};
 pub use strings::BAD_COMMAND;
 pub use target::{StartFile, Target};

@@ -84,7 +84,7 @@ pub fn column_count(is_named: bool, sources: &Sources<'_>, view: &View<'_>) -> u
 
 /// How many lines there are: by the variable `LINES`, unless the terminal is named by `-T`; by the
 /// window; by the entry; else 24.
-pub(crate) fn line_count(is_named: bool, sources: &Sources<'_>, view: &View<'_>) -> u32
+pub fn line_count(is_named: bool, sources: &Sources<'_>, view: &View<'_>) -> u32
     ensures { result ≡ line_count is_named (sources_of sources.now) (entry_seen view.now) }
 {
     size(is_named, sources, table_number(view, b"lines"), USUAL_LINES)

@@ -30,6 +30,8 @@ is_tool_simple lists tool.Lint = refl
 is_tool_simple lists tool.Clear = refl
 is_tool_simple lists tool.Toe = refl
 is_tool_simple lists tool.Tabs = refl
+is_tool_simple lists tool.Tset = refl
+is_tool_simple lists tool.Reset = refl
 
 is_tool_free : (lists : Lists) (t : Tool) → is_simple_and_free (tool_app lists t) ≡ true
 unfolding tool_app
@@ -41,6 +43,8 @@ is_tool_free lists tool.Lint = refl
 is_tool_free lists tool.Clear = refl
 is_tool_free lists tool.Toe = refl
 is_tool_free lists tool.Tabs = refl
+is_tool_free lists tool.Tset = refl
+is_tool_free lists tool.Reset = refl
 
 pub asked-matches : (t : Tool) (app : App) (words : List Text) (matches : ArgMatches) (lists : Lists) → app ≡ tool_app lists t
     → HasMatchesOf app words matches → asked_by t (matched_rows matches) ≡ asked_of t (tool_app lists t) words

@@ -1,6 +1,6 @@
 -- What the words of a command line ask of a tool: what the matches of clap for the words mean, or
 -- what is wrong with them. (tic(1), infocmp(1), tput(1); the messages are own)
-use Rattle.std.specs.Prelude.{◌≡◌, ◌≢◌, ◌⊎◌, ℕ, ◌++◌, List, [], codes, true, Option, Some, None, Result, Ok, Err}
+use Rattle.std.specs.Prelude.{◌≡◌, ◌≢◌, ◌⊎◌, ℕ, ◌++◌, List, [], codes, true, false, Option, Some, None, Result, Ok, Err}
 use Rattle.std.specs.String.{string_bytes}
 use Rattle.clap.specs.Faults.{fault_of}
 use Rattle.clap.specs.Kinds.{IsAmong}
@@ -15,7 +15,7 @@ use Rattle.everyday_words.specs.ClearWords.{clear_asked}
 use Rattle.everyday_words.specs.Commands.{OfTool}
 use Rattle.everyday_words.specs.FmtWords.{fmt_asked}
 use Rattle.everyday_words.specs.Foreign.{refused_option, unsupported_text}
-use Rattle.everyday_words.specs.InfocmpWords.{infocmp_asked}
+use Rattle.everyday_words.specs.InfocmpWords.{conflict, infocmp_asked}
 use Rattle.everyday_words.specs.LintWords.{lint_asked}
 use Rattle.everyday_arguments.specs.Names.{shown_name}
 use Rattle.everyday_words.specs.Requests.{Wanted, wanted_of}
@@ -23,6 +23,7 @@ use Rattle.everyday_words.specs.TabsWords.{tabs_asked}
 use Rattle.everyday_words.specs.TicWords.{tic_asked}
 use Rattle.everyday_words.specs.ToeWords.{toe_asked}
 use Rattle.everyday_words.specs.TputWords.{tput_asked}
+use Rattle.everyday_words.specs.TsetWords.{tset_asked}
 use Rattle.everyday_words.specs.declared.arguments.Refusal.{Refusal}
 use Rattle.everyday_words.specs.declared.arguments.Refusal.TheVariants.{Usage, Text as Shown, Memory}
 use Rattle.everyday_arguments.specs.declared.names.Tool.{Tool}
@@ -43,6 +44,8 @@ supported_asked tool.Lint rows = lint_asked rows
 supported_asked tool.Clear rows = Ok (clear_asked rows)
 supported_asked tool.Toe rows = Ok (toe_asked rows)
 supported_asked tool.Tabs rows = Ok (tabs_asked rows)
+supported_asked tool.Tset rows = Ok (tset_asked false rows)
+supported_asked tool.Reset rows = Ok (tset_asked true rows)
 
 -- a mistake as a sentence
 abbrev pub in_words : Result Wanted Mistake → Asked
@@ -54,9 +57,19 @@ abbrev pub unless_refused : Option Text → Asked → Asked
 unless_refused None asked = asked
 unless_refused (Some letter) asked = Err (unsupported_text letter)
 
+-- what is wrong with options of a tool that do not go together, if they are there
+abbrev pub conflict_of : Tool → List Row → Option Text
+conflict_of tool.Infocmp rows = conflict rows
+conflict_of _ rows = None
+
+-- what is asked for, unless this is wrong
+abbrev pub unless_conflict : Option Text → Asked → Asked
+unless_conflict None asked = asked
+unless_conflict (Some sentence) asked = Err sentence
+
 -- what is asked of a tool with these matches
 abbrev pub asked_by : Tool → List Row → Asked
-asked_by t rows = unless_refused (refused_option t rows) (in_words (supported_asked t rows))
+asked_by t rows = unless_refused (refused_option t rows) (unless_conflict (conflict_of t rows) (in_words (supported_asked t rows)))
 
 -- what the words ask of a tool, by its command line
 abbrev pub asked_of : Tool → App → List Text → Asked

@@ -7,7 +7,7 @@ use Rattle.tools_commands.specs.Commands.{rate_max}
 use Rattle.tools_commands.specs.InfocmpWords.{IsOrders, first_mode_rules, layout_rules, name_rules, other_mode_rules, width_max, width_min}
 use Rattle.tools_commands.specs.Rules.{Choices, flag_rule, long_number_rule, number_rule, operand_rule, operands_rule, option_rule}
 use Rattle.everyday_arguments.specs.Lines.{everyday_app}
-use Rattle.everyday_arguments.specs.Rules.{long_choice_rule, long_flag_rule}
+use Rattle.tools_commands.specs.Rules.{long_choice_rule, long_flag_rule}
 use Rattle.everyday_words.specs.Foreign.{with_foreign}
 use Rattle.everyday_arguments.specs.declared.names.Tool.{Tool}
 use Rattle.everyday_arguments.specs.declared.names.Tool.TheVariants as tool
@@ -31,10 +31,22 @@ tic_app = with_rule (with_rule (with_rule (with_rule tic_flags_app
 abbrev pub infocmp_flag_app : App
 infocmp_flag_app = with_rule (everyday_app (codes "ti-infocmp")) (flag_rule (codes "user") (byte_of "x"))
 
--- `ti-infocmp [-x] [-I|-d|-c|-n|-u] [-1] [-w N] [-s d|i] [-D] [-A DIR] [-B DIR] [NAME..]`
+-- the options for termcap's form
+abbrev pub termcap_rules : App → App
+termcap_rules app = with_rule (with_rule app (flag_rule (codes "termcap") (byte_of "C"))) (flag_rule (codes "unlimited") (byte_of "T"))
+
+-- the options for C
+abbrev pub initializer_rules : App → App
+initializer_rules app = with_rule (with_rule app (flag_rule (codes "tables") (byte_of "E"))) (flag_rule (codes "structure") (byte_of "e"))
+
+-- the option for one line
+abbrev pub joined_rule : App → App
+joined_rule app = with_rule app (flag_rule (codes "joined") (byte_of "0"))
+
+-- `ti-infocmp [-x] [-I|-d|-c|-n|-u] [-C] [-T] [-E] [-e] [-0] [-1] [-w N] [-s d|i] [-D] [-A DIR] [-B DIR] [NAME..]`
 abbrev pub infocmp_app : Choices → App
 infocmp_app orders = name_rules (with_rule
-    (layout_rules orders (other_mode_rules (first_mode_rules infocmp_flag_app)))
+    (layout_rules orders (joined_rule (initializer_rules (termcap_rules (other_mode_rules (first_mode_rules infocmp_flag_app))))))
     (flag_rule (codes "directories") (byte_of "D")))
 
 -- `ti-tput [-x] [-T TERM] [--rate N] ..`
@@ -50,11 +62,12 @@ tput_app = with_rule (with_rule tput_options_app
     (flag_rule (codes "lines") (byte_of "S")))
     (operands_rule (codes "words"))
 
--- `ti-fmt [--check] [-1] [-w N] [FILE..]`
+-- `ti-fmt [--check] [-1 | --keep] [-w N] [FILE..]`
 abbrev pub fmt_app : App
-fmt_app = with_rule (with_rule (with_rule (with_rule (everyday_app (codes "ti-fmt"))
+fmt_app = with_rule (with_rule (with_rule (with_rule (with_rule (everyday_app (codes "ti-fmt"))
     (long_flag_rule (codes "check")))
     (flag_rule (codes "one") (byte_of "1")))
+    (long_flag_rule (codes "keep")))
     (number_rule (codes "width") (byte_of "w") width_min width_max))
     (operands_rule (codes "files"))
 
@@ -98,6 +111,14 @@ toe_app = with_rule (with_rule (with_rule (with_rule (everyday_app (codes "ti-to
 abbrev pub tabs_app : App
 tabs_app = with_rule (everyday_app (codes "ti-tabs")) (operands_rule (codes "words"))
 
+-- `ti-tset [WORD..]`
+abbrev pub tset_app : App
+tset_app = with_rule (everyday_app (codes "ti-tset")) (operands_rule (codes "words"))
+
+-- `ti-reset [WORD..]`
+abbrev pub reset_app : App
+reset_app = with_rule (everyday_app (codes "ti-reset")) (operands_rule (codes "words"))
+
 -- lists of names, each wherever it is in memory: of the orders of `ti-infocmp`, of the forms of
 -- `ti-lint`, and of when that uses colors
 pub record Lists : Type 0 where
@@ -121,6 +142,8 @@ tool_app lists tool.Lint = lint_app lists.forms lists.colors
 tool_app lists tool.Clear = clear_app
 tool_app lists tool.Toe = with_foreign tool.Toe toe_app
 tool_app lists tool.Tabs = tabs_app
+tool_app lists tool.Tset = tset_app
+tool_app lists tool.Reset = reset_app
 
 -- what holds of a tool's command line. Nothing that clap reads depends on the places of the names in
 -- memory, so this is said of some such places, or of each.

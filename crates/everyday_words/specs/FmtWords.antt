@@ -1,5 +1,5 @@
 -- What the words after `ti-fmt` ask for (own).
-use Rattle.std.specs.Prelude.{ℕ, Bool, false, if◌then◌else◌, List, [], ◌∷◌, codes, Option, Some, None, Result, Ok, Err}
+use Rattle.std.specs.Prelude.{ℕ, ◌&&◌, Bool, false, if◌then◌else◌, List, [], ◌∷◌, codes, Option, Some, None, Result, Ok, Err}
 use Rattle.std.specs.Option.{unwrap_or}
 use Rattle.std.specs.Str.{bytes_eq}
 use Rattle.clap.specs.Walk.{Row, Text, all_of, first_of}
@@ -36,13 +36,18 @@ abbrev pub files_in : List Text → List Text
 files_in paths = if is_dash paths then [] else paths
 
 -- what is asked for, if the columns are there
-abbrev pub fmt_at : Option ℕ → Bool → List Text → Result Wanted Mistake
-fmt_at None check paths = Err mistake.NoCommandLine
-fmt_at (Some width) check paths = Ok (wants_fmt (record { check = check; width = width; files = files_in paths }))
+abbrev pub fmt_at : Option ℕ → (check keep : Bool) → List Text → Result Wanted Mistake
+fmt_at None check keep paths = Err mistake.NoCommandLine
+fmt_at (Some width) check keep paths = Ok (wants_fmt (record { check = check; width = width; keep = keep; files = files_in paths }))
+
+-- whether lines are to be kept, and each item is to have its own
+abbrev pub keeps_items : List Row → Bool
+keeps_items rows = is_on (codes "keep") rows && is_on (codes "one") rows
 
 -- what is asked for with these matches and paths
 abbrev pub fmt_with : List Row → List Text → Result Wanted Mistake
-fmt_with rows paths = fmt_at (columns_asked rows) (is_on (codes "check") rows) paths
+fmt_with rows paths =
+    if keeps_items rows then Err mistake.KeepBesideOne else fmt_at (columns_asked rows) (is_on (codes "check") rows) (is_on (codes "keep") rows) paths
 
 -- what is asked for with these matches
 abbrev pub fmt_asked : List Row → Result Wanted Mistake

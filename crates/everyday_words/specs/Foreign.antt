@@ -5,7 +5,7 @@ use Rattle.clap.specs.Simple.{App, with_rule}
 use Rattle.clap.specs.Walk.{Row, Text}
 use Rattle.tools_commands.specs.Matches.{is_on}
 use Rattle.tools_commands.specs.Rules.{flag_rule, option_rule}
-use Rattle.everyday_arguments.specs.Rules.{is_given}
+use Rattle.tools_commands.specs.Rules.{is_given}
 use Rattle.everyday_arguments.specs.declared.names.Tool.{Tool}
 use Rattle.everyday_arguments.specs.declared.names.Tool.TheVariants as tool
 
@@ -16,7 +16,7 @@ use Rattle.everyday_arguments.specs.declared.names.Tool.TheVariants as tool
 -- `ti-infocmp` is its `-x`.
 abbrev pub taken_flags : Tool → List ℕ
 taken_flags tool.Tic = codes "0123456789fGgKNQqrTtUvWw"
-taken_flags tool.Infocmp = codes "alTtU"
+taken_flags tool.Infocmp = codes "alqtU"
 taken_flags tool.Toe = codes "0123456789v"
 taken_flags _ = []
 
@@ -29,7 +29,7 @@ taken_values _ = []
 -- options that are on or off, and are refused
 abbrev pub refused_flags : Tool → List ℕ
 refused_flags tool.Tic = codes "aCIL"
-refused_flags tool.Infocmp = codes "0CEeFfGgiKLpqrW"
+refused_flags tool.Infocmp = codes "FfGgiKLprW"
 refused_flags _ = []
 
 -- options with a value that are refused

@@ -1,9 +1,10 @@
 -- What the words after `ti-infocmp` ask for (infocmp(1)).
-use Rattle.std.specs.Prelude.{ℕ, nat_lt, ◌||◌, if◌then◌else◌, List, [], ◌∷◌, length, codes, Option, Some, None, Result, Ok, Err}
+use Rattle.std.specs.Prelude.{ℕ, nat_lt, Bool, ◌||◌, ◌&&◌, not, if◌then◌else◌, List, [], ◌∷◌, length, codes, Option, Some, None, Result, Ok, Err}
 use Rattle.clap.specs.Walk.{Row, Text, first_of}
 use Rattle.ti_list.specs.declared.layout.Order.{Order}
 use Rattle.tools_commands.specs.InfocmpWords.{modes_named, name_words, order_for, width_for}
 use Rattle.tools_commands.specs.Matches.{is_on}
+use Rattle.tools_commands.specs.Rules.{is_given}
 use Rattle.tools_commands.specs.declared.jobs.InfocmpMode.{InfocmpMode}
 use Rattle.tools_commands.specs.declared.jobs.InfocmpMode.TheVariants as mode
 use Rattle.tools_commands.specs.declared.mistakes.Mistake.{Mistake}
@@ -17,16 +18,53 @@ mode_of [] count = Ok (if nat_lt 1 count then mode.Differ else mode.List)
 mode_of (named ∷ []) count = Ok named
 mode_of (first ∷ second ∷ others) count = Err (mistake.TwoModes first second)
 
--- what is asked for, if a mode, a width and an order are there
+-- whether an entry is printed as C has it, whatever else there is
+abbrev pub is_initializer : List Row → Bool
+is_initializer rows = is_on (codes "tables") rows || is_on (codes "structure") rows
+
+-- whether entries are listed in termcap's form
+abbrev pub is_termcap : List Row → Bool
+is_termcap rows = is_on (codes "termcap") rows && not (is_initializer rows)
+
+-- whether entries are compared
+unfoldable pub compares : List Row → Bool
+compares rows = is_on (codes "differ") rows || is_on (codes "common") rows || is_on (codes "neither") rows
+    || (nat_lt 1 (length (name_words rows)) && not (is_on (codes "list") rows) && not (is_on (codes "relative") rows))
+
+-- whether two names are given, or a mode that takes two
+unfoldable pub takes_two : List Row → Bool
+takes_two rows = nat_lt 1 (length (name_words rows)) || compares rows || is_on (codes "relative") rows
+
+-- whether a layout is asked for that is not on one line
+abbrev pub is_wrapped : List Row → Bool
+is_wrapped rows = is_on (codes "one") rows || is_given (codes "width") rows
+
+-- what is wrong with options that do not go together, if they are there
+unfoldable pub conflict : List Row → Option Text
+conflict rows =
+    if is_on (codes "tables") rows && takes_two rows then Some (codes "-E takes one name")
+    else if is_on (codes "structure") rows && takes_two rows then Some (codes "-e takes one name")
+    else if is_on (codes "q") rows && compares rows then Some (codes "-q is not supported in comparisons")
+    else if is_on (codes "joined") rows && is_wrapped rows then Some (codes "-0 excludes -1 and -w")
+    else if is_on (codes "joined") rows && is_termcap rows then Some (codes "-0 is not supported with -C")
+    else None
+
+-- what is asked for, if a mode, a width and an order are there; termcap has no user-defined
+-- capabilities
 abbrev pub listing_at : Result InfocmpMode Mistake → Option ℕ → Option Order → List Row → List Text → Result Wanted Mistake
 listing_at (Err wrong) width by rows names = Err wrong
 listing_at (Ok named) None by rows names = Err mistake.NoCommandLine
 listing_at (Ok named) (Some width) None rows names = Err mistake.NoCommandLine
 listing_at (Ok named) (Some width) (Some by) rows names = Ok (wants_infocmp (record {
-  user_defined = is_on (codes "user") rows || is_on (codes "a") rows;
+  user_defined = (is_on (codes "user") rows || is_on (codes "a") rows) && not (is_termcap rows);
   mode = named;
   names = names;
-  layout = record { width = width; one_per_line = is_on (codes "one") rows; order = by };
+  layout = record { width = width; one_per_line = is_on (codes "one") rows || is_on (codes "joined") rows; order = by };
+  termcap = is_termcap rows;
+  limited = not (is_on (codes "unlimited") rows);
+  structure = is_on (codes "structure") rows;
+  tables = is_on (codes "tables") rows;
+  joined = is_on (codes "joined") rows;
   first_dir = first_of (codes "first") rows;
   other_dir = first_of (codes "other") rows;
 }))

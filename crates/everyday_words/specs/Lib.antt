@@ -6,9 +6,11 @@ pub mod FmtWords
 pub mod Foreign
 pub mod InfocmpWords
 pub mod LintWords
+pub mod Operands
 pub mod Requests
 pub mod TabsWords
 pub mod TicWords
 pub mod ToeWords
 pub mod TputWords
+pub mod TsetWords
 pub mod inside

@@ -16,25 +16,34 @@ use Rattle.everyday_words.specs.declared.requests.TabsRequest.{TabsRequest}
 use Rattle.everyday_words.specs.declared.requests.TicRequest.{TicRequest}
 use Rattle.everyday_words.specs.declared.requests.ToeRequest.{ToeRequest}
 use Rattle.everyday_words.specs.declared.requests.TputRequest.{TputRequest}
+use Rattle.everyday_words.specs.declared.requests.TsetRequest.{TsetRequest}
 
 -- of `ti-tic`: whether it is only to report, whether it is to say how much it wrote, whether
--- user-defined capabilities are taken, the names that are to be written, the directory and the file,
--- each if it is given
+-- user-defined capabilities are taken, whether line graphics are drawn, the names that are to be
+-- written, the directory and the file, each if it is given
 pub record TicWanted : Type 0 where
   pub check : Bool
   pub summary : Bool
   pub user_defined : Bool
+  pub draws : Bool
   pub only : Option Text
   pub dir : Option Text
   pub file : Option Text
 
--- of `ti-infocmp`: whether user-defined capabilities are taken, the mode, the names, the layout, the
--- only directory for the first name, and that for the others
+-- of `ti-infocmp`: whether user-defined capabilities are taken, the mode, the names, the layout, whether
+-- entries are listed in termcap's form, and whether they are then limited in their length, whether the
+-- first is printed as the initializer of a structure of C and as tables of C, whether each entry is listed
+-- on one line, the only directory for the first name, and that for the others
 pub record InfocmpWanted : Type 0 where
   pub user_defined : Bool
   pub mode : InfocmpMode
   pub names : List Text
   pub layout : Layout
+  pub termcap : Bool
+  pub limited : Bool
+  pub structure : Bool
+  pub tables : Bool
+  pub joined : Bool
   pub first_dir : Option Text
   pub other_dir : Option Text
 
@@ -48,10 +57,11 @@ pub record TputWanted : Type 0 where
   pub words : List Text
 
 -- of `ti-fmt`: whether it only says which sources have another layout, how many columns a line has
--- at most, and the files, none for standard input
+-- at most, whether it keeps lines, and the files, none for standard input
 pub record FmtWanted : Type 0 where
   pub check : Bool
   pub width : ℕ
+  pub keep : Bool
   pub files : List Text
 
 -- of `ti-lint`: whether sources may have user-defined capabilities, whether warnings are as bad as
@@ -82,6 +92,11 @@ pub record ToeWanted : Type 0 where
 pub record TabsWanted : Type 0 where
   pub words : List Text
 
+-- of `ti-tset` and `ti-reset`: whether the terminal is reset, and the words, options too
+pub record TsetWanted : Type 0 where
+  pub is_reset : Bool
+  pub words : List Text
+
 -- what is asked of a tool; `wants_outputs` asks for the directories for entries, given that of `-o`
 pub data Wanted : Type 0 where
   wants_tic : TicWanted → Wanted
@@ -94,6 +109,7 @@ pub data Wanted : Type 0 where
   wants_clear : ClearWanted → Wanted
   wants_toe : ToeWanted → Wanted
   wants_tabs : TabsWanted → Wanted
+  wants_tset : TsetWanted → Wanted
 
 -- ---- a request that holds its words in memory, as plain data
 
@@ -103,6 +119,7 @@ tic_seen r = record {
   check = r.check;
   summary = r.summary;
   user_defined = r.user_defined;
+  draws = r.draws;
   only = option_map string_bytes r.only;
   dir = option_map string_bytes r.dir;
   file = option_map string_bytes r.file;
@@ -115,6 +132,11 @@ infocmp_seen r = record {
   mode = r.mode;
   names = map string_bytes r.names.items;
   layout = r.layout;
+  termcap = r.termcap;
+  limited = r.limited;
+  structure = r.structure;
+  tables = r.tables;
+  joined = r.joined;
   first_dir = option_map string_bytes r.first_dir;
   other_dir = option_map string_bytes r.other_dir;
 }
@@ -131,7 +153,7 @@ tput_seen r = record {
 
 -- of `ti-fmt`
 abbrev pub fmt_seen : FmtRequest → FmtWanted
-fmt_seen r = record { check = r.check; width = r.width; files = map string_bytes r.files.items }
+fmt_seen r = record { check = r.check; width = r.width; keep = r.keep; files = map string_bytes r.files.items }
 
 -- of `ti-lint`
 abbrev pub lint_seen : LintRequest → LintWanted
@@ -156,6 +178,10 @@ toe_seen r = record { all = r.all; headings = r.headings; sorted = r.sorted; dir
 abbrev pub tabs_seen : TabsRequest → TabsWanted
 tabs_seen r = record { words = map string_bytes r.words.items }
 
+-- of `ti-tset` and `ti-reset`
+abbrev pub tset_seen : TsetRequest → TsetWanted
+tset_seen r = record { is_reset = r.is_reset; words = map string_bytes r.words.items }
+
 -- of any tool
 abbrev pub wanted_of : Request → Wanted
 wanted_of (request.Tic r) = wants_tic (tic_seen r)
@@ -168,3 +194,4 @@ wanted_of (request.Lint r) = wants_lint (lint_seen r)
 wanted_of (request.Clear r) = wants_clear (clear_seen r)
 wanted_of (request.Toe r) = wants_toe (toe_seen r)
 wanted_of (request.Tabs r) = wants_tabs (tabs_seen r)
+wanted_of (request.Tset r) = wants_tset (tset_seen r)

@@ -1,27 +1,29 @@
 //! What the words of a command line ask for, or why they ask for nothing.
-ghost use Rattle.std.specs.Prelude.{◌≡◌, IfErr, IfOk};
+ghost use Rattle.std.specs.Prelude.{◌≡◌, IfErr, IfOk, option_map};
 ghost use Rattle.std.specs.String.{string_bytes};
 ghost use Rattle.clap.specs.Words.{kind_of};
 ghost use Rattle.tools_commands.specs.Arguments.{word_texts};
 ghost use Rattle.tools_commands.specs.Matches.{matched_rows};
-ghost use Rattle.everyday_words.specs.Arguments.{IsRefusalOf, IsRequestOf, IsSaidOf, TakesAs, asked_by, in_words, supported_asked, usage_line};
+ghost use Rattle.everyday_words.specs.Arguments.{IsRefusalOf, IsRequestOf, IsSaidOf, TakesAs, asked_by, conflict_of, in_words, supported_asked, unless_conflict, usage_line};
 ghost use Rattle.everyday_words.specs.Commands.{OfEachTool, OfTool};
 ghost use Rattle.everyday_words.specs.Requests.{Wanted};
-ghost use Rattle.everyday_words.specs.TabsWords.{read_words};
+ghost use Rattle.everyday_words.specs.Operands.{read_words};
 ghost use Rattle.everyday_words.specs.inside.Answers.{Answers, AnswersTaken};
 ghost use Rattle.everyday_words.specs.declared.arguments.Refusal.TheVariants.{Memory};
 
 use crate::clear_words::clear_request;
 use crate::commands::{command, unsupported_option};
 use crate::fmt_words::fmt_request;
-use crate::infocmp_words::infocmp_request;
+use crate::infocmp_words::{conflict, infocmp_request};
 use crate::lint_words::lint_request;
 use crate::mistakes::NoRequest;
+use crate::operands::{operand_line, takes_operands};
 use crate::requests::Request;
-use crate::tabs_words::{tabs_line, tabs_request};
+use crate::tabs_words::tabs_request;
 use crate::tic_words::tic_request;
 use crate::toe_words::toe_request;
 use crate::tput_words::tput_request;
+use crate::tset_words::tset_request;
 use clap::ArgMatches;
 use clap::error::ErrorKind;
 use everyday_arguments::Tool;
@@ -74,6 +76,8 @@ fn tool_request(alloc: Global, tool: Tool, matches: &ArgMatches<'_>) -> Result<R
         Tool::Clear => Ok(clear_request(alloc, matches)?),
         Tool::Toe => Ok(toe_request(alloc, matches)?),
         Tool::Tabs => Ok(tabs_request(alloc, matches)?),
+        Tool::Tset => Ok(tset_request(alloc, false, matches)?),
+        Tool::Reset => Ok(tset_request(alloc, true, matches)?),
     }
 }
 
@@ -104,6 +108,28 @@ fn supported_request(
     }
 }
 
+// What is wrong with options of a tool that do not go together, if they are there.
+fn conflict_of(matches: &ArgMatches<'_>, tool: Tool) -> Option<&'static str>
+    ensures { option_map (λ sentence. sentence.now) result ≡ conflict_of tool (matched_rows matches.now) }
+{
+    match tool {
+        Tool::Infocmp => conflict(matches),
+        _ => None,
+    }
+}
+
+// What words with options that a tool supports ask of it, or the message for them.
+fn agreed_request(alloc: Global, tool: Tool, matches: &ArgMatches<'_>) -> Result<Request, Refusal>
+    ensures { AnswersTaken tool (unless_conflict (conflict_of tool (matched_rows matches.now))
+        (in_words (supported_asked tool (matched_rows matches.now)))) result }
+{
+    if let Some(sentence) = conflict_of(matches, tool) {
+        let line = usage_line(alloc, tool, sentence)?;
+        return Err(Refusal::Usage(line));
+    }
+    supported_request(alloc, tool, matches)
+}
+
 // What words that clap takes ask of a tool, or the message for them.
 fn taken_request(alloc: Global, tool: Tool, matches: &ArgMatches<'_>) -> Result<Request, Refusal>
     ensures { AnswersTaken tool (asked_by tool (matched_rows matches.now)) result }
@@ -113,7 +139,7 @@ fn taken_request(alloc: Global, tool: Tool, matches: &ArgMatches<'_>) -> Result<
         let line = usage_line(alloc, tool, sentence.as_str())?;
         return Err(Refusal::Usage(line));
     }
-    supported_request(alloc, tool, matches)
+    agreed_request(alloc, tool, matches)
 }
 
 // What words that clap reads as they are ask of a tool.
@@ -131,7 +157,7 @@ fn plain_request(alloc: Global, tool: Tool, words: &[String]) -> Result<Request,
 }
 
 /// What the words of a command line ask of a tool. The first word is the name by which the program
-/// was called. To clap the words of `ti-tabs` are operands.
+/// was called. To clap the words of `ti-tabs`, `ti-tset` and `ti-reset` are operands.
 ///
 /// # Errors
 /// Why they ask for nothing: `Text` if they ask for the help or the version, and `Usage` if they are
@@ -143,11 +169,9 @@ pub fn request(alloc: Global, tool: Tool, words: &[String]) -> Result<Request, R
         → IfErr result (λ refused. refused ≡ Refusal.Memory) }
     ensures refused { IfErr result (IsRefusalOf tool (read_words tool (word_texts words.now))) }
 {
-    match tool {
-        Tool::Tabs => {
-            let line = tabs_line(alloc, words)?;
-            plain_request(alloc, tool, line.as_slice())
-        }
-        _ => plain_request(alloc, tool, words),
+    if takes_operands(tool) {
+        let line = operand_line(alloc, words)?;
+        return plain_request(alloc, tool, line.as_slice());
     }
+    plain_request(alloc, tool, words)
 }

@@ -7,8 +7,9 @@ ghost use Rattle.everyday_words.specs.Requests.{wanted_of};
 use crate::commands::VERSION_IN_PLACE;
 use crate::requests::{ClearRequest, Request};
 use clap::ArgMatches;
-use everyday_arguments::{Argument, CommandLine, Form, is_on, text};
+use everyday_arguments::CommandLine;
 use std::alloc::{AllocError, Global};
+use tools_commands::{Argument, Form, is_on, text};
 
 /// `ti-clear [-x] [-T TERM]`.
 pub(crate) const CLEAR: CommandLine<'static> = CommandLine {

@@ -6,7 +6,7 @@ ghost use Rattle.everyday_words.specs.Commands.{AreLists, OfTool, tool_app};
 ghost use Rattle.tools_commands.specs.Matches.{matched_rows};
 ghost use Rattle.everyday_words.specs.Foreign.{refused_option};
 ghost use Rattle.everyday_arguments.specs.Lines.{app_for};
-ghost use Rattle.everyday_arguments.specs.Rules.{first_refused};
+ghost use Rattle.tools_commands.specs.Rules.{first_refused};
 ghost use Rattle.everyday_words.specs.inside.Commands.{lists_of};
 
 use crate::clear_words::CLEAR;
@@ -17,9 +17,11 @@ use crate::tabs_words::TABS;
 use crate::tic_words::TIC;
 use crate::toe_words::TOE;
 use crate::tput_words::TPUT;
+use crate::tset_words::{RESET, TSET};
 use clap::{ArgMatches, Command};
-use everyday_arguments::{CommandLine, Tool, refused_option};
+use everyday_arguments::{CommandLine, Tool};
 use std::alloc::{AllocError, Global};
+use tools_commands::refused_option;
 
 /// The version of the tools.
 pub const VERSION: &str = "1.1.0";
@@ -57,6 +59,8 @@ fn command_line(tool: Tool) -> CommandLine<'static>
         Tool::Clear => CLEAR,
         Tool::Toe => TOE,
         Tool::Tabs => TABS,
+        Tool::Tset => TSET,
+        Tool::Reset => RESET,
     }
 }
 

@@ -8,11 +8,11 @@ use crate::commands::VERSION;
 use crate::mistakes::NoRequest;
 use crate::requests::{FmtRequest, Request};
 use clap::ArgMatches;
-use everyday_arguments::{
-    Argument, CommandLine, Form, WIDTH_MAX, WIDTH_MIN, is_on, texts, value, values, width_in,
-};
+use everyday_arguments::CommandLine;
 use std::alloc::Global;
-use tools_commands::Mistake;
+use tools_commands::{
+    Argument, Form, Mistake, WIDTH_MAX, WIDTH_MIN, is_on, texts, value, values, width_in,
+};
 
 // How many columns a line has at most, if it is not said.
 const COLUMNS: usize = 80;
@@ -20,7 +20,7 @@ const COLUMNS: usize = 80;
 // The same of lines in which no second item fits.
 const COLUMNS_OF_ONE: usize = 0;
 
-/// `ti-fmt [--check] [-1] [-w N] [FILE..|-]`.
+/// `ti-fmt [--check] [-1 | --keep] [-w N] [FILE..|-]`.
 pub(crate) const FMT: CommandLine<'static> = CommandLine {
     name: "ti-fmt",
     version: VERSION,
@@ -37,6 +37,11 @@ pub(crate) const FMT: CommandLine<'static> = CommandLine {
             help: "Write each item on its own line",
         },
         Argument {
+            id: "keep",
+            form: Form::LongFlag,
+            help: "Keep the lines, but repair white space and break long ones",
+        },
+        Argument {
             id: "width",
             form: Form::Number('w', "N", WIDTH_MIN as u64, WIDTH_MAX as u64),
             help: "Lines of at most N columns, from 20 to 4096 [default: 80]",
@@ -50,6 +55,8 @@ pub(crate) const FMT: CommandLine<'static> = CommandLine {
     notes: "\
 The names of an entry get a line of their own. Items stay in their order, on
 lines that begin with a tab; booleans, numbers, strings and 'use=' begin lines.
+With --keep, an entry keeps its lines. The white space before and between items
+is repaired, and a line that is too long is broken before an item.
 Comments and blank lines stay as they are. The source means what it meant.
 Each file that has another layout is replaced whole. Standard input is written
 to standard output.
@@ -61,7 +68,7 @@ Exit status:
 
 Examples:
   ti-fmt mine.ti
-  ti-fmt --check *.ti
+  ti-fmt --check --keep *.ti
   ti-infocmp -x mine | ti-fmt -w 72",
 };
 
@@ -92,6 +99,10 @@ pub(crate) fn is_dash(paths: &[&str]) -> bool
 fn fmt_of(alloc: Global, matches: &ArgMatches<'_>, paths: &[&str]) -> Result<Request, NoRequest>
     ensures { Answers (fmt_with (matched_rows matches.now) (map (λ path. path.now) paths.now)) result }
 {
+    let keep = is_on(matches, "keep");
+    if keep && is_on(matches, "one") {
+        return Err(NoRequest::Wrong(Mistake::KeepBesideOne));
+    }
     let Some(width) = columns_of(matches) else {
         return Err(NoRequest::Wrong(Mistake::NoCommandLine));
     };
@@ -103,6 +114,7 @@ fn fmt_of(alloc: Global, matches: &ArgMatches<'_>, paths: &[&str]) -> Result<Req
     Ok(Request::Fmt(FmtRequest {
         check: is_on(matches, "check"),
         width,
+        keep,
         files,
     }))
 }
@@ -110,7 +122,7 @@ fn fmt_of(alloc: Global, matches: &ArgMatches<'_>, paths: &[&str]) -> Result<Req
 /// What these matches ask of `ti-fmt`.
 ///
 /// # Errors
-/// `Memory` if memory ran out.
+/// What is wrong with the words; then `Memory`.
 pub(crate) fn fmt_request(alloc: Global, matches: &ArgMatches<'_>) -> Result<Request, NoRequest>
     ensures { Answers (fmt_asked (matched_rows matches.now)) result }
 {

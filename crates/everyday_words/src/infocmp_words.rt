@@ -1,10 +1,9 @@
 //! What the words after `ti-infocmp` are, for clap, and what they ask for.
-ghost use Rattle.std.specs.Prelude.{◌≡◌, codes, map};
-ghost use Rattle.clap.specs.Words.{first_of};
-ghost use Rattle.tools_commands.specs.InfocmpWords.{modes_named, order_for, width_for};
+ghost use Rattle.std.specs.Prelude.{◌≡◌, length, map, option_map};
+ghost use Rattle.tools_commands.specs.InfocmpWords.{choice_from};
 ghost use Rattle.tools_commands.specs.Matches.{matched_rows};
-ghost use Rattle.everyday_words.specs.InfocmpWords.{infocmp_asked, listing_asked, listing_with, mode_of};
-ghost use Rattle.everyday_words.specs.inside.Choice.{choice_from, choice_with};
+ghost use Rattle.tools_commands.specs.InfocmpWords.{name_words};
+ghost use Rattle.everyday_words.specs.InfocmpWords.{compares, conflict, infocmp_asked, is_initializer, is_termcap, is_wrapped, listing_asked, listing_with, mode_of, takes_two};
 ghost use Rattle.everyday_words.specs.inside.Answers.{Answers};
 
 use crate::commands::VERSION_IN_PLACE;
@@ -12,17 +11,15 @@ use crate::foreign;
 use crate::mistakes::NoRequest;
 use crate::requests::{InfocmpRequest, Request};
 use clap::ArgMatches;
-use everyday_arguments::{
-    Argument, CommandLine, Form, WIDTH_MAX, WIDTH_MIN, is_on, text, texts, value, values, width_in,
-};
+use everyday_arguments::CommandLine;
 use std::alloc::Global;
-use ti_list::{Layout, Order};
-use tools_commands::{InfocmpMode, Mistake};
+use ti_list::Layout;
+use tools_commands::{
+    Argument, Form, InfocmpMode, Mistake, ModeChoice, WIDTH_MAX, WIDTH_MIN, choice_of, is_on,
+    order_of, text, texts, value, values, width_of,
+};
 
-// The width of a listing's lines if none is given.
-const WIDTH: usize = 60;
-
-/// `ti-infocmp [-x] [-I|-d|-c|-n|-u] [-1] [-w N] [-s d|i] [-D] [-A DIR] [-B DIR] [NAME..]`.
+/// `ti-infocmp [-x] [-I|-d|-c|-n|-u] [-C] [-T] [-E] [-e] [-0] [-1] [-w N] [-s d|i] [-D] [-A DIR] [-B DIR] [NAME..]`.
 pub(crate) const INFOCMP: CommandLine<'static> = CommandLine {
     name: "ti-infocmp",
     version: VERSION_IN_PLACE,
@@ -57,6 +54,31 @@ pub(crate) const INFOCMP: CommandLine<'static> = CommandLine {
             id: "relative",
             form: Form::Flag('u'),
             help: "List the first relative to the others",
+        },
+        Argument {
+            id: "termcap",
+            form: Form::Flag('C'),
+            help: "List entries in termcap's form, by their codes",
+        },
+        Argument {
+            id: "unlimited",
+            form: Form::Flag('T'),
+            help: "With -C, list entries of any length whole [default: 1023 bytes]",
+        },
+        Argument {
+            id: "tables",
+            form: Form::Flag('E'),
+            help: "Print an entry as tables of C, for MKfallback.sh",
+        },
+        Argument {
+            id: "structure",
+            form: Form::Flag('e'),
+            help: "Print an entry as a structure of C that has these tables",
+        },
+        Argument {
+            id: "joined",
+            form: Form::Flag('0'),
+            help: "List each entry on one line",
         },
         Argument {
             id: "one",
@@ -95,14 +117,10 @@ pub(crate) const INFOCMP: CommandLine<'static> = CommandLine {
         },
         foreign!(Hidden, "a", 'a'),
         foreign!(Hidden, "l", 'l'),
-        foreign!(Hidden, "T", 'T'),
+        foreign!(Hidden, "q", 'q'),
         foreign!(Hidden, "t", 't'),
         foreign!(Hidden, "U", 'U'),
         foreign!(HiddenValue, "v", 'v'),
-        foreign!(Refused, "0", '0'),
-        foreign!(Refused, "C", 'C'),
-        foreign!(Refused, "E", 'E'),
-        foreign!(Refused, "e", 'e'),
         foreign!(Refused, "F", 'F'),
         foreign!(Refused, "f", 'f'),
         foreign!(Refused, "G", 'G'),
@@ -111,7 +129,6 @@ pub(crate) const INFOCMP: CommandLine<'static> = CommandLine {
         foreign!(Refused, "K", 'K'),
         foreign!(Refused, "L", 'L'),
         foreign!(Refused, "p", 'p'),
-        foreign!(Refused, "q", 'q'),
         foreign!(Refused, "r", 'r'),
         foreign!(Refused, "W", 'W'),
         foreign!(RefusedValue, "Q", 'Q'),
@@ -123,7 +140,7 @@ needs two names, $TERM is used for each that is missing.
 A name with a slash is the path of a compiled file. Others are searched for in
 $TERMINFO, ~/.terminfo, $TERMINFO_DIRS, /etc/terminfo, /lib/terminfo and
 /usr/share/terminfo, unless -A or -B names a directory.
-'ti-tic' compiles what '-I' and '-u' print back to the same entries.
+'ti-tic -U' compiles what '-I' and '-u' print back to the same entries.
 
 Exit status:
   0  all entries were read, and the text was written
@@ -136,75 +153,86 @@ Examples:
   ti-infocmp -x -u tmux-256color screen",
 };
 
-/// The modes that options name.
-#[derive(Clone, Copy)]
-pub(crate) enum Choice {
-    Nothing,
-    One(InfocmpMode),
-    /// Two or more modes, of which these are the first.
-    Two(InfocmpMode, InfocmpMode),
-}
-
-impl Choice {
-    // The choice once one more option is looked at.
-    fn choose_if(self, on: bool, mode: InfocmpMode) -> Choice
-        ensures { result ≡ choice_with self on mode }
-    {
-        if !on {
-            return self;
-        }
-        match self {
-            Choice::Nothing => Choice::One(mode),
-            Choice::One(earlier) => Choice::Two(earlier, mode),
-            Choice::Two(first, second) => Choice::Two(first, second),
-        }
-    }
-}
-
-// The modes that the options name.
-fn choice_of(matches: &ArgMatches<'_>) -> Choice
-    ensures { result ≡ choice_from (modes_named (matched_rows matches.now)) }
-{
-    Choice::Nothing
-        .choose_if(is_on(matches, "list"), InfocmpMode::List)
-        .choose_if(is_on(matches, "differ"), InfocmpMode::Differ)
-        .choose_if(is_on(matches, "common"), InfocmpMode::Common)
-        .choose_if(is_on(matches, "neither"), InfocmpMode::Neither)
-        .choose_if(is_on(matches, "relative"), InfocmpMode::Relative)
-}
-
 // The mode that is asked for, with this number of names.
-fn mode_of(choice: Choice, names: usize) -> Result<InfocmpMode, Mistake>
+fn mode_of(choice: ModeChoice, names: usize) -> Result<InfocmpMode, Mistake>
     ensures { (named : _) → choice ≡ choice_from named → result ≡ mode_of named names }
 {
     match choice {
-        Choice::Nothing if names > 1 => Ok(InfocmpMode::Differ),
-        Choice::Nothing => Ok(InfocmpMode::List),
-        Choice::One(mode) => Ok(mode),
-        Choice::Two(first, second) => Err(Mistake::TwoModes(first, second)),
+        ModeChoice::Nothing if names > 1 => Ok(InfocmpMode::Differ),
+        ModeChoice::Nothing => Ok(InfocmpMode::List),
+        ModeChoice::One(mode) => Ok(mode),
+        ModeChoice::Two(first, second) => Err(Mistake::TwoModes(first, second)),
     }
 }
 
-// The width that is given, or the default.
-fn width_of(matches: &ArgMatches<'_>) -> Option<usize>
-    ensures { result ≡ width_for (first_of (codes "width") (matched_rows matches.now)) }
+// Whether an entry is printed as C has it.
+fn is_initializer(matches: &ArgMatches<'_>) -> bool
+    ensures { result ≡ is_initializer (matched_rows matches.now) }
 {
-    match value(matches, "width") {
-        Some(text) => width_in(text),
-        None => Some(WIDTH),
+    is_on(matches, "tables") || is_on(matches, "structure")
+}
+
+// Whether entries are listed in termcap's form.
+fn is_termcap(matches: &ArgMatches<'_>) -> bool
+    ensures { result ≡ is_termcap (matched_rows matches.now) }
+{
+    is_on(matches, "termcap") && !is_initializer(matches)
+}
+
+// How many names are given.
+fn name_count(matches: &ArgMatches<'_>) -> usize
+    ensures { result ≡ length (name_words (matched_rows matches.now)) }
+{
+    match values(matches, "name") {
+        Some(names) => names.len(),
+        None => 0,
     }
 }
 
-// The order that is given, or the default.
-fn order_of(matches: &ArgMatches<'_>) -> Option<Order>
-    ensures { result ≡ order_for (first_of (codes "sort") (matched_rows matches.now)) }
+// Whether entries are compared.
+#[tactic(auto, unfolding(crate::specs::InfocmpWords::compares))]
+fn compares(matches: &ArgMatches<'_>) -> bool
+    ensures { result ≡ compares (matched_rows matches.now) }
 {
-    match value(matches, "sort") {
-        None => Some(Order::Name),
-        Some("d") => Some(Order::Table),
-        Some("i") => Some(Order::Name),
-        Some(_) => None,
+    is_on(matches, "differ")
+        || is_on(matches, "common")
+        || is_on(matches, "neither")
+        || (name_count(matches) > 1 && !is_on(matches, "list") && !is_on(matches, "relative"))
+}
+
+// Whether two names are given, or a mode that takes two.
+#[tactic(auto, unfolding(crate::specs::InfocmpWords::takes_two))]
+fn takes_two(matches: &ArgMatches<'_>) -> bool
+    ensures { result ≡ takes_two (matched_rows matches.now) }
+{
+    name_count(matches) > 1 || compares(matches) || is_on(matches, "relative")
+}
+
+/// What is wrong with options that do not go together, if they are there.
+#[tactic(auto, unfolding(crate::specs::InfocmpWords::conflict))]
+pub(crate) fn conflict(matches: &ArgMatches<'_>) -> Option<&'static str>
+    ensures { option_map (λ sentence. sentence.now) result ≡ conflict (matched_rows matches.now) }
+{
+    if is_on(matches, "tables") && takes_two(matches) {
+        Some("-E takes one name")
+    } else if is_on(matches, "structure") && takes_two(matches) {
+        Some("-e takes one name")
+    } else if is_on(matches, "q") && compares(matches) {
+        Some("-q is not supported in comparisons")
+    } else if is_on(matches, "joined") && is_wrapped(matches) {
+        Some("-0 excludes -1 and -w")
+    } else if is_on(matches, "joined") && is_termcap(matches) {
+        Some("-0 is not supported with -C")
+    } else {
+        None
     }
+}
+
+// Whether a layout is asked for that is not on one line.
+fn is_wrapped(matches: &ArgMatches<'_>) -> bool
+    ensures { result ≡ is_wrapped (matched_rows matches.now) }
+{
+    is_on(matches, "one") || value(matches, "width").is_some()
 }
 
 // What is asked of `ti-infocmp` with these names.
@@ -223,14 +251,20 @@ fn listing_of(alloc: Global, matches: &ArgMatches<'_>, names: &[&str]) -> Result
     let other_dir = text(alloc, matches, "other")?;
     let layout = Layout {
         width,
-        one_per_line: is_on(matches, "one"),
+        one_per_line: is_on(matches, "one") || is_on(matches, "joined"),
         order,
     };
+    let termcap = is_termcap(matches);
     Ok(Request::Infocmp(InfocmpRequest {
-        user_defined: is_on(matches, "user") || is_on(matches, "a"),
+        user_defined: (is_on(matches, "user") || is_on(matches, "a")) && !termcap,
         mode,
         names,
         layout,
+        termcap,
+        limited: !is_on(matches, "unlimited"),
+        structure: is_on(matches, "structure"),
+        tables: is_on(matches, "tables"),
+        joined: is_on(matches, "joined"),
         first_dir,
         other_dir,
     }))

@@ -13,7 +13,8 @@
 //! - `arguments`: what the words ask for, or why they ask for nothing, and the message (`request`)
 //! - `commands`: the command line of each tool, for clap (`command`), of which `everyday_arguments`
 //!   has the parts; `tic_words`, `infocmp_words`, `tput_words`, `fmt_words`, `lint_words`,
-//!   `clear_words`, `toe_words` and `tabs_words` have the options of each tool, and what they ask for
+//!   `clear_words`, `toe_words`, `tabs_words` and `tset_words` have the options of each tool, and what
+//!   they ask for; `operands`: the words of tools whose options clap does not read
 //! - `mistakes`: why words that clap takes ask for nothing
 #![tactic(auto)]
 
@@ -24,18 +25,20 @@ mod fmt_words;
 mod infocmp_words;
 mod lint_words;
 mod mistakes;
+mod operands;
 mod requests;
 mod tabs_words;
 mod tic_words;
 mod toe_words;
 mod tput_words;
+mod tset_words;
 
 pub use arguments::{Refusal, request};
 pub use commands::{VERSION, command};
 pub use everyday_arguments::{Tool, called_tool, called_words};
 pub use requests::{
     ClearRequest, FmtRequest, InfocmpRequest, LintColor, LintForm, LintRequest, Request,
-    TabsRequest, TicRequest, ToeRequest, TputRequest,
+    TabsRequest, TicRequest, ToeRequest, TputRequest, TsetRequest,
 };
 pub use ti_list::{Layout, Order};
 pub use tools_commands::{InfocmpMode, Mistake};

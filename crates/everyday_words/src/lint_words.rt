@@ -10,9 +10,9 @@ use crate::fmt_words::is_dash;
 use crate::mistakes::NoRequest;
 use crate::requests::{LintColor, LintForm, LintRequest, Request};
 use clap::ArgMatches;
-use everyday_arguments::{Argument, CommandLine, Form, is_on, texts, value, values};
+use everyday_arguments::CommandLine;
 use std::alloc::Global;
-use tools_commands::Mistake;
+use tools_commands::{Argument, Form, Mistake, is_on, texts, value, values};
 
 /// `ti-lint [-x] [--strict] [--fix] [--format FORM] [--color WHEN] [FILE..|-]`.
 pub(crate) const LINT: CommandLine<'static> = CommandLine {

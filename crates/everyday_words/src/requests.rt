@@ -11,6 +11,8 @@ pub struct TicRequest {
     pub summary: bool,
     /// Compile user-defined capabilities.
     pub user_defined: bool,
+    /// Give an entry with `smacs` and `rmacs` and without `acsc` that of a VT100.
+    pub draws: bool,
     /// The names, between commas, of the blocks that are to be written; all, if none is given.
     pub only: Option<String>,
     /// The directory for the files, if it was given.
@@ -30,6 +32,16 @@ pub struct InfocmpRequest {
     pub names: Vec<String>,
     /// How source text is laid out.
     pub layout: Layout,
+    /// List entries in termcap's form.
+    pub termcap: bool,
+    /// Leave out what makes an entry too long for older readers of termcap.
+    pub limited: bool,
+    /// Print the first entry as the initializer of a structure of C.
+    pub structure: bool,
+    /// Print the first entry as tables of C.
+    pub tables: bool,
+    /// List each entry on one line, without blanks between items; the layout is then an item a line.
+    pub joined: bool,
     /// The only directory for the entry of the first name, if it was given.
     pub first_dir: Option<String>,
     /// The only directory for those of the other names, if it was given.
@@ -58,6 +70,8 @@ pub struct FmtRequest {
     pub check: bool,
     /// How many columns a line has at most.
     pub width: usize,
+    /// Keep the lines of the sources, and repair white space alone.
+    pub keep: bool,
     /// The files of the sources; none for standard input.
     pub files: Vec<String>,
 }
@@ -130,6 +144,15 @@ pub struct TabsRequest {
     pub words: Vec<String>,
 }
 
+/// What is asked of `ti-tset`, to set a terminal up, or of `ti-reset`, to reset it.
+#[derive(Debug, PartialEq, Eq, Drop)]
+pub struct TsetRequest {
+    /// The terminal is reset.
+    pub is_reset: bool,
+    /// The words, options too.
+    pub words: Vec<String>,
+}
+
 /// What the words of a command line ask for.
 #[derive(Debug, PartialEq, Eq, Drop)]
 pub enum Request {
@@ -153,4 +176,6 @@ pub enum Request {
     Toe(ToeRequest),
     /// To set tab stops.
     Tabs(TabsRequest),
+    /// To set a terminal up, or to reset it.
+    Tset(TsetRequest),
 }

@@ -1,15 +1,15 @@
 //! What the words after `ti-tabs` are, for clap, and what they ask for.
-ghost use Rattle.std.specs.Prelude.{◌≡◌, IfOk, OnOk, ◌++◌, map};
-ghost use Rattle.tools_commands.specs.Arguments.{word_texts};
+ghost use Rattle.std.specs.Prelude.{◌≡◌, IfOk, map};
 ghost use Rattle.tools_commands.specs.Matches.{matched_rows};
 ghost use Rattle.everyday_words.specs.Requests.{wanted_of};
-ghost use Rattle.everyday_words.specs.TabsWords.{as_operands, asks_for_text, tabs_asked, tabs_line, tabs_with};
+ghost use Rattle.everyday_words.specs.TabsWords.{tabs_asked, tabs_with};
 
 use crate::commands::VERSION_IN_PLACE;
 use crate::requests::{Request, TabsRequest};
 use clap::ArgMatches;
-use everyday_arguments::{Argument, CommandLine, Form, texts, values};
+use everyday_arguments::CommandLine;
 use std::alloc::{AllocError, Global};
+use tools_commands::{Argument, Form, texts, values};
 
 /// `ti-tabs [WORD..]`.
 pub(crate) const TABS: CommandLine<'static> = CommandLine {
@@ -49,53 +49,6 @@ Examples:
   ti-tabs -8
   ti-tabs -n -d 1,5,+8,+8",
 };
-
-// Whether a word asks for the help or the version.
-fn asks_for_text(word: &str) -> bool
-    ensures { result ≡ asks_for_text word.now }
-{
-    word == "-h" || word == "--help" || word == "--version"
-}
-
-// Adds copies of words.
-fn push_copies(alloc: Global, line: &mut Vec<String>, words: &[String]) -> Result<(), AllocError>
-    ensures { OnOk result (word_texts line.new.items ≡ word_texts line.old.items ++ word_texts words.now) }
-{
-    for word in words {
-        line.push(String::from_str(alloc, word.as_str())?)?;
-    }
-    Ok(())
-}
-
-// Adds the words after the name as clap reads them.
-fn push_operands(alloc: Global, line: &mut Vec<String>, words: &[String]) -> Result<(), AllocError>
-    ensures { OnOk result (word_texts line.new.items ≡ word_texts line.old.items ++ as_operands (word_texts words.now)) }
-{
-    let Some((word, _)) = words.split_first() else {
-        return Ok(());
-    };
-    if asks_for_text(word.as_str()) {
-        line.push(String::from_str(alloc, word.as_str())?)?;
-        return Ok(());
-    }
-    line.push(String::from_str(alloc, "--")?)?;
-    push_copies(alloc, line, words)
-}
-
-/// The words of a command line as clap reads them.
-///
-/// # Errors
-/// `AllocError` if memory ran out.
-pub(crate) fn tabs_line(alloc: Global, words: &[String]) -> Result<Vec<String>, AllocError>
-    ensures { IfOk result (λ line. word_texts line.items ≡ tabs_line (word_texts words.now)) }
-{
-    let mut line = Vec::new(alloc);
-    if let Some((name, others)) = words.split_first() {
-        line.push(String::from_str(alloc, name.as_str())?)?;
-        push_operands(alloc, &mut line, others)?;
-    }
-    Ok(line)
-}
 
 // What is asked for with these words.
 fn tabs_of(alloc: Global, words: &[&str]) -> Result<Request, AllocError>

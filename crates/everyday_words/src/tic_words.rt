@@ -3,14 +3,15 @@ ghost use Rattle.std.specs.Prelude.{◌≡◌, IfOk, option_map};
 ghost use Rattle.std.specs.String.{string_bytes};
 ghost use Rattle.tools_commands.specs.Matches.{matched_rows};
 ghost use Rattle.everyday_words.specs.Requests.{tic_seen, wanted_of};
-ghost use Rattle.everyday_words.specs.TicWords.{source_asked, source_in, tic_asked};
+ghost use Rattle.everyday_words.specs.TicWords.{draws, source_asked, source_in, tic_asked};
 
 use crate::commands::VERSION_IN_PLACE;
 use crate::foreign;
 use crate::requests::{Request, TicRequest};
 use clap::ArgMatches;
-use everyday_arguments::{Argument, CommandLine, Form, is_on, text};
+use everyday_arguments::CommandLine;
 use std::alloc::{AllocError, Global};
+use tools_commands::{Argument, Form, is_on, text};
 
 /// `ti-tic [-c] [-s] [-x] [-e NAMES] [-o DIR] [-D] [FILE|-]`.
 pub(crate) const TIC: CommandLine<'static> = CommandLine {
@@ -112,6 +113,13 @@ fn source_in(file: Option<String>) -> Option<String>
     }
 }
 
+// Whether line graphics are drawn: not with `-U`, nor with `-N`.
+fn is_drawn(matches: &ArgMatches<'_>) -> bool
+    ensures { result ≡ draws (matched_rows matches.now) }
+{
+    !is_on(matches, "U") && !is_on(matches, "N")
+}
+
 // The source that these matches ask to compile.
 fn source_request(alloc: Global, matches: &ArgMatches<'_>) -> Result<TicRequest, AllocError>
     ensures { IfOk result (λ request. tic_seen request ≡ source_asked (matched_rows matches.now)) }
@@ -123,6 +131,7 @@ fn source_request(alloc: Global, matches: &ArgMatches<'_>) -> Result<TicRequest,
         check: is_on(matches, "check"),
         summary: is_on(matches, "summary"),
         user_defined: is_on(matches, "user"),
+        draws: is_drawn(matches),
         only,
         dir,
         file,

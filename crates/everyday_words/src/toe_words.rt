@@ -8,8 +8,9 @@ use crate::commands::VERSION_IN_PLACE;
 use crate::foreign;
 use crate::requests::{Request, ToeRequest};
 use clap::ArgMatches;
-use everyday_arguments::{Argument, CommandLine, Form, is_on, texts, values};
+use everyday_arguments::CommandLine;
 use std::alloc::{AllocError, Global};
+use tools_commands::{Argument, Form, is_on, texts, values};
 
 /// `ti-toe [-a] [-h] [-s] [DIR..]`.
 pub(crate) const TOE: CommandLine<'static> = CommandLine {

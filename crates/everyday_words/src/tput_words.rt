@@ -10,9 +10,9 @@ use crate::commands::VERSION_IN_PLACE;
 use crate::mistakes::NoRequest;
 use crate::requests::{Request, TputRequest};
 use clap::ArgMatches;
-use everyday_arguments::{Argument, CommandLine, Form, is_on, text, texts, value, values};
+use everyday_arguments::CommandLine;
 use std::alloc::Global;
-use tools_commands::Mistake;
+use tools_commands::{Argument, Form, Mistake, is_on, text, texts, value, values};
 
 // The greatest rate of a line that may be asked for, in bits per second.
 const RATE_MAX: u64 = u32::MAX as u64;

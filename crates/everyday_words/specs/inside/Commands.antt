@@ -6,9 +6,9 @@ use Rattle.clap.specs.Walk.{Text}
 use Rattle.tools_commands.specs.Rules.{Choices}
 use Rattle.everyday_words.specs.Commands.{Lists}
 use Rattle.everyday_arguments.specs.declared.lines.CommandLine.{CommandLine}
-use Rattle.everyday_arguments.specs.declared.rules.Argument.{Argument}
-use Rattle.everyday_arguments.specs.declared.rules.Form.{Form}
-use Rattle.everyday_arguments.specs.declared.rules.Form.TheVariants.{Choice, LongChoice}
+use Rattle.tools_commands.specs.declared.rules.Argument.{Argument}
+use Rattle.tools_commands.specs.declared.rules.Form.{Form}
+use Rattle.tools_commands.specs.declared.rules.Form.TheVariants.{Choice, LongChoice}
 
 -- a name, wherever it is in memory
 abbrev pub some_name : Text → Bor Text

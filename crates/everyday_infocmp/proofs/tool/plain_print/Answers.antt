@@ -31,4 +31,4 @@ returns-in-Ok c =
     let shown = entries-plain c.in-Some.others.now in
     let text : c.in-Ok.text.items ≡ plain_text m (entry_seen c.in-Some.first.now) (entries_in (map (λ view. plain_entry view) c.in-Some.others.now)) layout =
     c.in-Ok.ensures ∙ ap (λ (es : List Entry). plain_text m (entry_seen c.in-Some.first.now) es layout) (sym shown) in
-    rw c.requires.plain (plain_entry c.in-Some.first.now, map (λ view. plain_entry view) c.in-Some.others.now, are, text)
+    rw (c.requires.listed, c.requires.plain) (plain_entry c.in-Some.first.now, map (λ view. plain_entry view) c.in-Some.others.now, are, text)

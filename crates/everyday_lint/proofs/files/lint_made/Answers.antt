@@ -3,6 +3,7 @@ use Rattle.std.proofs.Common.{◌≢◌, ◌∙◌, [], map, sym}
 use Rattle.std.proofs.lemmas.Result.{IfOk-weaker}
 use Rattle.source_plain.specs.Reading.{without_mark}
 use Rattle.everyday_fmt.specs.Fates.{held}
+use Rattle.source_settings.specs.Settings.{settings_seen}
 use Rattle.everyday_lint.specs.Checking.{made_in}
 use Rattle.everyday_lint.specs.Offers.{made_seen}
 use Rattle.everyday_lint.proofs.FixedFiles.{finds_some, may_change, on_err_weaker, some_made}
@@ -15,7 +16,7 @@ returns-clause-done g c =
     let offers = c.args.offers.now in
     let some : map made_seen offers ≢ [] = some_made made_seen offers (sym c.is_empty.ensures ∙ c.if-is_empty.false) in
     IfOk-weaker c.fix_file.result _ _
-    (λ fate fixes. finds_some c.args.options c.args.path.now c.args.source.now (map made_seen offers) before after fate c.requires.offers some fixes)
+    (λ fate fixes. finds_some c.args.options (settings_seen c.args.settings.now) c.args.path.now c.args.source.now (map made_seen offers) before after fate c.requires.offers some fixes)
     c.fix_file.ensures.done
 
 pub returns-clause-refused : goal.returns-clause-refused

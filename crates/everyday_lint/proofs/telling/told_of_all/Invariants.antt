@@ -1,11 +1,11 @@
 use Rattle.std.proofs.Common.{◌≡◌, map, take}
-use Rattle.source_remarks.specs.Remarks.{remark_seen}
+use Rattle.source_published.specs.Published.{published_seen}
 use Rattle.everyday_lint.specs.Telling as spec
 use Rattle.everyday_lint.proofs.telling.told_of_all.Given as goal
 
 -- those so far are told
-abbrev pub invariant-loop-remark : goal.invariant-loop-remark
-invariant-loop-remark l = record {
-  told : l.told.items ≡ spec.told_of_all l.form l.file l.text (map remark_seen (take l.remark-index l.remarks));
+abbrev pub invariant-loop-published : goal.invariant-loop-published
+invariant-loop-published l = record {
+  told : l.told.items ≡ spec.told_of_all l.form l.file l.text (map published_seen (take l.published-index l.all));
   text : l.walk.0 ≡ l.text;
 }

@@ -6,13 +6,14 @@ use Rattle.everyday_tic.specs.Entries.{BecomeThese}
 use Rattle.everyday_tic.specs.inside.States.{states_of}
 use Rattle.everyday_tic.proofs.compiling.compile_all.Goals as goal
 
-pub outcome-requires : goal.outcome-requires
-outcome-requires c =
+pub draw_all-requires : goal.draw_all-requires
+draw_all-requires c =
     let db = c.args.database.now.texts in
     let rule = c.args.database.now.rule in
     record {
       within = c.requires.within;
       found = c.requires.found;
+      states = subst (BecomeThese rule c.args.options.now.user_defined db) (ap (states_of rule db) (sym c.slice_of.ensures.items)) c.in-Ok.ensures.states;
       as_many = subst (λ (s : List EntryState). length s ≡ length db) (ap (states_of rule db) (sym c.slice_of.ensures.items)) c.in-Ok.ensures.as_many;
       first = c.requires.first;
       kept = c.in-Ok.ensures.kept ∙ sym c.slice_of.ensures.kept;
@@ -24,7 +25,7 @@ returns-in-Ok c =
     let rule = c.args.database.now.rule in
     let states = states_of rule db (option_map (λ (c : Bor (List Compiled)). c.now) c.slice_of.result) in
     let are = subst (BecomeThese rule c.args.options.now.user_defined db) (ap (states_of rule db) (sym c.slice_of.ensures.items)) c.in-Ok.ensures.states in
-    IfOk-weaker c.outcome.result _ _ (λ outcome is. inr (c.in-Ok.ensures.few, states, are, is)) c.outcome.ensures
+    IfOk-weaker c.draw_all.result _ _ (λ outcome is. inr (c.in-Ok.ensures.few, states, are, is.0, is.1, is.2)) c.draw_all.ensures
 
 pub not_compiled-requires : goal.not_compiled-requires
 not_compiled-requires c = record {

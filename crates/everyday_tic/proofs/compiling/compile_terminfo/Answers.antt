@@ -3,6 +3,7 @@ use Rattle.std.specs.Prelude.{IfOk}
 use Rattle.std.specs.String.{string_bytes}
 use Rattle.ti_source.specs.declared.parsing.Rule.{Rule}
 use Rattle.everyday_sources.specs.Used.{problem_seen}
+use Rattle.everyday_names.specs.Fields.{fields_seen}
 use Rattle.everyday_tic.specs.Outcomes.{ComesOf, asked_of, made_of}
 use Rattle.everyday_tic.specs.inside.Found.{AreFoundFaults}
 use Rattle.everyday_tic.proofs.Becoming.{comes_of_all, found_before, within_all}
@@ -29,8 +30,8 @@ returns-clause-comes g c =
     let asked = asked_of c.args.options.now in
     let problems = map problem_seen c.in_ok-used.used.problems.items in
     comes_of_all old.rule asked (g.T.Tree.files c.args.tree.now) (map string_bytes c.args.directories.now) c.args.file.now c.args.first_line
-    c.len-count.result old.texts new.texts (g.T.Tree.failures c.args.tree.now) (g.T.Tree.failures c.take_used.new.tree)
+    c.len-count.result (fields_seen c.args.fields.now) old.texts new.texts (g.T.Tree.failures c.args.tree.now) (g.T.Tree.failures c.take_used.new.tree)
     c.in_ok-used.used.problems.items c.compile_all.result c.len-count.ensures c.in_ok-used.ensures.taken
     (subst (λ (r : Rule). IfOk c.compile_all.result
-    (λ outcome. ComesOf r asked c.args.file.now c.args.first_line new.texts c.len-count.result problems (made_of outcome))) c.take_used.ensures.rule
+    (λ outcome. ComesOf r asked c.args.file.now c.args.first_line (fields_seen c.args.fields.now) new.texts c.len-count.result problems (made_of outcome))) c.take_used.ensures.rule
     c.compile_all.ensures)

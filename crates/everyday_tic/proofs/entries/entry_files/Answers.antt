@@ -2,7 +2,7 @@ use Rattle.std.proofs.Common.{◌≡◌, ◌+◌, ◌==◌, not, length, ap, ari
 use Rattle.std.specs.Option.{option_map}
 use Rattle.tools_devices.specs.Placing.{entries}
 use Rattle.everyday_tic.specs.Entries.{block_files}
-use Rattle.everyday_tic.specs.inside.States.{states_of}
+use Rattle.everyday_tic.specs.inside.States.{others_seen, over, states_of}
 use Rattle.tools_sources.proofs.Filing.{one_more_block}
 use Rattle.everyday_tic.proofs.Filing.{files_more, one_more_counted}
 use Rattle.everyday_tic.proofs.entries.entry_files.Goals as goal
@@ -11,7 +11,7 @@ pub loop-at-preserved : goal.loop-at-preserved
 loop-at-preserved c =
     let o = c.args.options.now in
     let db = c.args.database.now.texts in
-    let states = states_of c.args.database.now.rule db (option_map (λ c. c.now) c.args.compiled) in
+    let states = over (states_of c.args.database.now.rule db (option_map (λ c. c.now) c.args.compiled)) (others_seen c.args.others.now) in
     let files = block_files o.directory.now (option_map (λ e. e.now) o.entries) db states in
     let at = c.loop-at.at in
     let filed = c.in_ok-add_block.ensures in
