@@ -2,7 +2,8 @@
 # two signs.
 #
 ##   make            builds the programs ti, ti-everyday (ti-tic, ti-infocmp, ti-tput, ti-clear,
-##                   ti-toe, ti-tabs, ti-fmt and ti-lint) and ti-lsp, proving every crate below them
+##                   ti-toe, ti-tabs, ti-tset, ti-reset, ti-fmt and ti-lint) and ti-lsp, proving every
+##                   crate below them
 ##   make help       prints this list
 ##   make docs       lists the contracts of all crates and their definitions, in out/docs/
 ##   make check      checks a change without proofs
@@ -73,7 +74,7 @@ VIM_FILES = $(patsubst editors/vim/%,%,$(wildcard editors/vim/*/terminfo.vim))
 EDITORS = $(wildcard $(addprefix editors/,*.el *.json *.lua *.toml *.vim *.xml textmate/* vim/*/* vscode/*))
 EDITOR_DIRS = vscode textmate vim/syntax vim/ftplugin vim/ftdetect vim
 # the links to ti-everyday
-TOOL_NAMES = ti-tic ti-infocmp ti-tput ti-clear ti-toe ti-tabs ti-fmt ti-lint
+TOOL_NAMES = ti-tic ti-infocmp ti-tput ti-clear ti-toe ti-tabs ti-tset ti-reset ti-fmt ti-lint
 # the pages of each program, and those of all
 PAGES_OF_PROGRAM = man/ti.1 man/ti-profile-tic.1 man/ti-profile-infocmp.1 man/ti-profile-tput.1 man/ti-session.1
 PAGES_OF_EVERYDAY = man/ti-everyday.1 $(TOOL_NAMES:%=man/%.1)
@@ -95,7 +96,7 @@ TINFO_FILES = $(TINFODIR)/libtinfo.so.6 $(TINFODIR)/ti-run.so $(BINDIR)/ti-run $
 PC_VALUES = -e 's|@PREFIX@|$(PREFIX)|' -e 's|@LIBDIR@|$(LIBDIR)|' -e 's|@INCLUDEDIR@|$(INCLUDEDIR)|'
 
 .PHONY: all help docs check test cli editor integration package hostile audit library tinfo lsp
-.PHONY: program everyday bench newcomers
+.PHONY: program everyday bench newcomers probe
 .PHONY: install install-built install-program install-everyday install-lsp install-editors install-docs
 .PHONY: install-library install-python install-tinfo
 .PHONY: uninstall uninstall-library uninstall-python uninstall-tinfo
@@ -134,8 +135,12 @@ package: program everyday
 newcomers: all tinfo
 	python3 tests/newcomers/run.py
 
-hostile: program lsp
-	python3 build/build.py dev_probe
+# what a view of the C library shows of files, for the tests
+probe: library
+	$(or $(CC),cc) -std=c99 -O1 -Wall -Wextra -Wpedantic -Werror -Iinclude tests/probe.c $(LIBRARY)/libti.a \
+		-o crates/ti_c/out/probe
+
+hostile: program lsp probe
 	python3 tests/hostile/run.py --all
 
 audit:
@@ -155,7 +160,6 @@ everyday:
 	python3 build/build.py ti_everyday
 
 bench: all
-	python3 build/build.py dev_bench
 	python3 bench/run.py
 
 # What is built is installed as it is, so that root needs no toolchain.

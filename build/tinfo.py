@@ -6,8 +6,8 @@
                                        has libti.so.2, from `make library`
     build/tinfo.py --names DIRECTORY   writes only the tables of names, names.h and names.c
 
-The names of capabilities are those of crates/ti_caps, their variables and codes of termcap those
-of crates/ti_names, and the codes of keys those that tinfo/keys.c names. It uses the C compiler
+The names of capabilities, their variables and their codes of termcap are those of
+build/capabilities.tsv, and the codes of keys those that tinfo/keys.c names. It uses the C compiler
 that CC names, or cc.
 """
 
@@ -21,6 +21,7 @@ import tempfile
 
 from border import FLAGS, compiler
 from build import tell
+from capabilities import read_capabilities
 from repository import TOP, text_of
 
 SONAME = "libtinfo.so.6"
@@ -31,29 +32,29 @@ SHARED = [
 # libti.so.2 is found in the directory above, wherever both are installed
 LINKED = [*SHARED, f"-Wl,-soname,{SONAME}", "-Wl,--enable-new-dtags", "-Wl,-rpath,$ORIGIN/.."]
 EXPORTS = f"{TOP}/tinfo/tinfo.map"
-# the prefix of a kind's tables, and its word in the tables of the crates
-KINDS = {"bool": "FLAG", "num": "NUMBER", "str": "TEXT"}
+# the prefix of a kind's tables, and the kind
+KINDS = {"bool": "boolean", "num": "number", "str": "string"}
 WIDTH = 100
 
 
-def words_of(table, *path):
-    """The words of a table of a crate."""
-    return re.findall(r'"([^"]*)"', re.search(rf"pub static {table}: [^=]*= \[(.*?)\];", text_of(*path), re.S)[1])
+def field_of(kind, field):
+    """What the capabilities of a kind have in a field, in the order of the compiled entry."""
+    return [getattr(row, field) for row in read_capabilities()[KINDS[kind]]]
 
 
 def names_of(kind):
-    """The names of a kind, in the order of the compiled entry."""
-    return words_of(f"{KINDS[kind]}S", "crates", "ti_caps", "src", "tables.rt")
+    """The names of a kind."""
+    return field_of(kind, "name")
 
 
 def variables_of(kind):
-    """The variables of X/Open Curses of a kind, in that order."""
-    return words_of(f"{KINDS[kind]}_VARIABLES", "crates", "ti_names", "src", "variable_tables.rt")
+    """The variables of X/Open Curses of a kind."""
+    return field_of(kind, "variable")
 
 
 def codes_of(kind):
-    """The codes of termcap of a kind, in that order."""
-    return words_of(f"{KINDS[kind]}_CODES", "crates", "ti_names", "src", "code_tables.rt")
+    """The codes of termcap of a kind."""
+    return field_of(kind, "code")
 
 
 def table(name, words):

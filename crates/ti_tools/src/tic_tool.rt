@@ -1,9 +1,11 @@
 //! `ti tic`: compiles a source into files.
+use crate::compiling::tic;
 use crate::environment::own_directory;
 use crate::failure::Failure;
+use crate::outcome::TicOptions;
 use std::rt::{Clock, Env, Files};
 use std::str;
-use ti_tools::{TicOptions, ToolError, TreeFault, place, tic};
+use tools_devices::{ToolError, TreeFault, place};
 use tools_disk::{DiskTree, read_source};
 
 /// Compiles the source in `file`, or on standard input, and writes the files below `dir`. Nothing

@@ -1,7 +1,7 @@
 //! Why the program fails.
 use std::alloc::AllocError;
 use thiserror::Error;
-use ti_tools::ToolError;
+use tools_devices::ToolError;
 
 /// Why the program stops before its work is done.
 #[derive(Clone, Copy, Debug, Error)]

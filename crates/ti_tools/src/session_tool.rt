@@ -1,6 +1,7 @@
 //! `ti session`: replies to a script.
 use std::io;
-use ti_tools::{Counted, ToolError, session};
+use tools_devices::{Counted, ToolError};
+use tools_session::session;
 
 /// Reads the script on standard input, and replies on standard output.
 ///

@@ -2,11 +2,13 @@
 use crate::environment::{entry_places, own_terminal};
 use crate::failure::Failure;
 use crate::job_end::end_job;
+use crate::listings::{InfocmpOptions, infocmp};
 use std::alloc::{AllocError, Global};
 use std::io::{self, Write};
 use std::rt::{Clock, Env, Files};
 use ti_layout::View;
-use ti_tools::{InfocmpMode, InfocmpOptions, Job, ToolError, entry, infocmp, locate};
+use tools_commands::{InfocmpMode, Job};
+use tools_devices::{ToolError, entry, locate};
 use tools_disk::DiskTree;
 
 /// Prints what the options ask for on standard output, or says on standard error why it did not.

@@ -2,11 +2,14 @@
 use crate::environment::{entry_places, own_terminal};
 use crate::failure::Failure;
 use crate::job_end::end_job;
+use crate::stopping::message;
 use std::io::{self, Write};
 use std::rt::{Clock, Env, Files};
 use ti_layout::View;
-use ti_tools::{Counted, Job, ToolError, entry, locate, message, tput, tput_lines};
+use tools_commands::Job;
+use tools_devices::{Counted, ToolError, entry, locate};
 use tools_disk::{DiskTree, ErrorStream};
+use tools_tput::{tput, tput_lines};
 
 /// Writes to standard output what the words ask of a terminal, or what each line of standard input
 /// asks if `lines` is set, or says on standard error why it did not. The terminal is `term`, else

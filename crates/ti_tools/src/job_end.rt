@@ -1,6 +1,8 @@
 //! How a job ends that stops before its work is done.
 use crate::failure::Failure;
-use ti_tools::{Counted, Job, ToolError, message, status};
+use crate::stopping::{message, status};
+use tools_commands::Job;
+use tools_devices::{Counted, ToolError};
 use tools_disk::ErrorStream;
 
 /// Says on standard error why a job stopped; `name` is that of the terminal, and `found` says that

@@ -2,7 +2,7 @@
 use crate::failure::Failure;
 use std::env::{self, VarError};
 use std::rt::Env;
-use ti_tools::{ToolError, output_directory, places};
+use tools_devices::{ToolError, output_directory, places};
 
 // What a variable of the environment is set to.
 fn variable<R: Env + AllocGlobal>(rt: &R, name: &'static str) -> Result<Option<String>, Failure> {
