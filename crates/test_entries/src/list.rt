@@ -1,11 +1,10 @@
-//! Calls of `ti_list`, `user_listing` and `ti_tools::infocmp`: entries listed, compared and related.
+//! Calls of `ti_list` and `user_listing`: entries listed, compared and related.
 use std::alloc::Global;
-use std::str;
 use test_rows::RowError::{Bad, Memory};
 use test_rows::{NO_CALL, Row, RowResult};
 use ti_layout::View;
 use ti_list::{Layout, ListError, Mode, Order, compare, list, relative};
-use ti_tools::{InfocmpMode, InfocmpOptions, ToolError, infocmp};
+use tools_commands::InfocmpMode;
 use user_extension::read;
 use user_listing::ExtendedEntry;
 
@@ -140,43 +139,6 @@ fn say_listed(row: &mut Row<'_>, text: Result<Vec<u8>, ListError>, is_room: bool
     }
 }
 
-// The first three lines, and how many lines of each kind begin with a tab.
-fn say_counts(row: &mut Row<'_>, text: &str) -> RowResult {
-    let mut count: usize = 0;
-    for (at, line) in text.lines().enumerate() {
-        if at < 3 {
-            row.say_text(line)?;
-        }
-        if line.starts_with("\t") {
-            count = count.saturating_add(1);
-        } else if at > 1 {
-            row.show(&count)?;
-            count = 0;
-        }
-    }
-    row.show(&count)
-}
-
-// What neither of two entries has, which no user-defined capability changes.
-fn say_lacking(row: &mut Row<'_>, asked: &Asked<'_>) -> RowResult {
-    let (Ok(text), Ok(same)) = (plain(row.alloc, asked), extended(row.alloc, asked)) else {
-        return Err(Memory);
-    };
-    if text != same {
-        return Err(Bad("the calls differ"));
-    }
-    say_counts(row, str::from_utf8(&text).unwrap_or(""))
-}
-
-fn say_printed(row: &mut Row<'_>, asked: &Asked<'_>) -> RowResult {
-    let (mode, layout) = (asked.mode, asked.layout);
-    match infocmp(row.alloc, &asked.views, &InfocmpOptions { mode, layout }) {
-        Ok(text) => row.say(&text),
-        Err(ToolError::Memory) => Err(Memory),
-        Err(cause) => row.fail(format!(in row.alloc; "{cause:?}")?.as_str()),
-    }
-}
-
 /// Makes a call of these libraries.
 pub fn call(entries: &mut Entries, name: &str, row: &mut Row<'_>) -> RowResult {
     if name == "keep" {
@@ -187,8 +149,6 @@ pub fn call(entries: &mut Entries, name: &str, row: &mut Row<'_>) -> RowResult {
         "plain" => say_listed(row, plain(row.alloc, &asked), false),
         "extended" => say_listed(row, extended(row.alloc, &asked), false),
         "room" => say_listed(row, plain(row.alloc, &asked), true),
-        "lacking" => say_lacking(row, &asked),
-        "infocmp" => say_printed(row, &asked),
         _ => Err(NO_CALL),
     }
 }

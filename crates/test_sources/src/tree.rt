@@ -1,12 +1,11 @@
 //! Calls of `tools_devices` on a tree of files in memory, which fails when it is told to, and of
 //! `everyday_sources`, which takes the entries that a source uses from there.
-use crate::tools::say_error;
 use everyday_sources::{chosen_names, is_chosen, take_used};
 use std::alloc::Global;
 use test_rows::RowError::{Bad, Memory};
 use test_rows::{NO_CALL, Row, RowResult, text_of};
 use ti_source::{Rule, lookup_names};
-use tools_devices::{File, MemTree, Tree, TreeFault, locate, place};
+use tools_devices::{File, MemTree, ToolError, Tree, TreeFault, locate, place};
 use tools_sources::database_by;
 
 // The files of paths and bytes.
@@ -73,7 +72,8 @@ fn say_located(row: &mut Row<'_>, tree: &mut MemTree) -> RowResult {
     let places = texts(row)?;
     match locate(row.alloc, tree, row.text(0)?, &places) {
         Ok(entry) => row.say(&entry),
-        Err(cause) => say_error(row, cause),
+        Err(ToolError::Memory) => Err(Memory),
+        Err(cause) => row.fail(format!(in row.alloc; "{cause:?}")?.as_str()),
     }
 }
 

@@ -1,7 +1,5 @@
 //! Worked rows of the libraries that hold the blocks of a source and expand their uses, with
-//! user-defined capabilities and without. CONTRIBUTING, "Add a test", says how a row is written, and
-//! `data/README.md` which file has the rows of which library. Each module is named after the group of
-//! its calls.
+//! user-defined capabilities and without. Each module is named after the group of its calls.
 #![tactic(auto)]
 
 mod base;
@@ -14,15 +12,13 @@ mod user;
 
 use base_slots::Slots;
 use std::alloc::{AllocError, Global};
-use std::io;
-use std::process::ExitCode;
-use test_rows::{Calls, NO_CALL, Row, RowResult, run};
+use test_rows::{Calls, NO_CALL, Row, RowResult};
 use ti_base::Database;
 use user_kept::KeptDatabase;
 
 // What is kept from row to row of a file.
 #[derive(Drop)]
-struct Session {
+pub struct DatabaseCalls {
     // The database of `base.edit`.
     base: Database,
     // The list of `slots.new`.
@@ -31,9 +27,9 @@ struct Session {
     kept: KeptDatabase,
 }
 
-impl Calls for Session {
-    fn new(alloc: Global) -> Result<Session, AllocError> {
-        Ok(Session {
+impl Calls for DatabaseCalls {
+    fn new(alloc: Global) -> Result<DatabaseCalls, AllocError> {
+        Ok(DatabaseCalls {
             base: Database::new(alloc),
             slots: Slots::new(alloc),
             kept: KeptDatabase::new(alloc),
@@ -51,8 +47,4 @@ impl Calls for Session {
             _ => Err(NO_CALL),
         }
     }
-}
-
-fn main(rt: HostRuntime) -> io::Result<ExitCode> {
-    run::<Session, HostRuntime>(&rt)
 }

@@ -1,6 +1,5 @@
-//! Worked rows of the libraries that read sources, strings and entries. CONTRIBUTING, "Add a test",
-//! says how a row is written, and `data/README.md` which file has the rows of which library. Each
-//! module is named after the group of its calls.
+//! Worked rows of the libraries that read sources, strings and entries. Each module is named after the
+//! group of its calls.
 #![tactic(auto)]
 
 mod caps;
@@ -17,15 +16,13 @@ use entry::Bytes;
 use image::Images;
 use list::Entries;
 use std::alloc::{AllocError, Global};
-use std::io;
-use std::process::ExitCode;
-use test_rows::{Calls, NO_CALL, Row, RowResult, run};
+use test_rows::{Calls, NO_CALL, Row, RowResult};
 use ti_param::Statics;
 use ti_source::SharedTexts;
 
 // What is kept from row to row of a file.
 #[derive(Drop)]
-struct Session {
+pub struct EntryCalls {
     // The static variables of `param.expand_keeping`.
     statics: Statics,
     // The strings of `source.parse_sharing`.
@@ -38,9 +35,9 @@ struct Session {
     entries: Entries,
 }
 
-impl Calls for Session {
-    fn new(alloc: Global) -> Result<Session, AllocError> {
-        Ok(Session {
+impl Calls for EntryCalls {
+    fn new(alloc: Global) -> Result<EntryCalls, AllocError> {
+        Ok(EntryCalls {
             statics: Statics::new(),
             shared: SharedTexts::new(alloc)?,
             bytes: Bytes::new(alloc),
@@ -63,8 +60,4 @@ impl Calls for Session {
             _ => Err(NO_CALL),
         }
     }
-}
-
-fn main(rt: HostRuntime) -> io::Result<ExitCode> {
-    run::<Session, HostRuntime>(&rt)
 }
