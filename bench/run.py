@@ -11,14 +11,13 @@ entries   sources of many entries, compiled into files: 1,800 of 1.1 KB each wit
 system    the entries of the system, as ncurses's infocmp lists them, compiled into files; and
           ncurses's own source
 tools     `ti tput` and `ti infocmp` on the system's own entry, if it is there; both read one file
-edits     edits of a database of 1,000 and of 65,535 blocks, a chain of uses, circular ones, and
-          lists of edits in one call: medians of five runs in microseconds, and MB
+edits     edits of a database of 1,000 and of 65,535 blocks, a chain of uses and circular ones, by
+          `ti session`, and lists of blocks: instructions, CPU time in microseconds, and MB
 editor    the CPU time of `ti-lsp` for opening a source and for a key in it, and that of ncurses's
           `tic -c` of the whole: ncurses's own source, and 1,000 entries of 1.1 KB each; and for
           answers about 2,800 entries, of which 900 have a use
 rates     MB/s (10^6 bytes a second) of `ti tic -c` on one-block sources of 64 KiB, 256 KiB and
           1 MiB, and of ncurses's `tic -c` on the last: the best of several runs
-machine   what `dev_bench` prints of the libraries alone
 
 If each row of that table was measured, it is printed and docs/speed.svg is drawn anew.
 ncurses's own source is misc/terminfo.src of ncurses; the variable MASTER names the file, and
@@ -33,15 +32,13 @@ installed, or not built yet, is left out, and that is said too.
 """
 
 import os
-import re
 import shutil
-import statistics
-import subprocess
 import sys
 import tempfile
 
 HERE = os.path.dirname(os.path.abspath(__file__))
 sys.path.append(os.path.join(os.path.dirname(HERE), "build"))
+import edits  # noqa: E402
 import picture  # noqa: E402
 import server  # noqa: E402
 import sources  # noqa: E402
@@ -50,17 +47,14 @@ from measuring import OUT, Room, Work, clock, files_written, measure, run  # noq
 from repository import entry_file, program_of  # noqa: E402
 
 PROGRAM, EVERYDAY = program_of("ti"), program_of("ti_everyday")
-MACHINE = program_of("dev_bench")
 MASTER = os.environ.get("MASTER")
 TERMINAL = "xterm-256color"
 MEMORY = "/dev/shm"
 RATE_RUNS = 40
-# runs of which edits are given by the median
-EDIT_RUNS = 5
 TOOLS_HEAD = """| Work | Milliseconds, ti | ncurses | Ratio | Instructions, ti | ncurses | Ratio |
 |---|---:|---:|---:|---:|---:|---:|"""
-EDITS_HEAD = """| Blocks | Edit | Microseconds | MB at most |
-|---:|---|---:|---:|"""
+EDITS_HEAD = """| Blocks | Edit | Instructions | Microseconds | MB at most |
+|---:|---|---:|---:|---:|"""
 EDITOR_HEAD = """| Source | Opening, ms of CPU time | A key | ncurses's `tic -c` |
 |---|---:|---:|---:|"""
 # what was measured, by name; what is said after the tables; what differs that must not
@@ -212,38 +206,6 @@ def show_glance():
     picture.draw([(one.name, *(1000 * seconds for seconds in one.seconds)) for one in taken])
 
 
-def machine(_room):
-    if os.access(MACHINE, os.X_OK):
-        sys.stdout.flush()
-        subprocess.run([MACHINE, "1000000"], check=True)
-
-
-def edits_of(count, what):
-    """Nanoseconds of each kind of edit in each run, and the most memory of a run, in KiB."""
-    times, most = {}, 0
-    for _ in range(EDIT_RUNS):
-        with subprocess.Popen([MACHINE, str(count), what], stdout=subprocess.PIPE) as one_run:
-            printed = one_run.stdout.read().decode()
-            _, _, used = os.wait4(one_run.pid, 0)
-            one_run.returncode = 0
-        most = max(most, used.ru_maxrss)
-        for edit, took, unit in re.findall(r"^(.*): (\d+) (ns each|ms)", printed, re.M):
-            times.setdefault(edit, []).append(int(took) * (1 if unit == "ns each" else 1_000_000))
-    return times, most
-
-
-def edits(_room):
-    if not os.access(MACHINE, os.X_OK):
-        print("edits: left out (dev_bench is not built)")
-        return
-    for count, what in (
-        (1000, "edits"), (65535, "edits"), (65535, "chain"), (1000, "circular"), (65535, "circular"), (65535, "runs"),
-    ):
-        times, most = edits_of(count, what)
-        for edit, took in times.items():
-            print(f"| {count:,} | {edit} | {statistics.median(took) / 1000:,.1f} | {most / 1024:.0f} |")
-
-
 def editor(room):
     if not os.access(server.SERVER, os.X_OK):
         print("editor: left out (ti-lsp is not built: make lsp)")
@@ -278,8 +240,8 @@ def rates(room):
 PARTS = {
     "daily": lambda room: compare_all(daily, room),
     "entries": lambda room: compare_all(entries, room), "system": lambda room: compare_all(system, room),
-    "tools": lambda room: compare_all(tools, room), "edits": edits, "editor": editor, "rates": rates,
-    "machine": machine, "glance": glance,
+    "tools": lambda room: compare_all(tools, room), "edits": edits.show, "editor": editor, "rates": rates,
+    "glance": glance,
 }
 HEADS = {
     "glance": TOOLS_HEAD, "daily": TOOLS_HEAD, "entries": TOOLS_HEAD, "system": TOOLS_HEAD, "tools": TOOLS_HEAD,

@@ -132,6 +132,8 @@ class Editor:
         params = {"textDocument": {"uri": uri}, "position": place(self.texts.get(uri, "a,b"))}
         if method == "textDocument/references":
             params["context"] = {"includeDeclaration": self.one([True, False])}
+        if method == "textDocument/rangeFormatting":
+            params["range"] = self.part(params.pop("position"))
         if method == "textDocument/codeAction":
             params |= {"range": self.part(params.pop("position")), "context": {"diagnostics": []}}
             if self.random.random() < 0.3:

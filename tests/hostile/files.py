@@ -66,7 +66,7 @@ def with_bytes(content, changes):
 
 
 def probed(entry, refusal):
-    """The lines that dev_probe prints of an entry."""
+    """The lines that tests/probe.c prints of an entry."""
     if refusal is not None:
         return [f"refused {refusal}"]
     names, values = entry
@@ -103,7 +103,7 @@ def changed_bytes_shown(take):
         paths = {name: os.path.join(room.path, name[0], name) for name in entries}
         for at in range(0, len(entries), AT_ONCE):
             some = list(entries)[at : at + AT_ONCE]
-            done = take(["files", *(paths[name] for name in some)], program=PROBE)
+            done = take([paths[name] for name in some], program=PROBE)
             wanted = [line for name in some for line in (f"file {paths[name]}", *probed(*read(entries[name])))]
             if done.status != 0 or done.out.decode().splitlines() != wanted:
                 return f"status {done.status}, of {some[0]} to {some[-1]}"

@@ -9,10 +9,10 @@ from typing import NamedTuple
 
 HERE = os.path.dirname(os.path.abspath(__file__))
 sys.path.insert(0, os.path.dirname(HERE))
-from common import program_of  # noqa: E402
+from common import PROBE as BUILT_PROBE, program_of  # noqa: E402
 
 PROGRAM = os.environ.get("TI_PROGRAM") or program_of("ti")
-PROBE = os.environ.get("TI_PROBE") or program_of("dev_probe")
+PROBE = os.environ.get("TI_PROBE") or BUILT_PROBE
 LSP = os.environ.get("TI_LSP") or program_of("ti_lsp")
 EVERYDAY = os.environ.get("TI_EVERYDAY") or program_of("ti_everyday")
 MEMORY_MAX = 2_000_000_000

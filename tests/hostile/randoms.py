@@ -11,8 +11,9 @@ import tempfile
 
 from documents import disordered, edited
 from generate import Source, fits_a_session, lines_of
-from limits import ROOM, quick
+from limits import EVERYDAY, ROOM, quick
 from model.base import Database, Meaning, compile_source
+from model.layout import keep_lines, lay_out, plain, written_like
 from model.listing import listed
 from model.session import replies
 from model.entry import read
@@ -140,7 +141,30 @@ def listing_fault(room, names, files):
     return None if (code, got, err) == (0, wanted, b"") else f"listings, status {code}: {first_difference(got, wanted)}"
 
 
-KINDS = {"edits": edits, "scripts": script, "sources": source, "documents": edited, "messages": disordered}
+# of what a source is made whose layout is not that of a listing
+PIECES = (
+    b"am bel=a cols#80 use=u # x|y . \\ ^ % \\, ^, %^, , , , ,".split() + [b"wide_boolean", b"a" * 14]
+    + [b" ", b"  ", b"\t", b"\n", b"\n\t", b"\n  ", b"\n    ", b"\n\n", b"\n#c, d", b"\nt,", b"\r", b"\r\n", b"\xef\xbb\xbf", b"\0"]
+)
+
+
+def layout(seed):
+    """A source, laid out by ti-fmt in each of its layouts; and what it wrote, laid out again."""
+    maker = Source(seed)
+    text = maker.source() if maker.maybe(0.2) else maker.one([b"", b"t,", b"t|n, am,\n"]) + b"".join(
+        maker.one(PIECES) for _ in range(maker.random.randint(0, 40)))
+    columns = maker.one([20, 21, 30, 80])
+    width = ["-w", str(columns)]
+    for words, lay, size in ((["--keep"], keep_lines, columns), ([], lay_out, columns), (["-1"], lay_out, 0)):
+        wanted = written_like(text, lay(plain(text), size))
+        for given in (text, wanted):
+            code, got, err = quick(["ti-fmt", *words, *width], given, EVERYDAY)
+            if (code, got, err) != (0, wanted, b""):
+                return f"{words}, status {code}: {first_difference(got, wanted)}"
+    return None
+
+
+KINDS = {"layouts": layout, "edits": edits, "scripts": script, "sources": source, "documents": edited, "messages": disordered}
 
 
 def one(question):

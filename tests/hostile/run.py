@@ -29,7 +29,7 @@ import user_defined  # noqa: F401, adds its inputs
 # edits, so these are 2,000; a run of `documents` too.
 COUNTS = {
     "edits": (100, 100), "scripts": (1_000, 12_000), "sources": (600, 8_000), "documents": (100, 1_000),
-    "messages": (200, 2_000),
+    "messages": (200, 2_000), "layouts": (400, 4_000),
 }
 # how many of the faults of a kind are printed
 FAULTS_SHOWN = 10

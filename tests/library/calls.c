@@ -304,6 +304,32 @@ static void expansion(void) {
     CHECK(outcome.status == TI_OK && outcome.size == 3 && wrote("a\0b", 3));
 }
 
+/* What a front and this many copies of a piece give, without parameters and without room. */
+static struct ti_outcome of_copies(const char *front, const char *piece, size_t count) {
+    size_t size = strlen(front), step = strlen(piece), all = size + count * step;
+    char *format = malloc(all + 1);
+    if (!format) return (struct ti_outcome){ TI_NO_MEMORY, 0 };
+    memcpy(format, front, size);
+    for (size_t i = 0; i < count; i++) memcpy(format + size + i * step, piece, step);
+    struct ti_outcome outcome = expand(format, all, NULL, 0, 0);
+    free(format);
+    return outcome;
+}
+
+static bool is_outcome(struct ti_outcome outcome, enum ti_status status, size_t size) {
+    return outcome.status == status && outcome.size == size;
+}
+
+/* Formats of up to 2,000,000 bytes: conditionals that are opened and never closed, parts that are
+ * taken and that are not, and values that nothing pops. */
+static void long_formats(void) {
+    CHECK(is_outcome(of_copies("", "%?", 1000000), TI_BAD_FORMAT, 128));
+    CHECK(is_outcome(of_copies("%?%p1%t", "%%", 100000), TI_OK, 0));
+    CHECK(is_outcome(of_copies("%?%p1%!%t", "%%", 100000), TI_NO_ROOM, 100000));
+    CHECK(is_outcome(of_copies("", "%p1", 1000000), TI_STACK_FULL, 60));
+    CHECK(is_outcome(of_copies("%?", "%p1%tA%e", 200000), TI_OK, 0));
+}
+
 /* ---- parameters */
 
 /* Whether a string takes these parameters; `strings` has a bit for each that is a string. */
@@ -639,6 +665,7 @@ int main(void) {
     refusals();
     values();
     expansion();
+    long_formats();
     parameters();
     named_formats();
     padding();

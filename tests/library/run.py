@@ -257,7 +257,7 @@ def check_symbols(room):
 
 def check_names(room):
     """Each constant is compared with what ti_capability finds for the name in its comment."""
-    status, said = run([sys.executable, os.path.join(TOP, "build", "names.py"), "--check"])
+    status, said = run([sys.executable, os.path.join(TOP, "build", "capabilities.py"), "--check"])
     if status:
         return [said]
     rows = re.findall(r"^#define (TI_\w+) TI_PLACE\(.*?/\* (\w+),", text_of("include", "ti_names.h"), re.M)

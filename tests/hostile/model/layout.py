@@ -1,7 +1,8 @@
 """The layout of a source in lines of a width, and the lines of it that may be folded."""
 
+from .answers import blocks_with_lines
 from .source import WHITE, cut, ends_of_items, fold, is_head
-from .texts import lines_of, width
+from .texts import lines_of, offset_of, width
 
 COLUMNS = 80
 MARK = b"\xef\xbb\xbf"
@@ -79,6 +80,71 @@ def lay_out(source, columns):
     return preface + b"".join(lay_out_block(block, columns) for block in blocks)
 
 
+def next_of(reached, byte):
+    """What is reached by a byte: `names`, `between` two items, within an `item`, or in one after a sign that counts."""
+    if reached in "\\^":
+        ended = reached == "^" and byte == b","
+        return "between" if ended else "%" if byte == b"%" else "item"
+    if byte == b",":
+        return "between"
+    if reached == "names" or reached == "between" and byte in WHITE:
+        return reached
+    if byte == b"\\" or byte == b"^" and reached != "%" or byte == b"%":
+        return byte.decode()
+    return "item"
+
+
+def parts_of(reached, line):
+    """The parts of a line, each up to the comma that ends one, without white space before items; and what is reached."""
+    found, begun = [], False
+    for byte in (line[at : at + 1] for at in range(len(line))):
+        before, reached = reached, next_of(reached, byte)
+        if not (before == reached == "between" and byte in WHITE):
+            found[len(found) - begun :] = [found[-1] + byte if begun else byte]
+            begun = reached != "between"
+    return found, reached
+
+
+def front_of(line):
+    """The white space that a line begins with."""
+    return line[: len(line) - len(line.lstrip(WHITE))]
+
+
+def indent_of(lines):
+    """The white space of the first line that begins with an item."""
+    reached = "names"
+    for line in lines:
+        if reached == "between":
+            return front_of(line)
+        reached = parts_of(reached, line.lstrip(WHITE))[1]
+    return b"\t"
+
+
+def keep_block(block, columns):
+    lines = split_lines(block)
+    indent = indent_of([line for line in lines if not is_kept(line)])
+    out, reached = [], "names"
+    for line in lines:
+        if is_kept(line):
+            out.append(line)
+            continue
+        out.append(indent if reached == "between" else front_of(line))
+        (first, *others), reached = parts_of(reached, line.lstrip(WHITE))
+        out[-1] += first
+        for part in others:
+            if columns_of(out[-1]) + 1 + columns_of(part) <= columns:
+                out[-1] += b" " + part
+            else:
+                out.append(indent + part)
+    return b"".join(line + b"\n" for line in out)
+
+
+def keep_lines(source, columns):
+    """A source in its own lines, of which those that are too long are broken."""
+    preface, blocks = cut(source)
+    return preface + b"".join(keep_block(block, columns) for block in blocks)
+
+
 def plain(source):
     """A source as it is read: without a byte order mark in front, and without the CR of each CR LF."""
     return source.removeprefix(MARK).replace(b"\r\n", b"\n")
@@ -101,6 +167,23 @@ def layout_of(text):
     lines = lines_of(text)
     end = {"line": len(lines) - 1, "character": width(lines[-1][1])}
     return [{"newText": laid, "range": {"start": {"line": 0, "character": 0}, "end": end}}]
+
+
+def part_layout_of(text, start, end):
+    """The edits that lay out the blocks that a range touches: one, or none. A range that ends before
+    the first column of a line does not touch that line."""
+    last = end[0] - 1 if end[1] == 0 and start[0] < end[0] else end[0]
+    spans = [(line, line + block.count(b"\n")) for block, line, _ in blocks_with_lines(text)]
+    touched = [span for span in spans if span[0] <= last and start[0] < span[1]]
+    if not touched:
+        return []
+    first, stop = touched[0][0], touched[-1][1]
+    piece = text[offset_of(text, first, 0) : offset_of(text, stop, 0)].encode("utf-8")
+    laid = written_like(piece, lay_out(plain(piece), COLUMNS))
+    if laid == piece:
+        return []
+    places = {"start": {"line": first, "character": 0}, "end": {"line": stop, "character": 0}}
+    return [{"newText": laid.decode("utf-8"), "range": places}]
 
 
 def folds_of(text):

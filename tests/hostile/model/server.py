@@ -11,7 +11,7 @@ from .answers import (
 )
 from .base import Meaning
 from .fixes import fixes_of
-from .layout import folds_of, layout_of
+from .layout import folds_of, layout_of, part_layout_of
 from .texts import blocks_of, lines_of, offset_of, refused_line, width
 
 SMALL = 2**31
@@ -23,7 +23,7 @@ QUESTIONS = {
     "textDocument/completion": True, "textDocument/hover": True, "textDocument/definition": True,
     "textDocument/references": True, "textDocument/documentSymbol": False, "textDocument/rename": True,
     "textDocument/prepareRename": True, "textDocument/codeAction": False, "textDocument/documentHighlight": True,
-    "textDocument/foldingRange": False, "textDocument/formatting": False, "textDocument/signatureHelp": True,
+    "textDocument/foldingRange": False, "textDocument/formatting": False, "textDocument/rangeFormatting": False, "textDocument/signatureHelp": True,
 }
 # the methods that tell of a document
 TELLING = ["textDocument/didOpen", "textDocument/didChange", "textDocument/didClose"]
@@ -206,6 +206,9 @@ def question_of(method, params):
     if method == "textDocument/codeAction":
         part, wanted = range_of(member(params, "range")), wanted_of(params)
         return None if part is None or wanted is None else (uri, part, wanted)
+    if method == "textDocument/rangeFormatting":
+        part = range_of(member(params, "range"))
+        return None if part is None else (uri, part, None)
     if method == "textDocument/references":
         declared = member(member(params, "context"), "includeDeclaration")
         return (uri, place, declared) if isinstance(declared, bool) else None
@@ -239,6 +242,8 @@ def answer_of(nests, method, text, uri, place, more):
         return folds_of(text)
     if method == "textDocument/formatting":
         return layout_of(text)
+    if method == "textDocument/rangeFormatting":
+        return part_layout_of(text, *place)
     symbols = symbols_of(text)
     return symbols if nests else [
         {"kind": each["kind"], "name": each["name"], "location": {"uri": uri, "range": each["range"]}} for each in symbols
