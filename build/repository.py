@@ -12,6 +12,10 @@ def program_of(crate):
     return os.path.join(TOP, "crates", crate, "out", crate)
 
 
+# what a view of libti shows of files, for the tests: `make probe`
+PROBE = os.path.join(TOP, "crates", "ti_c", "out", "probe")
+
+
 def text_of(*parts):
     """The text of a file of the repository."""
     with open(os.path.join(TOP, *parts), encoding="utf-8") as file:

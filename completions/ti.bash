@@ -1,6 +1,6 @@
 # Completion for bash of ti, and of the everyday tools ti-tic, ti-infocmp, ti-tput, ti-clear,
-# ti-toe, ti-tabs, ti-fmt and ti-lint: options, terminal names from the places of entries,
-# capability names, and files.
+# ti-toe, ti-tabs, ti-tset, ti-reset, ti-fmt and ti-lint: options, terminal names from the places
+# of entries, capability names, and files.
 
 # The capabilities of terminfo(5), booleans, numbers and strings, in the order of the tables.
 _ti_capabilities='
@@ -122,7 +122,7 @@ _ti_infocmp() {
         -w) ;;
         *)
             if [[ $current == -* ]]; then
-                [[ -z $everyday ]] || _ti_words -x -D
+                [[ -z $everyday ]] || _ti_words -x -C -T -E -e -0 -D
                 _ti_options -I -d -c -n -u -1 -w -s -A -B
                 return
             fi
@@ -201,9 +201,23 @@ _ti_tabs() {
     fi
 }
 
+_ti_tset() {
+    local places
+    if [[ $current == -* ]]; then
+        _ti_options -c -e -I -i -k -m -Q -q -r -s -w
+    elif [[ $previous != -[eikm] ]]; then
+        _ti_places
+        _ti_terminals "${places[@]}"
+    fi
+}
+
+_ti_reset() {
+    _ti_tset
+}
+
 _ti_fmt() {
     if [[ $current == -* ]]; then
-        _ti_options --check -1 -w
+        _ti_options --check --keep -1 -w
     elif [[ $previous != -w ]]; then
         _ti_files -f
     fi
@@ -243,7 +257,7 @@ _ti() {
     esac
     case $tool in
         tic | infocmp | tput | session) "_ti_$tool" ;;
-        clear | toe | tabs | fmt | lint) [[ -z $everyday ]] || "_ti_$tool" ;;
+        clear | toe | tabs | tset | reset | fmt | lint) [[ -z $everyday ]] || "_ti_$tool" ;;
         help) ((COMP_CWORD > 2)) || _ti_words tic infocmp tput session ;;
     esac
     # a name may be in several places
@@ -259,4 +273,4 @@ _ti() {
     fi
 }
 
-complete -F _ti ti ti-tic ti-infocmp ti-tput ti-clear ti-toe ti-tabs ti-fmt ti-lint
+complete -F _ti ti ti-tic ti-infocmp ti-tput ti-clear ti-toe ti-tabs ti-tset ti-reset ti-fmt ti-lint

@@ -1,6 +1,6 @@
 # Completion for fish of ti, and of the everyday tools ti-tic, ti-infocmp, ti-tput, ti-clear,
-# ti-toe, ti-tabs, ti-fmt and ti-lint: options, terminal names from the places of entries,
-# capability names, and files.
+# ti-toe, ti-tabs, ti-tset, ti-reset, ti-fmt and ti-lint: options, terminal names from the places
+# of entries, capability names, and files.
 
 # The capabilities of terminfo(5), booleans, numbers and strings, in the order of the tables.
 function __ti_capabilities
@@ -200,6 +200,11 @@ complete -c ti-infocmp -s d -d 'Compare the first with each of the others: what 
 complete -c ti-infocmp -s c -d 'Compare the first with each of the others: what both have'
 complete -c ti-infocmp -s n -d 'Compare the first with each of the others: what neither has'
 complete -c ti-infocmp -s u -d 'List the first relative to the others'
+complete -c ti-infocmp -s C -d 'List entries in the form of termcap'
+complete -c ti-infocmp -s T -d 'With -C, list entries of any length whole'
+complete -c ti-infocmp -s E -d 'Print an entry as tables of C'
+complete -c ti-infocmp -s e -d 'Print an entry as a structure of C'
+complete -c ti-infocmp -s 0 -d 'List each entry on one line'
 complete -c ti-infocmp -s 1 -d 'List each item on its own line'
 complete -c ti-infocmp -s w -x -d 'Columns of a line, from 20 to 4096'
 complete -c ti-infocmp -s s -x -a 'd i' -d 'Sort by place in the entry (d) or by name (i)'
@@ -243,8 +248,41 @@ complete -c ti-tabs -o 8 -d 'Set a stop at each eighth column'
 complete -c ti-tabs -o h -l help -d 'Print help'
 complete -c ti-tabs -o V -l version -d 'Print version'
 
+complete -c ti-tset -f
+complete -c ti-tset -a '(__ti_terminals)'
+complete -c ti-tset -s c -d 'Set the modes of the line, and send strings to the terminal'
+complete -c ti-tset -s e -x -d 'Set the character that erases'
+complete -c ti-tset -s I -d 'Send no strings'
+complete -c ti-tset -s i -x -d 'Set the character that interrupts'
+complete -c ti-tset -s k -x -d 'Set the character that kills the line'
+complete -c ti-tset -s m -x -d 'Map a type of port to a type of terminal'
+complete -c ti-tset -s Q -d 'Do not report characters'
+complete -c ti-tset -s q -d 'Print the name of the terminal, and set nothing'
+complete -c ti-tset -s r -d 'Print the name of the terminal on standard error'
+complete -c ti-tset -s s -d 'Print commands that set TERM'
+complete -c ti-tset -s w -d 'Set the size of the window, if it has none'
+complete -c ti-tset -s h -l help -d 'Print help'
+complete -c ti-tset -s V -l version -d 'Print version'
+
+complete -c ti-reset -f
+complete -c ti-reset -a '(__ti_terminals)'
+complete -c ti-reset -s c -d 'Set the modes of the line, and send strings to the terminal'
+complete -c ti-reset -s e -x -d 'Set the character that erases'
+complete -c ti-reset -s I -d 'Send no strings'
+complete -c ti-reset -s i -x -d 'Set the character that interrupts'
+complete -c ti-reset -s k -x -d 'Set the character that kills the line'
+complete -c ti-reset -s m -x -d 'Map a type of port to a type of terminal'
+complete -c ti-reset -s Q -d 'Do not report characters'
+complete -c ti-reset -s q -d 'Print the name of the terminal, and set nothing'
+complete -c ti-reset -s r -d 'Print the name of the terminal on standard error'
+complete -c ti-reset -s s -d 'Print commands that set TERM'
+complete -c ti-reset -s w -d 'Set the size of the window, if it has none'
+complete -c ti-reset -s h -l help -d 'Print help'
+complete -c ti-reset -s V -l version -d 'Print version'
+
 complete -c ti-fmt -l check -d 'Print the names of files that would change, and write none'
 complete -c ti-fmt -s 1 -d 'Write each item on its own line'
+complete -c ti-fmt -l keep -d 'Keep the lines; repair white space, and break lines that are too long'
 complete -c ti-fmt -s w -x -d 'Columns of a line, from 20 to 4096'
 
 complete -c ti-lint -s x -d 'Read user-defined capabilities too'

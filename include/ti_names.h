@@ -3,7 +3,7 @@
  * in capitals, with a `_` where its letters first change between lower and upper case, as TI_K_BEG
  * for kBEG. The comments have the name, and the variable of X/Open Curses.
  *
- * Written by build/names.py.
+ * Written by build/capabilities.py.
  */
 #ifndef TI_NAMES_H
 #define TI_NAMES_H
