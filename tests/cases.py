@@ -2,8 +2,8 @@
 
     args      the words after `ti`, one a line
     run       in place of args, a command that sh runs with `ti` on PATH, and `ti-lsp`, `ti-everyday`,
-              `ti-tic`, `ti-infocmp`, `ti-tput`, `ti-clear`, `ti-toe`, `ti-tabs`, `ti-fmt` and `ti-lint` if they
-              are built: it lays out what `before` cannot, as a link or a FIFO, and then runs `ti`
+              `ti-tic`, `ti-infocmp`, `ti-tput`, `ti-clear`, `ti-toe`, `ti-tabs`, `ti-tset`, `ti-reset`,
+              `ti-fmt` and `ti-lint` if they are built: it lays out what `before` cannot, as a link or a FIFO, and then runs `ti`
     exchanges in place of args and run, what a client sends to `ti-lsp`, and what must come back: the
               head of tests/exchanges.py says how
     env       NAME=VALUE a line; apart from these only PATH is set
@@ -82,7 +82,8 @@ class Case:
         if os.access(LSP, os.X_OK):
             place(LSP, os.path.join(self.tools, "ti-lsp"))
         if os.access(EVERYDAY, os.X_OK):
-            for name in ("ti-everyday", "ti-tic", "ti-infocmp", "ti-tput", "ti-clear", "ti-toe", "ti-tabs", "ti-fmt", "ti-lint"):
+            for name in ("ti-everyday", "ti-tic", "ti-infocmp", "ti-tput", "ti-clear", "ti-toe", "ti-tabs", "ti-tset", "ti-reset", "ti-fmt",
+                         "ti-lint"):
                 place(EVERYDAY, os.path.join(self.tools, name))
         if not self.has("before"):
             return None

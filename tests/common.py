@@ -8,7 +8,7 @@ import sys
 
 # after the directories of tests, one of which also has a module `packages`
 sys.path.append(os.path.join(os.path.dirname(os.path.dirname(os.path.abspath(__file__))), "build"))
-from repository import ENTRY_DIRECTORIES, TOP, entry_file, files_below, program_of, text_of  # noqa: E402, F401
+from repository import ENTRY_DIRECTORIES, PROBE, TOP, entry_file, files_below, program_of, text_of  # noqa: E402, F401
 
 
 class Skipped(Exception):

@@ -140,6 +140,8 @@ TOOLS_ROWS = {
         {"TERM": "dumb"}, "",
     ),
     "tab stops are not in increasing order: ..": (["ti-tabs -T xterm 9,5,12"], {"LIST": "-T xterm 5,9,12"}, ""),
+    "unknown terminal type NAME of ti-tset and ti-reset": (["script -qec 'ti-tset -q no-such </dev/null' /dev/null"], {}, ""),
+    "terminal attributes: .. of ti-tset and ti-reset": (["setsid -w ti-reset -q"], {}, ""),
     "no terminal is named": (["ti-tput cols"], {}, "ti-tput cols"),
     "unknown terminfo capability 'NAME'": ([f"{ENTRIES} ti-tput -T dumb bel Tc"], {"TERM": "dumb"}, ""),
     "ti-everyday: call it ti-tic, ..": (["ti-everyday"], {"..": "-V"}, ""),

@@ -183,6 +183,10 @@ class Client {
             provideDocumentFormattingEdits: async (document, options) =>
                 values.edits(await this.ask("formatting", document, { options })),
         });
+        offer(can.documentRangeFormattingProvider, languages.registerDocumentRangeFormattingEditProvider, {
+            provideDocumentRangeFormattingEdits: async (document, part, options) =>
+                values.edits(await this.ask("rangeFormatting", document, { range: values.rangeOf(part), options })),
+        });
         offer(can.foldingRangeProvider, languages.registerFoldingRangeProvider, {
             provideFoldingRanges: async document =>
                 (await this.ask("foldingRange", document) || []).map(values.folding),

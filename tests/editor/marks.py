@@ -10,7 +10,7 @@ from model.texts import offset_of, width
 METHODS = {
     "hover": True, "completion": True, "definition": True, "references": True, "documentHighlight": True,
     "prepareRename": True, "rename": True, "signatureHelp": True, "codeAction": True, "documentSymbol": False,
-    "foldingRange": False, "formatting": False, "symbol": False,
+    "foldingRange": False, "formatting": False, "rangeFormatting": True, "symbol": False,
 }
 # what may follow the name of a request; others have nothing
 ARGUMENTS = {"rename": r".+", "symbol": r".+", "codeAction": r".*", "references": r"(declared)?"}

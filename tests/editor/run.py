@@ -38,8 +38,9 @@ def params_of(uri, asked):
     if asked.method == "codeAction":
         only = {"only": asked.argument.split()} if asked.argument else {}
         return {**params, "range": asked.range.value(), "context": {"diagnostics": [], **only}}
-    if asked.method == "formatting":
-        return {**params, "options": {"tabSize": 8, "insertSpaces": False}}
+    if asked.method in ("formatting", "rangeFormatting"):
+        part = {"range": asked.range.value()} if asked.range is not None else {}
+        return {**params, **part, "options": {"tabSize": 8, "insertSpaces": False}}
     if asked.range is not None:
         params["position"] = asked.range.value()["start"]
     if asked.method == "references":

@@ -174,7 +174,7 @@ SAYING = {
     "hover": said_hover, "completion": said_completion, "definition": said_places, "references": said_places,
     "documentHighlight": said_highlights, "prepareRename": said_prepared, "rename": said_rename,
     "signatureHelp": said_signature, "codeAction": said_actions, "documentSymbol": said_symbols,
-    "foldingRange": said_folds, "formatting": said_layout, "symbol": said_symbols,
+    "foldingRange": said_folds, "formatting": said_layout, "rangeFormatting": said_layout, "symbol": said_symbols,
 }
 
 

@@ -29,6 +29,7 @@ MODES = {
     "none": (lambda flags: 0, lambda character: character),
     "all": (lambda flags: 0o77777 & ~termios.TOSTOP, lambda character: character),
     "unset": (lambda flags: flags, lambda character: b"\0"),
+    "ones": (lambda flags: flags, lambda character: b"\xff"),
 }
 # these are numbers where a line is not read in lines
 NUMBERS = (termios.VMIN, termios.VTIME)

@@ -5,7 +5,7 @@ import struct
 
 # the causes that docs/COMPARED.md names
 CAUSES = {
-    "spelled otherwise", "cancelled values", "absent user-defined names", "names over 127 bytes", "over 4,096 bytes",
+    "spelled otherwise", "cancelled values", "absent user-defined names", "over 4,096 bytes",
 }
 # the values of a boolean, a number and an offset that is cancelled
 CANCELLED = {"flag": 0xFE, "number": -2, "string": -2}
@@ -107,8 +107,6 @@ def difference(ours, theirs):
 
 def alone(theirs):
     """Why ncurses alone writes an entry."""
-    if int.from_bytes(theirs[2:4], "little") > 128:
-        return "names over 127 bytes"
     return "over 4,096 bytes" if len(theirs) > 4096 else "written by tic alone"
 
 

@@ -91,8 +91,6 @@ CALLS = {
 }
 # the calls whose results differ, with their terminals: ours pads nothing without --rate
 WITHOUT_PADS = {("pipes.sh", "vt100"), ("pipes.sh of two", "vt100")}
-# whether Term::Cap gets no entry, since it runs `infocmp -C`, which ours refuses
-WITHOUT_TERMCAP = True
 # what Term::Cap makes of entries
 TERM_CAP = r"""
 use Term::Cap;
@@ -208,6 +206,11 @@ def term_cap(room, names, path):
     return dict(line.split(" ", 1) for line in done.stdout.decode().splitlines())
 
 
+def without_cancels(found):
+    """What Term::Cap found but for empty strings, which cancelled values are."""
+    return [one for one in (found or "").split(",") if not one.endswith("=")]
+
+
 def compare_entries(room):
     """Asks Term::Cap for each entry of this system, with both. Gives what is wrong."""
     paths = [os.path.join(directory, path) for directory in ENTRY_DIRECTORIES for path in files_below(directory)]
@@ -215,9 +218,9 @@ def compare_entries(room):
     theirs = term_cap(room, names, "/usr/bin:/bin")
     ours = term_cap(room, names, f"{room.in_place}:/usr/bin:/bin")
     found = [name for name in names if theirs.get(name)]
-    differing = [name for name in names if ours.get(name) != theirs.get(name)]
+    differing = [name for name in names if without_cancels(ours.get(name)) != without_cancels(theirs.get(name))]
     print(f"    Term::Cap: {len(found) - len(differing):,} of {len(found):,} entries alike")
-    if len(differing) != (len(found) if WITHOUT_TERMCAP else 0):
+    if differing:
         return [f"Term::Cap differs on {len(differing)} entries of {len(found)}: {', '.join(differing[:20])}"]
     return []
 

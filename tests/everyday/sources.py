@@ -22,6 +22,8 @@ HINTS_RELEASE = "bookworm"
 HINTS = {
     "foot": {}, "dvtm": {"N3": 4, "N4": 1}, "rxvt-unicode": {}, "kitty": {}, "xterm": {}, "ncurses": {"N2": 5, "N7": 7},
 }
+# whose lines ti-fmt --keep leaves as they are, but for one in a hundred
+ONE_IN_A_HUNDRED = ("foot", "kitty", "ncurses")
 LISTS = ("/etc/apt/sources.list.d/debian.sources", "/etc/apt/sources.list")
 
 

@@ -8,6 +8,7 @@ SOURCES, BLOCKS = 400, 8
 TABLED = {
     "am": ("am", "am"), "cols": ("cols#80", "cols#132"), "lines": ("lines#24", "lines#50"),
     "bel": ("bel=^G", "bel=\\Eg"), "cup": ("cup=\\E[%i%p1%d;%p2%dH", "cup=\\EY"),
+    "smacs": ("smacs=^N", "smacs=\\E(0"), "rmacs": ("rmacs=^O", "rmacs=\\E(B"), "acsc": ("acsc=``aa", "acsc=aabb"),
 }
 USER_DEFINED = {"Tc": ("Tc", "Tc"), "Nx": ("Nx#5", "Nx#7"), "Smulx": ("Smulx=\\E[4m", "Smulx=\\E[4:3m")}
 
@@ -24,7 +25,7 @@ def mentions(chance, name):
 
 def items(chance, owners):
     """The items of a block that may use these blocks."""
-    names = chance.sample([*TABLED, *USER_DEFINED], chance.randint(1, 5))
+    names = chance.sample([*TABLED, *USER_DEFINED], chance.randint(1, 7))
     said = [item for name in names for item in mentions(chance, name)]
     said += [f"use={owner}" for owner in chance.sample(owners, min(len(owners), chance.choice((0, 1, 1, 2, 3))))]
     chance.shuffle(said)

@@ -68,12 +68,12 @@ def try_alternatives(room):
     others go with the package."""
     command = "\n".join(commands_of("docs/COMPARED.md", "## In place of ncurses's tools"))
     room.root_does(command)
-    for tool in ("tic", "infocmp", "tput", "clear", "toe", "tabs"):
+    for tool in ("tic", "infocmp", "tput", "clear", "toe", "tabs", "tset", "reset"):
         version = f"ti-{tool} {packages.version()} (in the place of ncurses 6.4.20221231)\n"
         room.wants(command, room.root_does(f"/usr/local/bin/{tool} --version"), version)
     command = inline("docs/COMPARED.md", "update-alternatives --remove")
     room.root_does(command)
-    room.wants(command, room.root_does("ls /usr/local/bin"), "clear\ninfocmp\ntabs\ntic\ntoe\n")
+    room.wants(command, room.root_does("ls /usr/local/bin"), "clear\ninfocmp\nreset\ntabs\ntic\ntoe\ntset\n")
 
 
 def try_ways(room):

@@ -37,12 +37,15 @@ CANDIDATES = [
     ("ti-toe -", "--help", "-T"),
     ("ti-tabs -", "-a2", "-x"),
     ("ti-tabs -T du", "dumb", "lantern3"),
+    ("ti-tset -", "-Q", "-x"),
+    ("ti-reset du", "dumb", "lantern3"),
     ("ti-fmt -", "--check", "-x"),
+    ("ti-fmt --k", "--keep", "--check"),
     ("ti-fmt --check lan", "lantern.ti", "dumb.ti"),
     ("ti-lint -", "--strict", "-T"),
     ("ti-lint --format g", "github", "json"),
     ("ti-lint --fix --color never lan", "lantern.ti", "dumb.ti"),
-    ("ti-infocmp -", "-D", "-T"),
+    ("ti-infocmp -", "-D", "-r"),
     ("ti-infocmp -x ho", "homely", "dumb"),
     ("ti-infocmp ./out/d/du", "./out/d/dumb", "lantern3"),
     ("ti-infocmp -d -A more homely lantern", "lantern3", "homely"),
@@ -76,8 +79,8 @@ CAPABILITIES = re.compile(
 def options_of_help(tool):
     part = help_of(tool).split("\nOptions:\n")[1].split("\n\n")[0]
     found = {word for line in part.split("\n") for word in re.findall(r"(?:^ +|, )(--?[\w-]+)", line.split("  <")[0])}
-    # most options of ti-tabs are words to clap, and have a list of their own
-    if tool == "ti-tabs":
+    # most options of these are words to clap, and have a list of their own
+    if tool in ("ti-tabs", "ti-tset", "ti-reset"):
         listed = help_of(tool).split("\nOptions may share a word")[1]
         for line in re.findall(r"^  -.*$", listed, re.M):
             found.update(re.findall(r"(?<![\w-])-[a-zA-Z]\d?(?![\w-])", line))
@@ -217,10 +220,10 @@ def check_zsh():
 def options_of_zsh(tool):
     completion = text_of("completions", "_ti")
     if tool:
-        part = completion.split(f"        {tool})\n")[1].split(";;")[0]
+        part = re.split(rf"        (?:[\w-]+ ?\| ?)*{tool}(?: ?\| ?[\w-]+)*\)\n", completion)[1].split(";;")[0]
     else:
         part = completion.split("\n_ti() {")[1]
-    plain = re.findall(r"'(?:\([^)]*\))?(--?[\w-]+)\[", part)
+    plain = re.findall(r"'(?:\([^)]*\))?\*?(--?[\w-]+)\[", part)
     return {*plain, *re.findall(r"(?<=[{,])--?[\w-]+(?=[},])", part)}
 
 

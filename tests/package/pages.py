@@ -53,7 +53,7 @@ SPELLED = (
 WORDS = os.path.join(os.path.dirname(os.path.abspath(__file__)), "words.txt")
 COMMENT = re.compile(r"\s*(#|/\*|\*|//|--|;;|\"(?!\")) ")
 # whether ncurses's own pages are installed here is no fault of ours
-FOREIGN = re.compile(r"mandoc\.db|referenced manual not found: Xr (tic|infocmp|tput|clear|toe|tabs|term|terminfo|user_caps) \d")
+FOREIGN = re.compile(r"mandoc\.db|referenced manual not found: Xr (tic|infocmp|tput|clear|toe|tabs|tset|reset|stty|errno|termios|term|terminfo|user_caps) \d")
 # W5 is of user-defined capabilities
 CODES = [f"E{digit}" for digit in range(1, 10)] + [f"W{digit}" for digit in range(1, 6)]
 
@@ -186,8 +186,8 @@ def put(path, content):
 
 
 def check_tables():
-    """Whether the tables of capabilities are those that follow from the lists of names."""
-    said = output([sys.executable, os.path.join(TOP, "build", "capability_tables.py"), "--check"])
+    """Whether the lists of capabilities are those that follow from build/capabilities.tsv."""
+    said = output([sys.executable, os.path.join(TOP, "build", "capabilities.py"), "--check"])
     if said:
         yield said.strip()
 

@@ -12,7 +12,7 @@ from common import (  # noqa: E402, F401
 
 TOOLS = ["tic", "infocmp", "tput", "session"]
 # the links to ti-everyday
-EVERYDAY_TOOLS = ["ti-tic", "ti-infocmp", "ti-tput", "ti-clear", "ti-toe", "ti-tabs", "ti-fmt", "ti-lint"]
+EVERYDAY_TOOLS = ["ti-tic", "ti-infocmp", "ti-tput", "ti-clear", "ti-toe", "ti-tabs", "ti-tset", "ti-reset", "ti-fmt", "ti-lint"]
 # the page of each command, those of `ti` by the name of the tool
 PAGE_OF = {
     "": "ti.1",

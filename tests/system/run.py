@@ -1,7 +1,7 @@
 #!/usr/bin/env python3
 """Compares with the ncurses of this system: its entries, and its lists of names.
 
-Every file below the system's terminfo directories is read by `dev_probe`, which prints what
+Every file below the system's terminfo directories is read by libti (tests/probe.c), which prints what
 a view shows; Python's curses module asks ncurses for the same entry, each of the 497
 capabilities by its name. A file of neither format must be refused as `Magic`. ncurses opens no
 hardcopy terminal (`hc`) and no generic one (`gn`), so it is asked for a copy of such an entry
@@ -24,9 +24,8 @@ import sys
 import tempfile
 
 sys.path.insert(0, os.path.dirname(os.path.dirname(os.path.abspath(__file__))))
-from common import ENTRY_DIRECTORIES, TOP, Tally, is_missing, program_of  # noqa: E402
+from common import ENTRY_DIRECTORIES, PROBE, TOP, Tally, is_missing  # noqa: E402
 
-PROGRAM = program_of("dev_probe")
 NAMES = os.path.join(TOP, "crates", "ti_caps", "specs", "Names.antt")
 HEADER_LEN = 12
 # the flags of the terminals that ncurses does not open
@@ -76,7 +75,7 @@ def shown(files):
     found = {}
     for at in range(0, len(files), AT_ONCE):
         done = subprocess.run(
-            [PROGRAM, "files", *files[at:at + AT_ONCE]], stdout=subprocess.PIPE, check=True, timeout=120,
+            [PROBE, *files[at:at + AT_ONCE]], stdout=subprocess.PIPE, check=True, timeout=120,
         )
         for line in done.stdout.decode().split("\n"):
             if line.startswith("file "):
@@ -87,7 +86,7 @@ def shown(files):
 
 
 def ask(question):
-    """What ncurses says of an entry of a directory, as `dev_probe` prints it; or why it does not."""
+    """What ncurses says of an entry of a directory, as tests/probe.c prints it; or why it does not."""
     import curses
 
     directory, name, (flags, numbers, texts) = question
@@ -169,7 +168,7 @@ def name_fault(names):
 
 
 def main():
-    if is_missing(PROGRAM, "system"):
+    if is_missing(PROBE, "system"):
         return 1
     tally, names = Tally("system"), lists_of_names()
     why = name_fault(names)

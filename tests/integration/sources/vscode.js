@@ -116,7 +116,7 @@ const languages = {
     registerWorkspaceSymbolProvider: provider => register("WorkspaceSymbol")(null, provider),
 };
 for (const name of ["Hover", "CompletionItem", "Definition", "Reference", "DocumentHighlight", "Rename", "CodeActions",
-    "DocumentSymbol", "DocumentFormattingEdit", "FoldingRange", "SignatureHelp"]) {
+    "DocumentSymbol", "DocumentFormattingEdit", "DocumentRangeFormattingEdit", "FoldingRange", "SignatureHelp"]) {
     languages[`register${name}Provider`] = register(name);
 }
 const workspace = {
