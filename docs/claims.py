@@ -29,7 +29,8 @@ PAGE = os.path.join("docs", "CLAIMS.md")
 # the crate of each program; an export of the C library counts as one
 ROOT_OF = {
     "ti": "ti", "ti-tic": "ti_everyday", "ti-infocmp": "ti_everyday", "ti-tput": "ti_everyday",
-    "ti-clear": "ti_everyday", "ti-toe": "ti_everyday", "ti-tabs": "ti_everyday", "ti-fmt": "ti_everyday", "ti-lint": "ti_everyday",
+    "ti-clear": "ti_everyday", "ti-toe": "ti_everyday", "ti-tabs": "ti_everyday", "ti-tset": "ti_everyday",
+    "ti-reset": "ti_everyday", "ti-fmt": "ti_everyday", "ti-lint": "ti_everyday",
     "ti-lsp": "ti_lsp", "libti": "ti_c",
 }
 ROW = re.compile(r"^\| ([^|]*) \| ([^|]*) \| ([^|]*) \|$", re.M)
