@@ -4,7 +4,8 @@
     bench/run.py [PART..]      the parts named, or all but `glance`
 
 glance    the rows of the first table of docs/PERFORMANCE.md alone, some three minutes
-daily     the everyday tools: `ti-tic`, `ti-lint`, `ti-infocmp` and `ti-tput`
+daily     the everyday tools: `ti-tic`, `ti-lint`, `ti-infocmp` and `ti-tput`, on ncurses's own
+          source and the entries of the system
 entries   sources of many entries, compiled into files: 1,800 of 1.1 KB each with the same items;
           1,800 of which no two have a string in common; 1,800 of which 1,500 have a use; 2,000
           small ones; and 1,000 of which all but the first use one before them
@@ -67,6 +68,13 @@ def tic_work(room, name, source):
     return Work(name, [PROGRAM, "tic", "-o", OUT, path], ["tic", "-o", OUT, path])
 
 
+def user_defined_work(room, name, source):
+    """The same with user-defined capabilities, by `ti-tic`."""
+    path = room.write("source.ti", source())
+    words = ["-x", "-o", OUT, path]
+    return Work(name, [EVERYDAY, "ti-tic", *words], ["tic", *words])
+
+
 def entries(room):
     for name, source in {
         "`tic -o`, 1,800 entries with the same items": lambda: sources.large_entries(1800),
@@ -83,16 +91,22 @@ def read_master():
         return file.read()
 
 
-def system(room):
-    for name, source, why_not in (
-        ("`tic -o`, ncurses's own source", read_master, "" if MASTER else "MASTER does not name it"),
-        ("`tic -o`, the system's entries", sources.system_entries,
+def known_sources(tool, *options):
+    """Real sources: what each is, and how to get it. What is not here is noted as left out."""
+    for title, source, why_not in (
+        ("ncurses's own source", read_master, "" if MASTER else "MASTER does not name it"),
+        ("the system's entries", lambda: sources.system_entries(*options),
          "" if shutil.which("infocmp") else "infocmp of ncurses is not installed"),
     ):
         if why_not:
-            NOTES.append(f"{name}: left out, since {why_not}")
+            NOTES.append(f"{tool}, {title}: left out, since {why_not}")
         else:
-            yield name, lambda name=name, source=source: tic_work(room, name, source)
+            yield f"{tool}, {title}", source
+
+
+def system(room):
+    for name, source in known_sources("`tic -o`"):
+        yield name, lambda name=name, source=source: tic_work(room, name, source)
 
 
 def tools(room):
@@ -116,14 +130,12 @@ def daily(room):
         NOTES.append("the everyday tools: left out, since ti-everyday is not built: make everyday")
         return
     ours = lambda tool, *words: [EVERYDAY, f"ti-{tool}", *words]
+    for name, source in known_sources("`ti-tic -x -o`", "-x"):
+        yield name, lambda name=name, source=source: user_defined_work(room, name, source)
     if MASTER:
-        name = "`ti-tic -x -o`, ncurses's own source"
-        yield name, lambda name=name: Work(name, ours("tic", "-x", "-o", OUT, MASTER), ["tic", "-x", "-o", OUT, MASTER])
         # they find other mistakes
         name = "`ti-lint -x`, ncurses's own source, and `tic -c -x`"
         yield name, lambda name=name: Work(name, ours("lint", "-x", MASTER), ["tic", "-c", "-x", MASTER], is_compared=False)
-    else:
-        NOTES.append("ncurses's own source: left out, since MASTER does not name it")
     name = f"`ti-infocmp -x {TERMINAL}`"
     yield name, lambda name=name: Work(name, ours("infocmp", "-x", TERMINAL), ["infocmp", "-x", TERMINAL])
     words = ["-T", TERMINAL]

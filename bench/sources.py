@@ -68,8 +68,8 @@ def one_block(size):
     return (text + "#" * (size - len(text) - 1) + "\n").encode()
 
 
-def system_entries():
-    """The system's entries, each once, as ncurses's infocmp lists them."""
+def system_entries(*options):
+    """The system's entries, each once, as ncurses's infocmp lists them with these options."""
     found = {}
     for directory in ENTRY_DIRECTORIES[1:]:
         for path in files_below(directory):
@@ -79,7 +79,7 @@ def system_entries():
     listed = b""
     for directory, name in found.values():
         done = subprocess.run(
-            ["infocmp", "-1", "-A", directory, name],
+            ["infocmp", "-1", *options, "-A", directory, name],
             stdout=subprocess.PIPE, stderr=subprocess.DEVNULL, check=False,
         )
         listed += done.stdout if done.returncode == 0 else b""
