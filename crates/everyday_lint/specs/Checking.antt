@@ -5,7 +5,7 @@ use Rattle.std.specs.Prelude.{◌≡◌, ℕ, List, [], if◌then◌else◌}
 use Rattle.source_plain.specs.Reading.{plain_source, without_mark}
 use Rattle.source_document.specs.Diagnostics.{diagnostics_by}
 use Rattle.source_remarks.specs.Remarks.{remarks_of}
-use Rattle.source_published.specs.Published.{SeenPublished, published}
+use Rattle.source_settings.specs.Published.{SeenPublished, published}
 use Rattle.source_settings.specs.Settings.{SeenSettings}
 use Rattle.everyday_lint.specs.Fixing.{made}
 use Rattle.everyday_lint.specs.Offers.{OfferSeen, offers_of}

@@ -5,7 +5,7 @@ use Rattle.source_types.specs.declared.severities.Severity.{Severity}
 use Rattle.source_diagnostics.specs.declared.capabilities.Capabilities.{Capabilities}
 use Rattle.source_remarks.specs.Hints.{hints_of_source}
 use Rattle.source_remarks.specs.Remarks.{label_of_remark, message_of, range_of, remarks_by}
-use Rattle.source_published.specs.Published.{SeenPublished, as_it_is}
+use Rattle.source_settings.specs.Published.{SeenPublished, as_it_is}
 use Rattle.source_places.specs.LineTexts.{line_of}
 use Rattle.source_places.specs.Position.{offset_of}
 use Rattle.everyday_forms.specs.Forms.{told_text}

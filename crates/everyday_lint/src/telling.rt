@@ -1,6 +1,6 @@
 //! What is told of faults and hints.
 ghost use Rattle.std.specs.Prelude.{◌≡◌, ◌++◌, IfOk, OnOk, map};
-ghost use Rattle.source_published.specs.Published.{published_seen};
+ghost use Rattle.source_settings.specs.Published.{published_seen};
 ghost use Rattle.everyday_forms.specs.Forms.{told_text};
 ghost use Rattle.everyday_lint.specs.Telling as spec;
 ghost use Rattle.everyday_lint.specs.Telling.{told_of, told_on};
@@ -8,7 +8,7 @@ ghost use Rattle.everyday_lint.specs.Telling.{told_of, told_on};
 use crate::lines::{Line, LineWalk};
 use crate::words::{sentence_of, title_of};
 use everyday_forms::{Form, Told, push_told};
-use source_published::Published;
+use source_settings::Published;
 use source_types::Severity;
 use std::alloc::{AllocError, Global};
 

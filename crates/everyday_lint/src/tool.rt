@@ -14,7 +14,7 @@ use crate::telling::told_of_all;
 use everyday_fmt::ReasonedTree;
 use everyday_forms::{Form, push_summary, whole};
 use source_document::Capabilities;
-use source_published::as_they_are;
+use source_settings::as_they_are;
 use source_remarks::{remarks_of, source_hints_in};
 use source_settings::{Settled, settle};
 use std::alloc::{AllocError, Global};
@@ -43,7 +43,7 @@ fn outcome_of(alloc: Global, options: LintOptions, done: &[Done]) -> Result<Lint
 /// written is reported, and the others are still done.
 ///
 /// What is printed are the remarks of `source_remarks` on the source once the fixes are made, as
-/// `source_published` publishes them by what is settled for the file. A file for which that is not known
+/// `source_settings` publishes them by what is settled for the file. A file for which that is not known
 /// is not checked. Each fix is a line on standard error, and so is each file that failed; the line that counts comes last.
 /// The status is 1 if a remark is bad, or a file was not checked, else 0.
 ///

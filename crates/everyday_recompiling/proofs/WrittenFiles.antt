@@ -16,7 +16,7 @@ use Rattle.tools_sources.specs.EntryFiles.{entry_files, files_for, names_at}
 use Rattle.tools_sources.specs.Sources.{AreTaken, first_line, source_texts}
 use Rattle.tools_sources.specs.declared.source_error.SourceError.{SourceError}
 use Rattle.tools_sources.specs.declared.source_error.SourceError.TheVariants.{BlockTooLong, TooManyBlocks}
-use Rattle.user_base.proofs.Keeping.{zip_at}
+use Rattle.user_kept.proofs.KeptStates.{zip_at}
 use Rattle.user_compiling.specs.Entries.{entry_in}
 use Rattle.everyday_graphics.specs.Entries.{AreWrittenStates, IsDrawnState, IsWrittenState}
 use Rattle.everyday_graphics.specs.ReadBack.{DrawnEntriesReadBack, DrawnReadsBack}

@@ -5,7 +5,7 @@ use Rattle.ti_source.specs.declared.parsing.Rule.TheVariants.{OwnFirst}
 use Rattle.base_meaning.specs.Compiled.{EntryState}
 use Rattle.tools_devices.specs.Tree.{Files}
 use Rattle.tools_sources.specs.Sources.{SourcesHaveOneRefusal, TakenSourcesAreNotRefused, first_line, source_texts}
-use Rattle.user_base.specs.Kept.{StatesAreDetermined}
+use Rattle.user_kept.specs.Kept.{StatesAreDetermined}
 use Rattle.user_items.specs.Parsing.{user_reading_of_text}
 use Rattle.user_values.specs.Limit.{IsOverLimitAt, distinct_after, name_count, name_limit, names_in, names_of}
 use Rattle.user_values.proofs.Naming.{distinct_after-append, distinct_after-longer}

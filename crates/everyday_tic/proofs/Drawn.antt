@@ -12,7 +12,7 @@ use Rattle.base_meaning.specs.Compiled as profile
 use Rattle.base_meaning.specs.Compiled.{EntryState, compiled_by, oversized, unresolved, written}
 use Rattle.base_meaning.specs.Expansion.{expansion}
 use Rattle.base_meaning.specs.Readings.{reading_by, readings_by}
-use Rattle.user_base.proofs.Keeping.{zip_at}
+use Rattle.user_kept.proofs.KeptStates.{zip_at}
 use Rattle.user_extension.specs.Extension.{entry, entry_limit}
 use Rattle.user_compiling.specs.Entries as compiled
 use Rattle.user_compiling.specs.Entries.{AreStatesBy, IsStateBy, entry_in}

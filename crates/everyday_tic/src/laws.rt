@@ -16,6 +16,6 @@ pub fn outcomes_are_determined()
 {
     tools_sources::laws::sources_have_one_refusal();
     everyday_sources::laws::used_entries_are_determined();
-    user_base::laws::states_are_determined();
+    user_kept::laws::states_are_determined();
     everyday_graphics::laws::written_states_are_determined();
 }

@@ -3,3 +3,5 @@ pub mod FileForms
 pub mod Hints
 pub mod Merging
 pub mod Unknown
+pub mod Following
+pub mod Uses

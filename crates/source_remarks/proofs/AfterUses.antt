@@ -1,7 +1,7 @@
 -- The hints on a block in a source: with those on items after a use, if there are such items.
 use Rattle.std.proofs.Common.{◌≡◌, ◌∙◌, ℕ, Bool, false, List, [], ◌∷◌, Option, Some, ap, map, refl, slice_get, sym}
 use Rattle.std.specs.Option.{option_map_or}
-use Rattle.source_use_hints.specs.Following.{OthersHaveNoHintAfterUses, says_after_use}
+use Rattle.source_hints.specs.Following.{OthersHaveNoHintAfterUses, says_after_use}
 use Rattle.source_block_hints.specs.declared.hint.Hint.{Hint}
 use Rattle.source_diagnostics.specs.Marking.{text_at}
 use Rattle.source_hints.specs.Hints.{hints_of}

@@ -17,7 +17,7 @@ use Rattle.source_document.specs.Documents.{held}
 use Rattle.source_hints.specs.FileForms.{file_hints}
 use Rattle.source_hints.specs.Hints.{hints_of}
 use Rattle.source_hints.specs.Merging.{merged}
-use Rattle.source_use_hints.specs.Uses.{after_uses}
+use Rattle.source_hints.specs.Uses.{after_uses}
 use Rattle.source_block_hints.specs.Words.{name_of, sentence_of}
 use Rattle.source_block_hints.specs.declared.hint.Hint.{Hint}
 use Rattle.source_block_hints.specs.declared.hint.HintKind.{HintKind}

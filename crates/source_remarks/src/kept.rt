@@ -1,10 +1,10 @@
 //! The hints on blocks, kept while the text of each stays the same.
 ghost use Rattle.std.specs.Prelude.{◌≡◌, IfOk, IfSome, true};
-ghost use Rattle.source_use_hints.specs.Following.{says_after_use};
+ghost use Rattle.source_hints.specs.Following.{says_after_use};
 ghost use Rattle.source_remarks.specs.Hints.{block_marks};
 
 use crate::marks::{HintMark, block_marks};
-use source_use_hints::says_after_use;
+use source_hints::says_after_use;
 use std::alloc::{AllocError, Global};
 use std::marker::Model;
 

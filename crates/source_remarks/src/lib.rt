@@ -18,5 +18,5 @@ mod sources;
 pub use kept::KeptHints;
 pub use marks::HintMark;
 pub use remarks::{Remark, remarks_of};
-pub use shown::ShownHint;
+pub use shown::{ShownHint, hint_message};
 pub use sources::{SourceHints, hints_in, source_hints_in};

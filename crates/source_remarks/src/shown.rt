@@ -41,8 +41,11 @@ fn quoted(alloc: Global, detail: &[u8]) -> Result<String, AllocError>
     Ok(text)
 }
 
-// What a hint says that quotes this.
-fn hint_message(alloc: Global, kind: HintKind, detail: &[u8]) -> Result<String, AllocError>
+/// What a hint of this kind says that quotes this, in ASCII.
+///
+/// # Errors
+/// Out of memory.
+pub fn hint_message(alloc: Global, kind: HintKind, detail: &[u8]) -> Result<String, AllocError>
     ensures { IfOk result (λ message. string_bytes message ≡ hint_message kind detail.now) }
 {
     let subject = quoted(alloc, detail)?;

@@ -16,7 +16,7 @@ use crate::shown::{ShownHint, shown_after, shown_in_file};
 use source_diagnostics::Capabilities;
 use source_document::Document;
 use source_hints::{file_hints, hints_of, merged};
-use source_use_hints::hints_after_uses;
+use source_hints::hints_after_uses;
 use std::alloc::{AllocError, Global};
 use ti_base::Database;
 use tools_sources::first_line;
@@ -85,7 +85,7 @@ fn push_block(
         ≡ map hint_seen all.old.items ++ map (shown_after lines (text_at database.now at)) (source_marks user_defined database.now at)) }
 {
     // A law, with no code: a block without such items has no hint on one.
-    source_use_hints::laws::others_have_no_hint_after_uses();
+    source_hints::laws::others_have_no_hint_after_uses();
     let text = database.text(at);
     if kept.says_after_use() {
         let marks = marks_with_uses(alloc, user_defined, database, at)?;

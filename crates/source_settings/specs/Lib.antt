@@ -6,4 +6,6 @@ pub mod Document
 pub mod Files
 pub mod Finding
 pub mod Comments
+pub mod Published
+pub mod Laws
 pub mod inside

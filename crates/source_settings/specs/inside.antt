@@ -2,3 +2,4 @@
 pub mod Latest
 pub mod Views
 pub mod Walking
+pub mod Told

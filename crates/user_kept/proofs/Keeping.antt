@@ -26,9 +26,9 @@ use Rattle.user_compiling.specs.Entries.{AreStates, IsStateOf, does_not_resolve,
 use Rattle.user_compiling.specs.Findings.{AreFindingsBy, IsFindingBy}
 use Rattle.user_compiling.specs.declared.finding.Finding.{Finding}
 use Rattle.user_values.proofs.Resolving.{read_text}
-use Rattle.user_base.specs.Places.{position_ahead, position_before}
-use Rattle.user_base.proofs.Places.{PutsAt, put_in, remained}
-use Rattle.user_base.specs.Untouched.{UntouchedBlocksSayTheSame}
+use Rattle.user_kept.specs.Places.{position_ahead, position_before}
+use Rattle.user_kept.proofs.Places.{PutsAt, put_in, remained}
+use Rattle.user_kept.specs.Untouched.{UntouchedBlocksSayTheSame}
 use Rattle.user_kept.specs.inside.Kept.{AreRight, AreRightOff, IsKeptBefore, IsRightOf}
 use Rattle.user_kept.specs.declared.kept.Kept.{Kept}
 use Rattle.user_kept.proofs.Names.{few_inserted, few_more, few_removed}

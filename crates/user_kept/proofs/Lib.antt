@@ -2,3 +2,8 @@ pub mod Adding
 pub mod Keeping
 pub mod Names
 pub mod EditRuns
+pub mod Places
+pub mod Imports
+pub mod KeptExpansions
+pub mod Untouched
+pub mod KeptStates

@@ -3,7 +3,7 @@ use Rattle.std.specs.Prelude.{ℕ, ◌≡◌, List, Some, Contains, slice_get}
 use Rattle.base_meaning.specs.Dependents.{Rebuilds}
 use Rattle.base_meaning.specs.Edits.{Change, EditStep}
 use Rattle.base_meaning.specs.declared.edits.Outcome.TheVariants.{Accepted}
-use Rattle.user_base.specs.Untouched.{IsUntouched}
+use Rattle.user_kept.specs.Untouched.{IsUntouched}
 
 -- each block that an accepted edit does not rebuild is untouched by it: it stood in the source before,
 -- and says what it said

@@ -112,7 +112,7 @@ impl Kept {
         ensures { IfOk result (λ kept. IfSome kept (IsKeptOf database.now)) }
     {
         // A law, with no code: a block that does not depend on an edit says what it said.
-        user_base::laws::untouched_blocks_say_the_same();
+        crate::laws::untouched_blocks_say_the_same();
         let names = self.names.saturating_add(says_at(alloc, database, at)?);
         if names > NAME_LIMIT {
             return Ok(None);
@@ -131,7 +131,7 @@ impl Kept {
         requires { IsKeptBefore database.now (insertion at) rebuilt.now self }
         ensures { IfOk result (λ kept. IfSome kept (IsKeptOf database.now)) }
     {
-        user_base::laws::untouched_blocks_say_the_same();
+        crate::laws::untouched_blocks_say_the_same();
         let names = self.names.saturating_add(says_at(alloc, database, at)?);
         if names > NAME_LIMIT {
             return Ok(None);
@@ -156,7 +156,7 @@ impl Kept {
         requires { IsKeptBefore database.now (λ _. removal at) rebuilt.now self }
         ensures { IfOk result (λ kept. IfSome kept (IsKeptOf database.now)) }
     {
-        user_base::laws::untouched_blocks_say_the_same();
+        crate::laws::untouched_blocks_say_the_same();
         let mut findings = self.findings;
         findings.remove(at);
         found_again(alloc, database, rebuilt, findings, self.names)
@@ -174,7 +174,7 @@ impl Kept {
         requires { IsKeptBefore database.now (λ _. relocation from to) rebuilt.now self }
         ensures { IfOk result (λ kept. IfSome kept (IsKeptOf database.now)) }
     {
-        user_base::laws::untouched_blocks_say_the_same();
+        crate::laws::untouched_blocks_say_the_same();
         let names = self.names.saturating_add(says_at(alloc, database, to)?);
         if names > NAME_LIMIT {
             return Ok(None);

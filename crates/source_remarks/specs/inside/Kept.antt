@@ -1,6 +1,6 @@
 -- What is kept of a block.
 use Rattle.std.specs.Prelude.{◌≡◌, ℕ, Bool, List}
-use Rattle.source_use_hints.specs.Following.{says_after_use}
+use Rattle.source_hints.specs.Following.{says_after_use}
 use Rattle.source_remarks.specs.Hints.{block_marks}
 use Rattle.source_remarks.specs.declared.marks.HintMark.{HintMark}
 

@@ -1,5 +1,5 @@
 use Rattle.std.proofs.Common.{◌≡◌, map, take}
-use Rattle.source_published.specs.Published.{published_seen}
+use Rattle.source_settings.specs.Published.{published_seen}
 use Rattle.everyday_lint.specs.Telling as spec
 use Rattle.everyday_lint.proofs.telling.severities_of.Given as goal
 

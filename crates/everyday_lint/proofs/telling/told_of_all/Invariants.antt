@@ -1,5 +1,5 @@
 use Rattle.std.proofs.Common.{◌≡◌, map, take}
-use Rattle.source_published.specs.Published.{published_seen}
+use Rattle.source_settings.specs.Published.{published_seen}
 use Rattle.everyday_lint.specs.Telling as spec
 use Rattle.everyday_lint.proofs.telling.told_of_all.Given as goal
 

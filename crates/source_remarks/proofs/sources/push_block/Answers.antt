@@ -1,6 +1,6 @@
 use Rattle.std.proofs.Common.{◌≡◌, ◌∙◌, ◌++◌, ℕ, Bool, List, ap, map, subst, sym}
 use Rattle.std.specs.Prelude.{OnOk}
-use Rattle.source_use_hints.specs.Following.{says_after_use}
+use Rattle.source_hints.specs.Following.{says_after_use}
 use Rattle.source_diagnostics.specs.Marking.{text_at}
 use Rattle.source_remarks.specs.Hints.{block_marks, hint_seen, shown_after, source_marks}
 use Rattle.source_remarks.specs.declared.marks.HintMark.{HintMark}

@@ -1,5 +1,5 @@
 use Rattle.std.proofs.Common.{◌∙◌, List, ap, slice_get, sym, ℕ}
-use Rattle.user_base.specs.Untouched.{UntouchedBlocksSayTheSame}
+use Rattle.user_kept.specs.Untouched.{UntouchedBlocksSayTheSame}
 use Rattle.user_kept.specs.Laws.{BlocksNotRebuiltAreUntouched}
 use Rattle.user_kept.proofs.laws.blocks_not_rebuilt_are_untouched.Goals as goal
 

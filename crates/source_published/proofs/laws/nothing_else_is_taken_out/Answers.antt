@@ -1,5 +1,0 @@
-use Rattle.source_published.proofs.Settled.{nothing_else}
-use Rattle.source_published.proofs.laws.nothing_else_is_taken_out.Goals as goal
-
-pub returns : goal.returns
-returns c = nothing_else

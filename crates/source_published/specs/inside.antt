@@ -1,2 +1,0 @@
--- Words that only private functions and proofs use.
-pub mod Told

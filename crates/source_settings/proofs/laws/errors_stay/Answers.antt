@@ -1,0 +1,5 @@
+use Rattle.source_settings.proofs.Settled.{errors}
+use Rattle.source_settings.proofs.laws.errors_stay.Goals as goal
+
+pub returns : goal.returns
+returns c = errors

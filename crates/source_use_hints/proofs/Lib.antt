@@ -1,2 +1,0 @@
-pub mod AfterUses
-pub mod Using

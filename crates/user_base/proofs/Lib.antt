@@ -1,5 +1,0 @@
-pub mod Places
-pub mod Imports
-pub mod KeptExpansions
-pub mod Untouched
-pub mod Keeping
