@@ -146,7 +146,7 @@ TOOLS_ROWS = {
     "unknown terminfo capability 'NAME'": ([f"{ENTRIES} ti-tput -T dumb bel Tc"], {"TERM": "dumb"}, ""),
     "ti-everyday: call it ti-tic, ..": (["ti-everyday"], {"..": "-V"}, ""),
 }
-TABLES = {"ti": ROWS, "ti-tic, ti-infocmp and ti-tput": TOOLS_ROWS}
+TABLES = {"ti": ROWS, "The everyday tools": TOOLS_ROWS}
 # a disk that is full, and a standard error that takes no message, are not had here
 NOT_RUN = ("No space left on device", "ti-tic: write fault")
 # where what helps looks for entries, by the row, unless the row is about that
