@@ -18,9 +18,9 @@
     >>> changed["Smulx"](3), changed.number("colors"), "smcup" in changed
     (b'\\x1b[4:3m', 16777216, False)
 
-It calls the shared library `libti.so.2` by ctypes, that next to this file or else the installed
-one; the variable LIBTI of the environment may name another file. All of the work on entries is the
-library's: see ti(3). An entry holds its bytes and its values as objects of Python and no memory of
+It calls the shared library `libti.so.2` by ctypes: the file next to this one, or else the installed
+one; the variable LIBTI of the environment names another file. The library does all work on entries:
+see ti(3). An entry holds its bytes and its values as objects of Python and no memory of
 the library, so it can be copied, pickled and used by several threads.
 """
 
