@@ -11,6 +11,7 @@ import subprocess
 import tempfile
 import zipfile
 
+from pages import markdown_pages
 from shared import (
     EVERYDAY_TOOLS, HAS_LSP, INSTALLED_PAGES, PAGES_OF_TI, TOP, Skipped, files_below, install_command,
     need, output, text_of, ti,
@@ -83,6 +84,16 @@ def check_version():
     for path, line in of_library.items():
         if line not in text_of(path):
             yield f"{path} does not have {line!r}"
+    yield from version_faults()
+
+
+def version_faults():
+    """Versions of packages, archives and revisions in pages that are not the one of VERSION."""
+    naming = re.compile(r"packages/(?:[\w-]+_|ti-)(\d[\d.]*)-|\brev: v(\d[\d.]*)")
+    for page in markdown_pages():
+        for named in map("".join, naming.findall(text_of(page))):
+            if named != version():
+                yield f"{page} names version {named}"
 
 
 def check_install():
