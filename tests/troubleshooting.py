@@ -120,6 +120,13 @@ TOOLS_ROWS = {
         ["{ seq -f 'x%.0f,' 65534; printf 'y,\\n\\tuse=xterm,\\n'; } | TERMINFO=entries ti-tic -c -"], {}, "",
     ),
     "ti-tic: write fault": ([], {}, ""),
+    "ti-lint: FILE: PATH: The key .., The value ..": (
+        [
+            "mkdir set; cp dumb.ti set; printf 'name = 1\\n' >set/.ti-lint.toml; ti-lint set/dumb.ti",
+            "printf 'names = 1\\n' >set/.ti-lint.toml; ti-lint set/dumb.ti",
+        ],
+        {}, "",
+    ),
     'unknown terminal "NAME"': (["ti-infocmp no-such", "ti-tput -T no-such cols"], {}, ""),
     "PATH: No such file or directory of ti-infocmp": (["ti-infocmp ./no-such"], {}, ""),
     'terminal "NAME" cannot be used: .. of ti-clear': (
@@ -142,6 +149,9 @@ TOOLS_ROWS = {
     "tab stops are not in increasing order: ..": (["ti-tabs -T xterm 9,5,12"], {"LIST": "-T xterm 5,9,12"}, ""),
     "unknown terminal type NAME of ti-tset and ti-reset": (["script -qec 'ti-tset -q no-such </dev/null' /dev/null"], {}, ""),
     "terminal attributes: .. of ti-tset and ti-reset": (["setsid -w ti-reset -q"], {}, ""),
+    "illegal -m option format: .., unknown baud rate .. of ti-tset and ti-reset": (
+        ["ti-tset -m '<>110:vt100'", "ti-tset -m '>fast:vt100'"], {}, "",
+    ),
     "no terminal is named": (["ti-tput cols"], {}, "ti-tput cols"),
     "unknown terminfo capability 'NAME'": ([f"{ENTRIES} ti-tput -T dumb bel Tc"], {"TERM": "dumb"}, ""),
     "ti-everyday: call it ti-tic, ..": (["ti-everyday"], {"..": "-V"}, ""),
