@@ -40,7 +40,7 @@ entry_sentence (entry_held holding) = holding_sentence holding
 
 -- what an item means
 abbrev pub meaning_text : MeaningSeen → List ℕ
-meaning_text means_nothing = codes "nothing, since the item has an error"
+meaning_text means_nothing = codes "nothing, since the item is not valid"
 meaning_text means_set = codes "set"
 meaning_text (means_number number) = decimal number
 meaning_text (means_text text) = text

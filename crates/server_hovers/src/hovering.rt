@@ -68,7 +68,7 @@ fn meaning_text(alloc: Global, meaning: &Meaning) -> Result<String, AllocError>
     ensures { IfOk result (λ text. string_bytes text ≡ meaning_text (meaning_seen meaning.now)) }
 {
     match meaning {
-        Meaning::Nothing => String::from_str(alloc, "nothing, since the item has an error"),
+        Meaning::Nothing => String::from_str(alloc, "nothing, since the item is not valid"),
         Meaning::Set => String::from_str(alloc, "set"),
         Meaning::Number(number) => format!(in alloc; "{number}"),
         Meaning::Text(text) => String::from_str(alloc, text.as_str()),

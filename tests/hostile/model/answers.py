@@ -406,7 +406,7 @@ def meaning_told(block, ordinal):
         if value is CANCEL or cap[0] == FLAG:
             return "cancelled" if value is CANCEL else "set"
         return f"{value}" if cap[0] == NUMBER else written(value).decode()
-    return "nothing, since the item has an error"
+    return "nothing, since the item is not valid"
 
 
 def item_told(text, meaning):
