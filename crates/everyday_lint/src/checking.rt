@@ -10,9 +10,8 @@ use crate::options::LintOptions;
 use crate::telling::{severities_of, told_of_all};
 use source_document::Document;
 use source_plain::plain;
-use source_settings::published_of;
 use source_remarks::{remarks_of, source_hints_in};
-use source_settings::{Allowances, Settings};
+use source_settings::{Allowances, Settings, published_of};
 use source_types::Severity;
 use std::alloc::{AllocError, Global};
 

@@ -14,9 +14,8 @@ use crate::telling::told_of_all;
 use everyday_fmt::ReasonedTree;
 use everyday_forms::{Form, push_summary, whole};
 use source_document::Capabilities;
-use source_settings::as_they_are;
 use source_remarks::{remarks_of, source_hints_in};
-use source_settings::{Settled, settle};
+use source_settings::{Settled, as_they_are, settle};
 use std::alloc::{AllocError, Global};
 
 // What standard input is called.

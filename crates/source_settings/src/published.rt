@@ -8,8 +8,8 @@ ghost use Rattle.source_settings.specs.Published.{published_seen};
 ghost use Rattle.source_settings.specs.inside.Told.{told_by};
 
 use crate::own::{messages_on, says_one_of};
-use source_remarks::Remark;
 use crate::{Allowances, Level, Settings};
+use source_remarks::Remark;
 use source_types::Severity;
 use std::alloc::{AllocError, Global};
 

@@ -1,7 +1,6 @@
 //! Calls of `source_block_hints` and `source_hints`: the parameters of strings, and hints by their offsets.
 use source_block_hints::{Hint, HintKind, hints_of_block};
-use source_hints::{file_hints, merged};
-use source_hints::hints_after_uses;
+use source_hints::{file_hints, hints_after_uses, merged};
 use std::alloc::{AllocError, Global};
 use test_rows::RowError::Bad;
 use test_rows::{NO_CALL, Row, RowResult, count_of};
