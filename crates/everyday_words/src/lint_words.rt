@@ -59,7 +59,9 @@ read by GitHub Actions. The form json is one array of the diagnostics of the
 Language Server Protocol, each with the name of its file.
 Errors and warnings are printed on standard output; fixes, and how many errors
 and warnings there are, on standard error. Without -x user-defined capabilities
-are unknown, and so warnings.
+are unknown, and so warnings. A file .ti-lint.toml next to a source or above it
+hides hints and warnings or changes their severity, and a comment before a
+block hides them there: see ti-lint(1).
 --fix replaces files, and changes no names. It does not fix standard input.
 
 Exit status:
