@@ -2,4 +2,4 @@ pub mod Directories
 pub mod Changes
 pub mod Nearest
 pub mod Lines
-pub mod Settled
+pub mod Publishing

@@ -1,4 +1,4 @@
-use Rattle.source_settings.proofs.Settled.{all}
+use Rattle.source_settings.proofs.Publishing.{all}
 use Rattle.source_settings.proofs.laws.all_is_published.Goals as goal
 
 pub returns : goal.returns

@@ -1,4 +1,4 @@
-use Rattle.source_settings.proofs.Settled.{nothing_else}
+use Rattle.source_settings.proofs.Publishing.{nothing_else}
 use Rattle.source_settings.proofs.laws.nothing_else_is_taken_out.Goals as goal
 
 pub returns : goal.returns

@@ -4,7 +4,7 @@ use Rattle.source_remarks.specs.Remarks.{remark_seen}
 use Rattle.source_settings.specs.Settings.{settings_seen}
 use Rattle.source_settings.specs.Published.{SeenPublished, message_on, published_as, published_seen, told}
 use Rattle.source_settings.specs.inside.Told.{told_by}
-use Rattle.source_settings.proofs.Settled.{published-more}
+use Rattle.source_settings.proofs.Publishing.{published-more}
 use Rattle.source_settings.proofs.published.published_of.Goals as goal
 
 pub loop-remark-preserved : goal.loop-remark-preserved
