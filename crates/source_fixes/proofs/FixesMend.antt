@@ -66,12 +66,12 @@ mapped_at f (x ∷ xs) y (suc i) within e =
     let less = has.1 in
     record { of = later.of; has = (suc has.0, omega (arith, less), has.2); is = later.is }
 
-record IsOfOne {X Y : Type 0} (f : X → List Y) (xs : List X) (y : Y) : Type 0 where
-  of : X
-  has : Contains xs of
-  is : Contains (f of) y
+pub record IsOfOne {X Y : Type 0} (f : X → List Y) (xs : List X) (y : Y) : Type 0 where
+  pub of : X
+  pub has : Contains xs of
+  pub is : Contains (f of) y
 
-of_one : {X Y : Type 0} (f : X → List Y) (xs : List X) (y : Y) → Contains (flat_map f xs) y → IsOfOne f xs y
+pub of_one : {X Y : Type 0} (f : X → List Y) (xs : List X) (y : Y) → Contains (flat_map f xs) y → IsOfOne f xs y
 of_one f [] y has = let less = has.1 in absurd (omega (arith, less))
 of_one f (x ∷ xs) y has =
     elim (Contains-append_cases (f x) (flat_map f xs) y has) [
@@ -97,13 +97,13 @@ numbered_at n (x ∷ xs) p (suc i) within e =
 sum_first : (block : List ℕ) (blocks : List (List ℕ)) → sum_by line_count (block ∷ blocks) ≡ line_count block + sum_by line_count blocks
 sum_first block blocks = sum_by-append line_count (block ∷ []) blocks ∙ ap (λ (n : ℕ). n + sum_by line_count blocks) (zero-add (line_count block))
 
-record IsSpot (at first : ℕ) (blocks : List (List ℕ)) (spot : Spot) : Type 0 where
-  place : ℕ
-  is : spot.at ≡ at + place
-  within : place < length blocks
-  line : spot.line ≡ first + sum_by line_count (take place blocks)
+pub record IsSpot (at first : ℕ) (blocks : List (List ℕ)) (spot : Spot) : Type 0 where
+  pub place : ℕ
+  pub is : spot.at ≡ at + place
+  pub within : place < length blocks
+  pub line : spot.line ≡ first + sum_by line_count (take place blocks)
 
-spot_is : (at first : ℕ) (p : Position) (blocks : List (List ℕ)) (spot : Spot) → spot_from at first p blocks ≡ Some spot → IsSpot at first blocks spot
+pub spot_is : (at first : ℕ) (p : Position) (blocks : List (List ℕ)) (spot : Spot) → spot_from at first p blocks ≡ Some spot → IsSpot at first blocks spot
 spot_is at first p [] spot e = absurd cc
 spot_is at first p (block ∷ blocks) spot e =
     elim (cases_Bool (nat_lt p.line first)) [
@@ -156,7 +156,7 @@ ends_before before (block ∷ blocks) (suc k) within are =
     last_both before block (concat (take k blocks)) ∙ ends_before (last_byte before block) blocks k (omega (arith, within)) are.2
 
 -- a block that is one ends with a newline
-block_ends : (block : List ℕ) → OneBlock block → last_byte 10 block ≡ 10
+pub block_ends : (block : List ℕ) → OneBlock block → last_byte 10 block ≡ 10
 block_ends [] single = refl
 block_ends (x ∷ xs) single = single.ends
 
@@ -168,10 +168,10 @@ ended text last = let is = eq-eqb (last_byte 10 text) 10 last in rw is refl
 still_ended : (text : List ℕ) → last_byte 10 text ≢ 10 → with_last_newline text ≡ text ++ 10 ∷ []
 still_ended text unended = let is = ne_eqb (last_byte 10 text) 10 unended in rw is refl
 
-record IsCutIn (text : List ℕ) (blocks : List (List ℕ)) (k : ℕ) : Type 0 where
-  whole : with_last_newline text ≡ (preface_of text ++ concat (take k blocks)) ++ (text_at blocks k ++ concat (drop (suc k) blocks))
-  ends : last_byte 10 (preface_of text ++ concat (take k blocks)) ≡ 10
-  lines : line_count (preface_of text ++ concat (take k blocks)) ≡ head_line text + sum_by line_count (take k blocks)
+pub record IsCutIn (text : List ℕ) (blocks : List (List ℕ)) (k : ℕ) : Type 0 where
+  pub whole : with_last_newline text ≡ (preface_of text ++ concat (take k blocks)) ++ (text_at blocks k ++ concat (drop (suc k) blocks))
+  pub ends : last_byte 10 (preface_of text ++ concat (take k blocks)) ≡ 10
+  pub lines : line_count (preface_of text ++ concat (take k blocks)) ≡ head_line text + sum_by line_count (take k blocks)
 
 not_refused : (o : Option SourceError) (blocks : List (List ℕ)) (k : ℕ) → k < length (unless_refused o blocks) → unless_refused o blocks ≡ blocks
 not_refused None blocks k within = refl
@@ -180,7 +180,7 @@ not_refused (Some error) blocks k within = absurd (omega (arith, within))
 less_one : (n : ℕ) → n + 1 - 1 ≡ n
 less_one n = omega arith
 
-cut_at : (text : List ℕ) (k : ℕ) → k < length (held text) → IsCutIn text (held text) k
+pub cut_at : (text : List ℕ) (k : ℕ) → k < length (held text) → IsCutIn text (held text) k
 cut_at text k within =
     let blocks = source_texts text in
     let preface = preface_of text in
@@ -227,11 +227,11 @@ single_ends [] single b = absurd single.cut.each.1
 single_ends (x ∷ xs) single b = single.ends
 
 -- a block in the place of another: the text ends with a newline too, and these are its blocks
-record IsSet (text : List ℕ) (k : ℕ) (block other : List ℕ) : Type 0 where
-  ends : last_byte 10 other ≡ 10
-  blocks : blocks_from_head 10 other ≡ slice_set (held text) k block
+pub record IsSet (text : List ℕ) (k : ℕ) (block other : List ℕ) : Type 0 where
+  pub ends : last_byte 10 other ≡ 10
+  pub blocks : blocks_from_head 10 other ≡ slice_set (held text) k block
 
-blocks_with : (text : List ℕ) (k : ℕ) (block : List ℕ) → k < length (held text) → OneBlock (text_at (held text) k) → OneBlock block
+pub blocks_with : (text : List ℕ) (k : ℕ) (block : List ℕ) → k < length (held text) → OneBlock (text_at (held text) k) → OneBlock block
     → IsSet text k block ((preface_of text ++ concat (take k (held text))) ++ (block ++ concat (drop (suc k) (held text))))
 blocks_with text k block within was single =
     let blocks = held text in
@@ -304,7 +304,7 @@ kept_at : (p : EditSeen → Bool) (xs : List EditSeen) (y : EditSeen) (i : ℕ) 
 kept_at p [] y i within e = absurd (omega (arith, within))
 kept_at p (x ∷ xs) y i within e = kept_by p x xs y (p x) refl (λ k less is. kept_at p xs y k less is) i within e
 
-placed_part : (block : List ℕ) (part : Part) → can_be_exchanged block part ≡ true → IsPartOf block part → IsPlaced block part
+pub placed_part : (block : List ℕ) (part : Part) → can_be_exchanged block part ≡ true → IsPartOf block part → IsPlaced block part
 placed_part block part can is =
     let both = and_parts _ _ can in
     let start = and_parts _ _ both.0 in
@@ -313,13 +313,13 @@ placed_part block part can is =
 
 -- ---- the fix
 
-record IsMade (text front block back : List ℕ) (edit : EditSeen) (fix : FixSeen) : Type 0 where
-  applied : client_edited text fix ++ missing_newline text ≡ front ++ (block_after block edit ++ back)
-  ended_so : last_byte 10 (front ++ (block_after block edit ++ back)) ≡ 10 → with_last_newline (client_edited text fix) ≡ front
+pub record IsMade (text front block back : List ℕ) (edit : EditSeen) (fix : FixSeen) : Type 0 where
+  pub applied : client_edited text fix ++ missing_newline text ≡ front ++ (block_after block edit ++ back)
+  pub ended_so : last_byte 10 (front ++ (block_after block edit ++ back)) ≡ 10 → with_last_newline (client_edited text fix) ≡ front
       ++ (block_after block edit ++ back)
-  lines : KeepsLines text (client_edited text fix)
+  pub lines : KeepsLines text (client_edited text fix)
 
-made_at : EditsInLinesKeepLines → (text front block back : List ℕ) (line : ℕ) (edit : EditSeen) → with_last_newline text ≡ front ++ (block ++ back) → line ≡ line_count front
+pub made_at : EditsInLinesKeepLines → (text front block back : List ℕ) (line : ℕ) (edit : EditSeen) → with_last_newline text ≡ front ++ (block ++ back) → line ≡ line_count front
     → last_byte 10 front ≡ 10 → last_byte 10 block ≡ 10
     → IsPlaced block edit.part → IsInLine block edit.part edit.text → edit.part.start ≤ edit.part.end
     → stays_in_line block edit.part.start edit.part.end edit.text ≡ true → IsMade text front block back edit (fix_of line block edit)

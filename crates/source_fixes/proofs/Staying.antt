@@ -20,23 +20,23 @@ use Rattle.source_fixes.specs.Healing.{IsInLine}
 
 -- ---- texts in which no block begins
 
-last_both : (before : ℕ) (one other : List ℕ) → last_byte before (one ++ other) ≡ last_byte (last_byte before one) other
+pub last_both : (before : ℕ) (one other : List ℕ) → last_byte before (one ++ other) ≡ last_byte (last_byte before one) other
 last_both before [] other = refl
 last_both before (x ∷ xs) other = last_both x xs other
 
-front_none : (before : ℕ) (one other : List ℕ) → HasNoHead before (one ++ other) → HasNoHead before one
+pub front_none : (before : ℕ) (one other : List ℕ) → HasNoHead before (one ++ other) → HasNoHead before one
 front_none before [] other none = tt
 front_none before (x ∷ xs) other none = (none.0, front_none x xs other none.1)
 
-back_none : (before : ℕ) (one other : List ℕ) → HasNoHead before (one ++ other) → HasNoHead (last_byte before one) other
+pub back_none : (before : ℕ) (one other : List ℕ) → HasNoHead before (one ++ other) → HasNoHead (last_byte before one) other
 back_none before [] other none = none
 back_none before (x ∷ xs) other none = back_none x xs other none.1
 
-both_none : (before : ℕ) (one other : List ℕ) → HasNoHead before one → HasNoHead (last_byte before one) other → HasNoHead before (one ++ other)
+pub both_none : (before : ℕ) (one other : List ℕ) → HasNoHead before one → HasNoHead (last_byte before one) other → HasNoHead before (one ++ other)
 both_none before [] other none more = more
 both_none before (x ∷ xs) other none more = (none.0, both_none x xs other none.1 more)
 
-not_head : (before x : ℕ) → (before == 10) ≡ false → is_head before x ≡ false
+pub not_head : (before x : ℕ) → (before == 10) ≡ false → is_head before x ≡ false
 not_head before x other = rw other refl
 
 line_none : (before : ℕ) (text : List ℕ) → (before == 10) ≡ false → IsOneLine text → HasNoHead before text
@@ -47,7 +47,7 @@ line_last : (before : ℕ) (text : List ℕ) → (before == 10) ≡ false → Is
 line_last before [] other line = other
 line_last before (x ∷ xs) other line = line_last x xs line.0 line.1
 
-other_none : (one other : ℕ) (text : List ℕ) → (other == 10) ≡ false → HasNoHead one text → HasNoHead other text
+pub other_none : (one other : ℕ) (text : List ℕ) → (other == 10) ≡ false → HasNoHead one text → HasNoHead other text
 other_none one other [] plain none = tt
 other_none one other (x ∷ xs) plain none = (not_head other x plain, none.1)
 
@@ -62,9 +62,9 @@ has_last : (x : PlacedByte) (xs : List PlacedByte) → (front : List PlacedByte)
 has_last x [] = ([], x, refl, refl)
 has_last x (y ∷ ys) = let later = has_last y ys in (x ∷ later.0, later.1, ap (λ (t : List PlacedByte). x ∷ t) later.2, later.3)
 
-record IsStill (h : ℕ) (text : List ℕ) : Type 0 where
-  none : HasNoHead h text
-  last : last_byte h text ≡ 10
+pub record IsStill (h : ℕ) (text : List ℕ) : Type 0 where
+  pub none : HasNoHead h text
+  pub last : last_byte h text ≡ 10
 
 never : (n : ℕ) → (n == 10) ≡ false → n ≢ 10
 never n off is = let t = eq-eqb n 10 is in cc
@@ -112,7 +112,7 @@ still_one h block p front x xs back new head none ends line e =
     )
 
 -- a block
-one_of : (h : ℕ) (text block : List ℕ) → begins_head h ≡ true → block ≡ h ∷ text → IsStill h text → OneBlock block
+pub one_of : (h : ℕ) (text block : List ℕ) → begins_head h ≡ true → block ≡ h ∷ text → IsStill h text → OneBlock block
 one_of h text block head is still =
     subst OneBlock (sym is) (record {
       cut = record { whole = sym (append-nil (h ∷ text)); front = tt; each = (refl, (head, still.none), tt) };

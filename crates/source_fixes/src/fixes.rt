@@ -44,9 +44,9 @@ pub(crate) struct Stretch {
     // The position of the block.
     at: usize,
     // The offset in the block of the first place.
-    start: usize,
+    pub(crate) start: usize,
     // The offset in the block of the last place.
-    end: usize,
+    pub(crate) end: usize,
 }
 
 // Whether what a fault is about is the name of a user-defined capability that is known.
@@ -222,7 +222,7 @@ fn is_place(block: &[u8], offset: usize) -> bool
 }
 
 // Whether an editor can exchange a part of a block, and no more and no less.
-fn can_be_exchanged(block: &[u8], part: Part) -> bool
+pub(crate) fn can_be_exchanged(block: &[u8], part: Part) -> bool
     ensures { result ≡ can_be_exchanged block.now part }
 {
     is_place(block, part.start) && is_place(block, part.end)
@@ -267,7 +267,7 @@ fn fixes_of_edits(
 }
 
 // The stretch of a block from a place in it to another place.
-fn stretch_to(block: &[u8], end: Position, spot: Spot) -> Stretch
+pub(crate) fn stretch_to(block: &[u8], end: Position, spot: Spot) -> Stretch
     ensures { result ≡ stretch_to block.now end spot }
 {
     Stretch {

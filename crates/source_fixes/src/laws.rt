@@ -1,5 +1,6 @@
 //! Laws of the definitions on which the contracts of this crate depend. They compute nothing.
 ghost use Rattle.source_fixes.specs.Applied.{AsciiPlacesAreStarts, FixesHeal};
+ghost use Rattle.source_fixes.specs.Commas.{CommasPart};
 ghost use Rattle.source_fixes.specs.Healing.{EditsHeal};
 ghost use Rattle.source_fixes.specs.Together.{CertainEditsAreMade, TheseAreCertain};
 ghost use Rattle.source_fixes.specs.Laws.{NamesAreOfOtherBlocks};
@@ -43,4 +44,16 @@ pub fn fixes_heal()
     ti_source::laws::one_outcome();
     ti_source::laws::written_spells();
     ti_source::laws::each_is_well_read();
+}
+
+/// A comma that is offered against a hint, once the client has put it at the range of the fix, has made
+/// two texts of one, the names field of a block or an item, of which the other says a capability. All
+/// other texts of the block are as they were, whether a newline ends the text or not. Each comment and
+/// each blank line is as it was, on the line that it was on. That the text is not too long for a
+/// document then is in no clause.
+pub fn commas_part()
+    ensures { CommasPart }
+{
+    source_document::laws::held_blocks_fit();
+    source_keeping::laws::edits_keep_lines();
 }
