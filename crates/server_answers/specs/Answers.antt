@@ -101,7 +101,7 @@ answer_of installed client text uri formatting = said_answer (layout_data (layou
 answer_of installed client text uri (range_formatting range) = said_answer (layout_data (layout_in text range))
 answer_of installed client text uri (rename place name) = renamed_said uri (renaming_of text place name)
 answer_of installed client text uri (prepare_rename place) = said_answer (renamable_data (renamable_at text place))
-answer_of installed client text uri (fixes range wanted) = said_answer (fixes_data (capabilities_of client) installed text uri range wanted)
+answer_of installed client text uri (fixes range wanted) = said_answer (fixes_data (capabilities_of client) client.hints installed text uri range wanted)
 
 -- what is said where these names are installed
 abbrev pub sayings : List (List ℕ) → Sayings

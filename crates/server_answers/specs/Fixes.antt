@@ -1,5 +1,5 @@
 -- What is offered against a fault, as the server says it (own; LSP 3.17, "Code Action Request").
-use Rattle.std.specs.Prelude.{ℕ, Bool, true, not, List, [], ◌∷◌, ◌++◌, codes, map, if◌then◌else◌}
+use Rattle.std.specs.Prelude.{ℕ, Bool, true, false, not, List, [], ◌∷◌, ◌++◌, codes, map, if◌then◌else◌}
 use Rattle.std.specs.List.{flat_map}
 use Rattle.serde_json.specs.Data.{Data, Items, array}
 use Rattle.serde_json.specs.View.{items_of}
@@ -12,7 +12,11 @@ use Rattle.source_diagnostics.specs.declared.capabilities.Capabilities.{Capabili
 use Rattle.source_diagnostics.specs.declared.capabilities.Capabilities.TheVariants.{UserDefined}
 use Rattle.source_installed.specs.Names.{is_among}
 use Rattle.source_fixes.specs.Fixes.{FixSeen, fixes_of}
+use Rattle.source_fixes.specs.HintFixes.{hint_fixes_of}
 use Rattle.source_fixes.specs.Resolving.{resolved_by}
+use Rattle.source_fixes.specs.declared.hint_fixes.HintFix.{HintFix}
+use Rattle.source_block_hints.specs.declared.hint.HintKind.{HintKind}
+use Rattle.source_block_hints.specs.declared.hint.HintKind.TheVariants.{ItemsInHead}
 use Rattle.source_types.specs.declared.places.Range.{Range}
 use Rattle.server_answers.specs.Shown.{shown_data}
 
@@ -54,9 +58,29 @@ if_offered capabilities installed text uri all fix =
 abbrev pub fixes_shown : Capabilities → List (List ℕ) → List ℕ → List ℕ → List Shown → List FixSeen → List Data
 fixes_shown capabilities installed text uri all fixes = flat_map (if_offered capabilities installed text uri all) fixes
 
--- the fixes for a range of a text that may have these capabilities, which is that of the document of
--- that URI, if they are asked for
-abbrev pub fixes_data : Capabilities → List (List ℕ) → List ℕ → List ℕ → Range → Bool → Data
-fixes_data capabilities installed text uri range wanted =
-    array (items_of (if wanted
-    then fixes_shown capabilities installed text uri (diagnostics_by capabilities text) (fixes_of capabilities text range) else []))
+-- the title of a fix against a hint of that kind
+abbrev pub hint_title : HintKind → List ℕ
+hint_title ItemsInHead = codes "End the head with a comma"
+hint_title _ = codes "Insert the missing comma"
+
+-- a fix against a hint on the text of the document of that URI. It comes without the hint, and an
+-- editor may not prefer it: a string may hold what looks like an item.
+abbrev pub hint_fix_shown : List ℕ → HintFix → Data
+hint_fix_shown uri fix = action_data uri (hint_title fix.kind) fix.range (codes ",") false (items_of [])
+
+-- what is offered against the hints on a range of a text, if the client wants hints
+abbrev pub hint_fixes_if : (hints : Bool) → List ℕ → Range → List HintFix
+hint_fixes_if true text range = hint_fixes_of text range
+hint_fixes_if false text range = []
+
+-- what is offered for a range of a text that may have these capabilities, which is that of the
+-- document of that URI: first against its faults, then against its hints if the client wants hints
+abbrev pub all_fixes_shown : Capabilities → (hints : Bool) → List (List ℕ) → List ℕ → List ℕ → Range → List Data
+all_fixes_shown capabilities hints installed text uri range =
+    fixes_shown capabilities installed text uri (diagnostics_by capabilities text) (fixes_of capabilities text range)
+    ++ map (hint_fix_shown uri) (hint_fixes_if hints text range)
+
+-- the same, if fixes are asked for
+abbrev pub fixes_data : Capabilities → (hints : Bool) → List (List ℕ) → List ℕ → List ℕ → Range → (wanted : Bool) → Data
+fixes_data capabilities hints installed text uri range wanted =
+    array (items_of (if wanted then all_fixes_shown capabilities hints installed text uri range else []))

@@ -22,10 +22,11 @@ use Rattle.source_names.specs.Names.{definition_of, references_of}
 use Rattle.source_names.specs.Renaming.{RenameSeen, RenamingSeen, refuses, renamable_at, renames, renames_nothing, renaming_of}
 use Rattle.source_fixes.specs.Fixes.{FixSeen, fixes_of}
 use Rattle.source_fixes.specs.Resolving.{resolved_by}
+use Rattle.source_fixes.specs.declared.hint_fixes.HintFix.{HintFix}
 use Rattle.source_format.specs.Folds.{folds_of}
 use Rattle.source_format.specs.declared.folding.Fold.{Fold}
 use Rattle.source_edits.specs.Edits.{is_certain}
-use Rattle.server_answers.specs.Fixes.{advice_title, fix_shown, fixes_data, fixes_shown, is_offered as is_offered_fix, resolved_shown}
+use Rattle.server_answers.specs.Fixes.{advice_title, fix_shown, fixes_data, fixes_shown, hint_fix_shown, hint_fixes_if, is_offered as is_offered_fix, resolved_shown}
 use Rattle.lsp_messages.specs.Messages.{Query, completion, hover, signature, definition, references, symbols, highlights, folding, formatting, range_formatting, rename, prepare_rename, fixes}
 use Rattle.lsp_values.specs.Shapes.{action_data, folding_data, highlight_data, location_data, parameter_data, signature_help_data, symbol_information_data}
 use Rattle.lsp_messages.specs.declared.clients.Client.{Client}
@@ -187,23 +188,30 @@ none_in_action : (uri title : List ℕ) (range : Range) (text : List ℕ) (is_pr
 none_in_action uri title range text true diagnostics none = rw none refl
 none_in_action uri title range text false diagnostics none = rw none refl
 
-none_in_fixes : (capabilities : Capabilities) (installed : List (List ℕ)) (text uri : List ℕ) (all : List Shown) (some : List FixSeen)
-    → items_have_float (items_of (fixes_shown capabilities installed text uri all some)) ≡ false
-none_in_fixes capabilities installed text uri all [] = refl
-none_in_fixes capabilities installed text uri all (fix ∷ some) =
+none_in_hint_fixes : (uri : List ℕ) (some : List HintFix) → items_have_float (items_of (map (hint_fix_shown uri) some)) ≡ false
+none_in_hint_fixes uri [] = refl
+none_in_hint_fixes uri (fix ∷ some) = none_in_hint_fixes uri some
+
+-- fixes and what comes after them
+none_in_fixes : (capabilities : Capabilities) (installed : List (List ℕ)) (text uri : List ℕ) (all : List Shown) (some : List FixSeen) (more : List Data)
+    → items_have_float (items_of more) ≡ false
+    → items_have_float (items_of (fixes_shown capabilities installed text uri all some ++ more)) ≡ false
+none_in_fixes capabilities installed text uri all [] more none = none
+none_in_fixes capabilities installed text uri all (fix ∷ some) more none =
     let rest = fixes_shown capabilities installed text uri all some in
     let shown = fix_shown text uri all fix in
-    elim (is_offered_fix capabilities installed fix.advice) as (λ b. items_have_float (items_of (cond b (shown ∷ []) [] ++ rest)) ≡ false) [
+    elim (is_offered_fix capabilities installed fix.advice) as (λ b. items_have_float (items_of ((cond b (shown ∷ []) [] ++ rest) ++ more)) ≡ false) [
       | true ↦ rw (none_in_action uri (advice_title fix.advice fix.text) fix.range fix.text (is_certain fix.advice) (resolved_shown text all fix)
-          (none_in (resolved_by text fix all))) (none_in_fixes capabilities installed text uri all some)
-      | false ↦ none_in_fixes capabilities installed text uri all some
+          (none_in (resolved_by text fix all))) (none_in_fixes capabilities installed text uri all some more none)
+      | false ↦ none_in_fixes capabilities installed text uri all some more none
     ]
 
-none_in_wanted : (capabilities : Capabilities) (installed : List (List ℕ)) (text uri : List ℕ) (range : Range) (wanted : Bool)
-    → has_float (fixes_data capabilities installed text uri range wanted) ≡ false
-none_in_wanted capabilities installed text uri range true =
+none_in_wanted : (capabilities : Capabilities) (hints : Bool) (installed : List (List ℕ)) (text uri : List ℕ) (range : Range) (wanted : Bool)
+    → has_float (fixes_data capabilities hints installed text uri range wanted) ≡ false
+none_in_wanted capabilities hints installed text uri range true =
     none_in_fixes capabilities installed text uri (diagnostics_by capabilities text) (fixes_of capabilities text range)
-none_in_wanted capabilities installed text uri range false = refl
+    (map (hint_fix_shown uri) (hint_fixes_if hints text range)) (none_in_hint_fixes uri (hint_fixes_if hints text range))
+none_in_wanted capabilities hints installed text uri range false = refl
 
 answers_have_no_floats : (installed : List (List ℕ)) (client : Client) (text uri : List ℕ) (query : Query)
     → SaidHasNoFloat (answer_of installed client text uri query)
@@ -220,7 +228,7 @@ answers_have_no_floats installed client text uri formatting = none_in_layout (la
 answers_have_no_floats installed client text uri (range_formatting range) = none_in_layout (layout_in text range)
 answers_have_no_floats installed client text uri (rename place name) = none_in_renaming uri (renaming_of text place name)
 answers_have_no_floats installed client text uri (prepare_rename place) = none_in_renamable (renamable_at text place)
-answers_have_no_floats installed client text uri (fixes range wanted) = none_in_wanted (capabilities_of client) installed text uri range wanted
+answers_have_no_floats installed client text uri (fixes range wanted) = none_in_wanted (capabilities_of client) client.hints installed text uri range wanted
 
 none_in_found : (uri held : List ℕ) (all : List SymbolSeen) → items_have_float (items_of (symbols_found uri held all)) ≡ false
 none_in_found uri held [] = refl

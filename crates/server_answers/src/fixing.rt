@@ -1,4 +1,4 @@
-//! What is offered against faults, as values of the protocol.
+//! What is offered against faults and hints, as values of the protocol.
 ghost use Rattle.std.specs.Prelude.{◌≡◌, ◌++◌, IfOk, OnOk, map};
 ghost use Rattle.std.specs.String.{string_bytes};
 ghost use Rattle.serde_json.specs.View.{view};
@@ -7,15 +7,17 @@ ghost use Rattle.source_edits.specs.Edits.{advice_seen};
 ghost use Rattle.source_fixes.specs.Fixes as offered;
 ghost use Rattle.source_fixes.specs.Fixes.{fix_seen};
 ghost use Rattle.source_fixes.specs.Resolving as resolving;
-ghost use Rattle.server_answers.specs.Fixes.{advice_title, fix_shown, fixes_data, fixes_shown, if_offered, is_offered, sign_title};
+ghost use Rattle.server_answers.specs.Fixes.{advice_title, all_fixes_shown, fix_shown, fixes_data, fixes_shown, hint_fix_shown, hint_title, if_offered};
+ghost use Rattle.server_answers.specs.Fixes.{hint_fixes_if, is_offered, sign_title};
 ghost use Rattle.server_answers.specs.Shown.{shown_data};
 
 use crate::showing::value_of;
 use lsp_values::answers::action_value;
 use serde_json::Value;
+use source_block_hints::HintKind;
 use source_document::{Capabilities, Diagnostic, Document};
 use source_edits::Advice;
-use source_fixes::{Fix, fixes_of, resolved_by};
+use source_fixes::{Fix, HintFix, fixes_of, hint_fixes_of, resolved_by};
 use source_installed::Installed;
 use source_types::Range;
 use std::alloc::{AllocError, Global};
@@ -160,8 +162,9 @@ fn fix_values(
     Ok(values)
 }
 
-// What is offered for a part of a source. Its diagnostics are found only if something is.
-fn fixes_in(
+// What is offered against the faults of a part of a source. Its diagnostics are found only if something
+// is.
+fn fault_fixes_in(
     alloc: Global,
     capabilities: Capabilities,
     installed: &Installed,
@@ -183,26 +186,98 @@ fn fixes_in(
     Ok(values)
 }
 
-/// What is offered against the faults of a part of a source, which may have these capabilities,
-/// where these names are installed, if quick fixes are asked for.
+// The title of a fix against a hint of that kind.
+fn hint_title(kind: HintKind) -> &'static str
+    ensures { result.now ≡ hint_title kind }
+{
+    match kind {
+        HintKind::ItemsInHead => "End the head with a comma",
+        _ => "Insert the missing comma",
+    }
+}
+
+// A fix against a hint on the document of that URI.
+fn hint_fix_value(alloc: Global, uri: &str, fix: HintFix) -> Result<Value, AllocError>
+    ensures { IfOk result (λ v. view v ≡ hint_fix_shown uri.now fix) }
+{
+    let title = hint_title(fix.kind);
+    action_value(alloc, uri, title, fix.range, ",", false, Vec::new(alloc))
+}
+
+// Adds fixes against hints on the document of that URI.
+fn push_hint_fixes(
+    alloc: Global,
+    values: &mut Vec<Value>,
+    uri: &str,
+    fixes: &[HintFix],
+) -> Result<(), AllocError>
+    ensures { OnOk result (map view values.new.items ≡ map view values.old.items ++ map (hint_fix_shown uri.now) fixes.now) }
+{
+    for fix in fixes {
+        values.push(hint_fix_value(alloc, uri, *fix)?)?;
+    }
+    Ok(())
+}
+
+// What is offered against the hints on a part of a source, if the client wants hints.
+fn hint_fixes_if(
+    alloc: Global,
+    hints: bool,
+    document: &Document,
+    range: Range,
+) -> Result<Vec<HintFix>, AllocError>
+    ensures { IfOk result (λ fixes. fixes.items ≡ hint_fixes_if hints document.now range) }
+{
+    if hints {
+        hint_fixes_of(alloc, document, range)
+    } else {
+        Ok(Vec::new(alloc))
+    }
+}
+
+// What is offered against the faults of a part of a source, and against the hints on it if the client
+// wants hints.
+fn fixes_in(
+    alloc: Global,
+    capabilities: Capabilities,
+    hints: bool,
+    installed: &Installed,
+    document: &mut Document,
+    uri: &str,
+    range: Range,
+) -> Result<Vec<Value>, AllocError>
+    ensures values { IfOk result (λ values. map view values.items
+        ≡ all_fixes_shown capabilities hints installed.now document.old uri.now range) }
+    ensures text { OnOk result (document.new ≡ document.old) }
+{
+    let found = hint_fixes_if(alloc, hints, document, range)?;
+    let mut values = fault_fixes_in(alloc, capabilities, installed, document, uri, range)?;
+    push_hint_fixes(alloc, &mut values, uri, &found)?;
+    Ok(values)
+}
+
+/// What is offered against the faults of a part of a source, which may have these capabilities, where
+/// these names are installed, and against the hints on it if the client wants hints; all this if quick
+/// fixes are asked for.
 ///
 /// # Errors
 /// Out of memory.
 pub fn fixes(
     alloc: Global,
     capabilities: Capabilities,
+    hints: bool,
     installed: &Installed,
     document: &mut Document,
     uri: &str,
     range: Range,
     wanted: bool,
 ) -> Result<Value, AllocError>
-    ensures value { IfOk result (λ v. view v ≡ fixes_data capabilities installed.now document.old uri.now range wanted) }
+    ensures value { IfOk result (λ v. view v ≡ fixes_data capabilities hints installed.now document.old uri.now range wanted) }
     ensures text { OnOk result (document.new ≡ document.old) }
 {
     if !wanted {
         return Ok(Value::Array(Vec::new(alloc)));
     }
-    let values = fixes_in(alloc, capabilities, installed, document, uri, range)?;
+    let values = fixes_in(alloc, capabilities, hints, installed, document, uri, range)?;
     Ok(Value::Array(values))
 }

@@ -38,7 +38,8 @@ use std::alloc::{AllocError, Global};
 ///   then the installed names that no block has and that begin as what is typed, whatever the case
 ///   of its letters.
 /// - The fixes are those of `source_fixes`, each with the published diagnostics that it resolves;
-///   those that are certain are preferred.
+///   those that are certain are preferred. If the client wants hints, those against hints come after
+///   them, without a diagnostic.
 #[derive(Drop)]
 pub struct Terminfo {
     document: Document,
@@ -179,6 +180,7 @@ impl HeldText for Terminfo {
             Question::Fixes { range, wanted } => fixes(
                 alloc,
                 capabilities_of(client),
+                client.hints,
                 installed,
                 &mut self.document,
                 uri,
