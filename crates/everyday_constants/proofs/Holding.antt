@@ -112,9 +112,16 @@ module _ (P : ℕ → Type 0) (of_printed : (v : ℕ) → 32 ≤ v → v < 127 �
   of-piece : (text : List ℕ) (found : Option Constant) → constant_at text ≡ found → AllByRecursion P text → AllByRecursion P (text_by found text)
   of-piece text None e all = taken (kept_size text) text all
   of-piece text (Some c) e all =
-      let is = constant-printed text c e in
-      (of_printed 37 (omega arith) (omega arith), (of_printed 39 (omega arith) (omega arith), (of_printed c.value is.low is.high,
-      (of_printed 39 (omega arith) (omega arith), tt))))
+      let is = constant-printed text c e in (
+        of_printed 37 (omega arith) (omega arith),
+        (
+          of_printed 39 (omega arith) (omega arith),
+          (
+            of_printed c.value is.low is.high,
+            (of_printed 39 (omega arith) (omega arith), tt),
+          ),
+        ),
+      )
 
   of-written : (left : ℕ) (text : List ℕ) → AllByRecursion P text → AllByRecursion P (written_from left text)
   of-written left [] all = tt

@@ -25,7 +25,11 @@ fn byte_at(text: &[u8], place: usize) -> u8
 fn after(text: &[u8], size: usize) -> &[u8]
     ensures { result.now ≡ drop size text.now }
 {
-    if size <= text.len() { &text[size..] } else { &[] }
+    if size <= text.len() {
+        &text[size..]
+    } else {
+        &[]
+    }
 }
 
 // Whether a digit is at a place of a text.
@@ -112,11 +116,7 @@ fn size_by(constant: Option<Constant>, text: &[u8]) -> usize
 }
 
 // Appends what is written of this piece.
-fn push_piece(
-    out: &mut Vec<u8>,
-    constant: Option<Constant>,
-    text: &[u8],
-) -> Result<(), AllocError>
+fn push_piece(out: &mut Vec<u8>, constant: Option<Constant>, text: &[u8]) -> Result<(), AllocError>
     ensures { OnOk result (out.new.items ≡ out.old.items ++ spec.text_by constant text.now) }
 {
     match constant {
