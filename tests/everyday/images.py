@@ -1,6 +1,5 @@
 """What a compiled entry says (term(5)), for the comparison of two of them."""
 
-import re
 import struct
 
 # the causes that docs/COMPARED.md names
@@ -68,17 +67,12 @@ class Image:
 
 # the index of acs_chars among the strings
 ACS_CHARS = ("string", 146)
-# a constant of a parameter string as a character
-CHARACTER = re.compile(rb"%'(.)'", re.S)
 
 
 def plain(key, value):
-    """A value as it is compared: constants as numbers, and the pairs of acs_chars in order. ncurses's
-    tic writes constants as characters, and its infocmp lists the pairs in order."""
+    """A value as it is compared: the pairs of acs_chars in order, in which ncurses's infocmp lists them."""
     if key == ACS_CHARS:
         return sorted(value[at:at + 2] for at in range(0, len(value), 2))
-    if isinstance(value, bytes):
-        return CHARACTER.sub(lambda found: b"%%{%d}" % found[1][0], value)
     return value
 
 

@@ -1,4 +1,5 @@
 -- Lemmas of this crate.
 pub mod Listed
 pub mod Names
+pub mod Spelled
 pub mod WrittenFiles

@@ -31,7 +31,7 @@ use Rattle.user_items.specs.Parsing.{user_reading_of_text}
 use Rattle.user_items.specs.Reading.{UserBlock}
 use Rattle.user_extension.specs.Extension.{entry, entry_limit}
 use Rattle.user_extension.specs.Laws.{EntriesAreRead, as_read}
-use Rattle.user_extension.specs.Reading.{rows_after, said}
+use Rattle.user_extension.specs.Reading.{ReadRow, rows_after, said}
 use Rattle.user_extension.specs.UserDefined.{Row}
 use Rattle.user_listing.specs.Entries.{Extended}
 use Rattle.user_listing.specs.Listing.{extended_listing, listed_kind}
@@ -49,6 +49,8 @@ use Rattle.user_relisting.specs.ReadingBack.{AreOfSource, ListingsSayTheTables}
 use Rattle.user_relisting.proofs.Telling.{has-listing}
 use Rattle.user_recompiling.specs.Entries.{IsEntry}
 use Rattle.user_recompiling.specs.Shown.{EntriesAreShown, IsAmong, IsShown, IsShownFrom, ShownComeBack}
+use Rattle.everyday_constants.specs.Entries.{IsWithCharacters}
+use Rattle.everyday_constants.specs.Laws.{IsSoundEntry}
 use Rattle.everyday_graphics.specs.Entries as drawn
 use Rattle.everyday_graphics.specs.Entries.{IsDrawnState}
 use Rattle.everyday_graphics.specs.Graphics.{acsc, drawn_values, lacks_acsc, vt100_acsc, with_acsc}
@@ -65,6 +67,7 @@ use Rattle.everyday_names.proofs.Folded.{IsField, read-with_blanks, user-with_bl
 use Rattle.everyday_tic.specs.Named.{named_state}
 use Rattle.everyday_recompiling.specs.WrittenFiles.{IsEntryFile, IsShownOf, ListedFilesComeBack, WrittenFilesCompileBack, shown_as}
 use Rattle.everyday_recompiling.proofs.Names.{by-limit, same-bytes, whole-field as names-field}
+use Rattle.everyday_recompiling.proofs.Spelled.{IsKnown, shown_of, sound-entry, spelled-shown}
 use Rattle.everyday_recompiling.proofs.WrittenFiles.{AreNamed, files_are_read}
 
 -- ---- the values that are drawn can be listed
@@ -204,6 +207,7 @@ pub record AreKnown : Type 0 where
   pub come_back : ShownComeBack
   pub tables : ListingsSayTheTables
   pub alike : FittedBlocksReadAlike
+  pub spelled : IsKnown
 
 -- ---- blocks that are read alike
 
@@ -324,19 +328,26 @@ module _ (laws : AreKnown) (draws : Bool) (files : Option Files) (directories : 
     abbrev pub cut_shown : Extended
     cut_shown = shown_as shown (reading_of_text (fitted is.whole)).field
 
-    same : (shown.entry.names ≡ is.reads_named.field) × (shown.entry.contents ≡ is.reads.contents)
-    same = laws.one.0 file.1 shown.entry.names is.reads_named.field shown.entry.contents is.reads.contents shows.reads is.reads_named.reads
+    same : (shown.entry.names ≡ is.reads_named.field) × (shown.entry.contents ≡ is.reads_spelled.given)
+    same = laws.one.0 file.1 shown.entry.names is.reads_named.field shown.entry.contents is.reads_spelled.given shows.reads is.reads_named.reads
 
-    pub file-shown : IsShownFrom is.bytes (shown_as shown (reading_of_text (fitted is.whole)).field) is.texts
+    -- the entry before its constants are characters
+    pub sound : IsSoundEntry (reading_of_text (fitted is.whole)).field is.bytes is.reads.contents
+    sound = sound-entry laws.spelled draws is.texts is.at (fitted is.whole) is.bytes is.blocks is.stands is.is is.reads
+
+    pub file-shown : IsShownFrom is.spelled (shown_as shown (reading_of_text (fitted is.whole)).field) is.texts
     file-shown =
+        let cut = (reading_of_text (fitted is.whole)).field in
+        let plain = shown_of cut is.reads.contents (rows_after is.bytes) in
+        let old : IsShownFrom is.bytes plain is.texts =
         shown-there laws.entries laws.one laws.well laws.read laws.determined laws.user_defined laws.are_shown draws is.texts is.at (fitted is.whole) is.bytes
-        (shown_as shown (reading_of_text (fitted is.whole)).field) is.blocks is.stands
-        (drawn-entry draws OwnFirst is.texts (fitted is.whole) is.bytes is.is)
-        (record {
-          of_bytes = shows.of_bytes;
-          reads = subst (λ (t : Contents). Reads is.bytes (reading_of_text (fitted is.whole)).field t) (sym same.1) is.reads.reads;
-          rows = shows.rows ∙ is.reads_named.rows;
-        })
+        plain is.blocks is.stands (drawn-entry draws OwnFirst is.texts (fitted is.whole) is.bytes is.is)
+        (record { of_bytes = shows.of_bytes; reads = is.reads.reads; rows = refl }) in
+        let new = spelled-shown laws.one is.texts is.bytes cut is.reads.contents old is.reads.reads is.spelled is.with_characters is.reads_spelled in
+        subst (λ (t : Contents). IsShownFrom is.spelled (shown_of cut t shown.rows) is.texts) (sym same.1)
+        (subst
+        (λ (rs : List ReadRow). IsShownFrom is.spelled (shown_of cut is.reads_spelled.given rs) is.texts)
+        (sym (shows.rows ∙ is.reads_named.rows)) new)
 
     module _ (layout : Layout) where
       part : List ℕ
@@ -344,13 +355,13 @@ module _ (laws : AreKnown) (draws : Bool) (files : Option Files) (directories : 
 
       back : IsSourceOf (extended_listing (shown_as shown (reading_of_text (fitted is.whole)).field) layout)
           (extended_listing (shown_as shown (reading_of_text (fitted is.whole)).field) layout ∷ [])
-      back = (laws.come_back OwnFirst is.bytes (shown_as shown (reading_of_text (fitted is.whole)).field) layout [] file-shown.is).0
+      back = (laws.come_back OwnFirst is.spelled (shown_as shown (reading_of_text (fitted is.whole)).field) layout [] file-shown.is).0
 
       one : OneBlock (extended_listing (shown_as shown (reading_of_text (fitted is.whole)).field) layout)
       one = All-head OneBlock (extended_listing (shown_as shown (reading_of_text (fitted is.whole)).field) layout) [] back.single
 
       pub listing-of : IsListingOf (extended_listing shown layout) (extended_listing (shown_as shown (reading_of_text (fitted is.whole)).field) layout) file.1
-          is.bytes
+          is.spelled
       listing-of = by (long_field is.whole) refl
         where
           cut : List ℕ
@@ -366,34 +377,34 @@ module _ (laws : AreKnown) (draws : Bool) (files : Option Files) (directories : 
               ≡ (reading_of_text (fitted is.whole)).field ++ 44 ∷ behind shown layout
           of_part = split-listing (shown_as shown (reading_of_text (fitted is.whole)).field) layout
 
-          kept : file.1 ≡ is.bytes
-              → IsListingOf (extended_listing shown layout) (extended_listing (shown_as shown (reading_of_text (fitted is.whole)).field) layout) file.1 is.bytes
+          kept : file.1 ≡ is.spelled
+              → IsListingOf (extended_listing shown layout) (extended_listing (shown_as shown (reading_of_text (fitted is.whole)).field) layout) file.1 is.spelled
           kept equal =
               let names : shown.entry.names ≡ (reading_of_text (fitted is.whole)).field =
-              (laws.one.0 is.bytes shown.entry.names (reading_of_text (fitted is.whole)).field shown.entry.contents is.reads.contents
-              (subst (λ (b : List ℕ). Reads b shown.entry.names shown.entry.contents) equal shows.reads) is.reads.reads).0 in
+              (laws.one.0 is.spelled shown.entry.names (reading_of_text (fitted is.whole)).field shown.entry.contents is.reads_spelled.given
+              (subst (λ (b : List ℕ). Reads b shown.entry.names shown.entry.contents) equal shows.reads) is.reads_spelled.reads).0 in
               let of_listing : extended_listing shown layout ≡ (reading_of_text (fitted is.whole)).field ++ 44 ∷ behind shown layout =
               split-listing shown layout ∙ ap (λ (n : List ℕ). n ++ 44 ∷ behind shown layout) names in
               short-listing (reading_of_text (fitted is.whole)).field (behind shown layout) (extended_listing shown layout)
-              (extended_listing (shown_as shown (reading_of_text (fitted is.whole)).field) layout) file.1 is.bytes
+              (extended_listing (shown_as shown (reading_of_text (fitted is.whole)).field) layout) file.1 is.spelled
               (no-comma (reading_of_text (fitted is.whole)).field listable.no_comma) listable.short of_listing (of_part ∙ sym of_listing) one equal
 
           by : (found : Option (List ℕ)) → long_field is.whole ≡ found
-              → IsListingOf (extended_listing shown layout) (extended_listing (shown_as shown (reading_of_text (fitted is.whole)).field) layout) file.1 is.bytes
-          by None e = kept (same-bytes file.1 is.bytes (is.named ∙ ap (λ (f : Option (List ℕ)). named_state f (written is.bytes)) e))
+              → IsListingOf (extended_listing shown layout) (extended_listing (shown_as shown (reading_of_text (fitted is.whole)).field) layout) file.1 is.spelled
+          by None e = kept (same-bytes file.1 is.spelled (is.named ∙ ap (λ (f : Option (List ℕ)). named_state f (written is.spelled)) e))
           by (Some field) e =
               let h = has-long is.whole field e in
               let whole : field ≡ (reading_of_text is.whole).field = names-field laws.alike is.whole field is.single h in
-              let named : written file.1 ≡ named_state (Some field) (written is.bytes) =
-              is.named ∙ ap (λ (f : Option (List ℕ)). named_state f (written is.bytes)) e in
-              elim (by-limit field is.bytes file.1 named) [
+              let named : written file.1 ≡ named_state (Some field) (written is.spelled) =
+              is.named ∙ ap (λ (f : Option (List ℕ)). named_state f (written is.spelled)) e in
+              elim (by-limit field is.spelled file.1 named) [
                 | inr over ↦ kept over.0
                 | inl within ↦
                     let names : is.reads_named.field ≡ field = elim is.reads_named.chosen [
                       | inl chosen ↦ chosen ∙ sym whole
                       | inr over ↦
                           let past = over.1 in
-                          let size = ap (λ (f : List ℕ). length (with_names f is.bytes)) whole in
+                          let size = ap (λ (f : List ℕ). length (with_names f is.spelled)) whole in
                           let most = within.1 in
                           absurd (omega (arith, past, size, most))
                     ] in
@@ -402,7 +413,7 @@ module _ (laws : AreKnown) (draws : Bool) (files : Option Files) (directories : 
                     let cut_is : (reading_of_text (fitted is.whole)).field ≡ take 127 field =
                     (laws.alike is.whole is.single h.is).part ∙ ap (take 127) (sym h.same) in
                     long-listing is.whole field (behind shown layout) (extended_listing shown layout)
-                    (extended_listing (shown_as shown (reading_of_text (fitted is.whole)).field) layout) file.1 is.bytes is.single h of_listing
+                    (extended_listing (shown_as shown (reading_of_text (fitted is.whole)).field) layout) file.1 is.spelled is.single h of_listing
                     (of_part ∙ ap (λ (n : List ℕ). n ++ 44 ∷ behind shown layout) cut_is) one named
               ]
 
@@ -413,7 +424,7 @@ files_compile_back laws draws files directories directory source before after fi
     let listing = extended_listing shown layout in
     let part = extended_listing (shown_as shown (reading_of_text (fitted is.whole)).field) layout in
     let texts = fitted listing ∷ [] in
-    let compiles = (laws.come_back OwnFirst is.bytes (shown_as shown (reading_of_text (fitted is.whole)).field) layout texts from.is).1 in
+    let compiles = (laws.come_back OwnFirst is.spelled (shown_as shown (reading_of_text (fitted is.whole)).field) layout texts from.is).1 in
     record {
       shows = from;
       source = record {
@@ -476,7 +487,7 @@ undrawn laws draws texts bytes again shown layout is not d =
 module _ (laws : AreKnown) (each : EachHasCut) (only : IsOnlyCut) (come_first : SourcesComeFirst) (draws : Bool) (files : Option Files)
     (directories : List (List ℕ)) (directory bytes image : List ℕ) (shown : Extended) (layout : Layout) (listing : List ℕ) (before after : ℕ)
     (shows : IsShown bytes shown) (of : IsListingOf listing (extended_listing shown layout) image bytes)
-    (not : (draws && lacks_acsc shown.entry.contents) ≡ false)
+    (not : (draws && lacks_acsc shown.entry.contents) ≡ false) (stay : (again : List ℕ) → IsWithCharacters bytes again → again ≡ bytes)
   where
     -- a file that comes of a listing has the bytes to which this compiles, with its names field
     comes-back : (file : FileAt) → IsEntryFile draws files directories directory listing before after file → file.1 ≡ image
@@ -490,8 +501,9 @@ module _ (laws : AreKnown) (each : EachHasCut) (only : IsOnlyCut) (come_first : 
         undrawn laws draws is.texts bytes is.bytes shown layout shows not
         (drawn-entry draws OwnFirst is.texts (extended_listing shown layout) is.bytes
         (drawn-alike is.texts (fitted listing) (extended_listing shown layout) of.alike of.user_alike draws (written is.bytes) there)) in
-        same-bytes file.1 image (is.named ∙ ap (λ (t : List ℕ). named_state (long_field t) (written is.bytes)) same
-        ∙ ap (λ (b : List ℕ). named_state (long_field listing) (written b)) entry ∙ sym of.named)
+        let spelled : is.spelled ≡ bytes = stay is.spelled (subst (λ (b : List ℕ). IsWithCharacters b is.spelled) entry is.with_characters) in
+        same-bytes file.1 image (is.named ∙ ap (λ (t : List ℕ). named_state (long_field t) (written is.spelled)) same
+        ∙ ap (λ (b : List ℕ). named_state (long_field listing) (written b)) spelled ∙ sym of.named)
 
 pub files_come_back : AreKnown → DrawnEntriesReadBack → AreNamed → SourcesComeFirst → EachHasCut → IsOnlyCut → ListedFilesComeBack
 files_come_back laws known names come_first each only draws files directories directory source before after file shown layout is shows asked there places name
@@ -500,6 +512,10 @@ files_come_back laws known names come_first each only draws files directories di
     let of = listing-of laws draws files directories directory source before after file shown is shows layout in
     let listing = extended_listing shown layout in
     All-weaker (IsEntryFile asked.draws there places asked.directory listing start end) (λ (again : FileAt). again.1 ≡ file.1)
-    (comes-back laws each only come_first asked.draws there places asked.directory is.bytes file.1
-    (shown_as shown (reading_of_text (fitted is.whole)).field) layout listing start end from.is of not) made.files
+    (comes-back laws each only come_first asked.draws there places asked.directory is.spelled file.1
+    (shown_as shown (reading_of_text (fitted is.whole)).field) layout listing start end from.is of not
+    (λ again next.
+    laws.spelled.stay (reading_of_text (fitted is.whole)).field is.bytes is.spelled again is.reads.contents
+    (sound laws draws files directories directory source before after file shown is shows) is.with_characters next))
+    made.files
     (files_are_read known names come_first asked there places name listing start end made user comes)

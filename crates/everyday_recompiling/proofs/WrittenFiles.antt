@@ -1,12 +1,13 @@
 -- The files that `ti-tic -x` writes are those of blocks, and are read as what these say.
 use Rattle.std.proofs.Common.{◌≡◌, ◌+◌, ◌<◌, ◌≤◌, inl, inr, ℕ, zero, suc, Bool, true, false, cond, List, [], ◌∷◌, ◌++◌, map, length, get_or, All, Contains}
 use Rattle.std.proofs.Common.{Option, None, Some, Ok, Err, option_and_then, slice_get, flat_map, option_map, sym, ap, ◌∙◌, refl, subst, arith}
-use Rattle.std.specs.List.{AllByRecursion, range_with_len}
+use Rattle.std.specs.List.{AllByRecursion, AllZip, range_with_len}
 use Rattle.std.specs.Option.{option_map_or}
 use Rattle.std.proofs.lemmas.List.Elements.{All-contains_itself, All-from_recursion, recursion_from_All}
 use Rattle.std.proofs.lemmas.Option.{same_Some, none-some, slice_get-get_or, slice_get-map}
 use Rattle.ti_source.specs.declared.parsing.Rule.TheVariants.{OwnFirst}
 use Rattle.ti_source.specs.Cutting.{OneBlock}
+use Rattle.ti_source.specs.Parsing.{reading_of_text}
 use Rattle.base_meaning.specs.Compiled.{EntryState, unresolved, oversized, written}
 use Rattle.base_meaning.specs.Owner.{readings}
 use Rattle.base_meaning.specs.OwnNames.{own_names}
@@ -18,6 +19,7 @@ use Rattle.tools_sources.specs.declared.source_error.SourceError.{SourceError}
 use Rattle.tools_sources.specs.declared.source_error.SourceError.TheVariants.{BlockTooLong, TooManyBlocks}
 use Rattle.user_kept.proofs.KeptStates.{zip_at}
 use Rattle.user_compiling.specs.Entries.{entry_in}
+use Rattle.everyday_constants.specs.Laws.{ReadsWithCharacters}
 use Rattle.everyday_graphics.specs.Entries.{AreWrittenStates, IsDrawnState, IsWrittenState}
 use Rattle.everyday_graphics.specs.ReadBack.{DrawnEntriesReadBack, DrawnReadsBack}
 use Rattle.everyday_names.specs.Fields.{fitted, long_field}
@@ -25,11 +27,13 @@ use Rattle.everyday_names.specs.Laws.{FittedBlocksReadAlike, NamedEntriesRead}
 use Rattle.everyday_names.proofs.SourceLemmas.{all-fitted}
 use Rattle.everyday_sources.specs.Selection.{is_chosen}
 use Rattle.everyday_sources.specs.Used.{ProblemSeen, PutsIn, SourcesComeFirst, TakesFound, TakesName, TakesNames, TakesUsed, missing_names}
+use Rattle.everyday_tic.specs.Characters.{AreWithCharacters, IsStateWithCharacters}
 use Rattle.everyday_tic.specs.Entries.{block_files, entry_at, first_files}
 use Rattle.everyday_tic.specs.Named.{named_states}
 use Rattle.everyday_tic.specs.Outcomes.{Asked, ComesOf, ComesOfPlain, Made, refusal_of}
 use Rattle.everyday_recompiling.specs.WrittenFiles.{IsEntryFile, WrittenFilesAreRead}
 use Rattle.everyday_recompiling.proofs.Names.{IsNamedOf, named-at, read-with_names}
+use Rattle.everyday_recompiling.proofs.Spelled.{IsSpelledOf, IsKnown, sound-entry, spelled-at}
 
 -- ---- lists
 
@@ -112,6 +116,7 @@ pick P (z ∷ zs) (suc at) x all e = pick P zs at x all.1 e
 pub record AreNamed : Type 0 where
   pub alike : FittedBlocksReadAlike
   pub names : NamedEntriesRead
+  pub known : IsKnown
 
 module _ (known : DrawnEntriesReadBack) (laws : AreNamed) (draws : Bool) (files : Option Files) (directories : List (List ℕ)) (directory source : List ℕ)
     (before after : ℕ)
@@ -126,98 +131,112 @@ module _ (known : DrawnEntriesReadBack) (laws : AreNamed) (draws : Bool) (files 
         (used : TakesUsed OwnFirst true files directories (map fitted (source_texts source)) before after texts problems)
         (singles : AllByRecursion OneBlock (source_texts source)) (blocks : All OneBlock texts) (others : List (List ℕ))
         (first : texts ≡ map fitted (source_texts source) ++ others) (drawn : List EntryState) (are : AreWrittenStates OwnFirst true draws texts drawn)
+        (spelled : List EntryState)
       where
         abbrev given : List EntryState
-        given = named_states (map long_field (source_texts source)) drawn
+        given = named_states (map long_field (source_texts source)) spelled
 
-        -- those of a block, one for each name that it owns
-        named : (at : ℕ) (image : List ℕ) → at < count → slice_get given at ≡ Some (written image)
-            → AllByRecursion IsFile (files_for directory (own_names (readings texts) at (names_at texts at)) image)
-        named at image within state =
-            of-each IsFile (λ name. (path_of directory name, image)) names
-            (each-named names (recursion_from_All (Contains names) names (All-contains_itself names)))
-          where
-            names : List (List ℕ)
-            names = own_names (readings texts) at (names_at texts at)
+        module _ (are_spelled : AllZip IsStateWithCharacters drawn spelled) where
+          -- those of a block, one for each name that it owns
+          named : (at : ℕ) (image : List ℕ) → at < count → slice_get given at ≡ Some (written image)
+              → AllByRecursion IsFile (files_for directory (own_names (readings texts) at (names_at texts at)) image)
+          named at image within state =
+              of-each IsFile (λ name. (path_of directory name, image)) names
+              (each-named names (recursion_from_All (Contains names) names (All-contains_itself names)))
+            where
+              names : List (List ℕ)
+              names = own_names (readings texts) at (names_at texts at)
 
-            low : at < length (source_texts source)
-            low = subst (λ (n : ℕ). at < n) (map-length fitted (source_texts source)) within
+              low : at < length (source_texts source)
+              low = subst (λ (n : ℕ). at < n) (map-length fitted (source_texts source)) within
 
-            whole : List ℕ
-            whole = get_or (source_texts source) at []
+              whole : List ℕ
+              whole = get_or (source_texts source) at []
 
-            there : slice_get (source_texts source) at ≡ Some (get_or (source_texts source) at [])
-            there = slice_get-get_or (source_texts source) at [] low
+              there : slice_get (source_texts source) at ≡ Some (get_or (source_texts source) at [])
+              there = slice_get-get_or (source_texts source) at [] low
 
-            single : OneBlock (get_or (source_texts source) at [])
-            single = pick OneBlock (source_texts source) at (get_or (source_texts source) at []) singles there
+              single : OneBlock (get_or (source_texts source) at [])
+              single = pick OneBlock (source_texts source) at (get_or (source_texts source) at []) singles there
 
-            stands : slice_get texts at ≡ Some (fitted (get_or (source_texts source) at []))
-            stands = ap (λ (ts : List (List ℕ)). slice_get ts at) first
-                ∙ get-front (map fitted (source_texts source)) others at (fitted (get_or (source_texts source) at []))
-                (slice_get-map fitted (source_texts source) at ∙ ap (option_map fitted) there)
+              stands : slice_get texts at ≡ Some (fitted (get_or (source_texts source) at []))
+              stands = ap (λ (ts : List (List ℕ)). slice_get ts at) first
+                  ∙ get-front (map fitted (source_texts source)) others at (fitted (get_or (source_texts source) at []))
+                  (slice_get-map fitted (source_texts source) at ∙ ap (option_map fitted) there)
 
-            field : slice_get (map long_field (source_texts source)) at ≡ Some (long_field (get_or (source_texts source) at []))
-            field = slice_get-map long_field (source_texts source) at ∙ ap (option_map long_field) there
+              field : slice_get (map long_field (source_texts source)) at ≡ Some (long_field (get_or (source_texts source) at []))
+              field = slice_get-map long_field (source_texts source) at ∙ ap (option_map long_field) there
 
-            found : (s : EntryState) × (slice_get drawn at ≡ Some s) × IsNamedOf (long_field (get_or (source_texts source) at [])) image s
-            found = named-at (map long_field (source_texts source)) drawn at (long_field (get_or (source_texts source) at [])) image field state
+              found : (s : EntryState) × (slice_get spelled at ≡ Some s) × IsNamedOf (long_field (get_or (source_texts source) at [])) image s
+              found = named-at (map long_field (source_texts source)) spelled at (long_field (get_or (source_texts source) at [])) image field state
 
-            is : IsDrawnState draws OwnFirst texts (fitted (get_or (source_texts source) at [])) (written found.2.bytes)
-            is = zip_at (IsWrittenState OwnFirst true draws texts) texts drawn at (fitted (get_or (source_texts source) at [])) (written found.2.bytes) are stands
-                (found.1 ∙ ap (λ (s : EntryState). Some s) found.2.is)
+              earlier : IsSpelledOf drawn at found.2.bytes
+              earlier = spelled-at drawn spelled at found.2.bytes are_spelled (found.1 ∙ ap (λ (s : EntryState). Some s) found.2.is)
 
-            reads : DrawnReadsBack draws OwnFirst texts at (fitted (get_or (source_texts source) at [])) found.2.bytes
-            reads = known draws OwnFirst texts at (fitted (get_or (source_texts source) at [])) found.2.bytes blocks stands is
+              is : IsDrawnState draws OwnFirst texts (fitted (get_or (source_texts source) at [])) (written earlier.bytes)
+              is = zip_at (IsWrittenState OwnFirst true draws texts) texts drawn at (fitted (get_or (source_texts source) at [])) (written earlier.bytes) are stands
+                  earlier.there
 
-            each-named : (ns : List (List ℕ)) → AllByRecursion (Contains names) ns → AllByRecursion (λ (name : List ℕ). IsFile (path_of directory name, image)) ns
-            each-named [] has = tt
-            each-named (name ∷ ns) has = (
-              record {
-                texts = texts;
-                problems = problems;
-                used = used;
-                blocks = blocks;
-                at = at;
-                own = low;
-                whole = get_or (source_texts source) at [];
-                there = there;
-                single = single;
-                stands = stands;
-                bytes = found.2.bytes;
-                is = is;
-                named = found.2.named;
-                name = name;
-                owned = has.0;
-                path = refl;
-                reads = reads;
-                reads_named = read-with_names laws.alike laws.names (get_or (source_texts source) at []) found.2.bytes image reads.contents single found.2.named
-                    reads.reads reads.ends_well;
-              },
-              each-named ns has.1,
-            )
+              reads : DrawnReadsBack draws OwnFirst texts at (fitted (get_or (source_texts source) at [])) earlier.bytes
+              reads = known draws OwnFirst texts at (fitted (get_or (source_texts source) at [])) earlier.bytes blocks stands is
 
-        -- those of a block, none if it is not chosen or has no entry
-        of-block : (asked : Option (List ℕ)) (at : ℕ) → at < count → AllByRecursion IsFile (block_files directory asked texts given at)
-        of-block asked at within = by_choice (is_chosen asked (names_at texts at)) (entry_at given at) refl
-          where
-            by_choice : (chosen : Bool) (image : Option (List ℕ)) → entry_at given at ≡ image
-                → AllByRecursion IsFile (cond chosen (option_map_or (entry_files directory texts at) image []) [])
-            by_choice false image is = tt
-            by_choice true None is = tt
-            by_choice true (Some image) is = named at image within (was-written given at (slice_get given at) image refl is)
+              reads_spelled : ReadsWithCharacters (reading_of_text (fitted (get_or (source_texts source) at []))).field earlier.bytes found.2.bytes reads.contents
+              reads_spelled =
+                  laws.known.characters (reading_of_text (fitted (get_or (source_texts source) at []))).field earlier.bytes found.2.bytes reads.contents
+                  (sound-entry laws.known draws texts at (fitted (get_or (source_texts source) at [])) earlier.bytes blocks stands is reads)
+                  earlier.with_characters
 
-        -- those of the blocks of the source
-        of-blocks : (asked : Option (List ℕ)) → AllByRecursion IsFile (first_files directory asked texts given count)
-        of-blocks asked =
-            each-of-each IsFile (λ at. at < count) (block_files directory asked texts given) (range_with_len 0 count) (of-block asked)
-            (below count 0 count (omega arith))
+              each-named : (ns : List (List ℕ)) → AllByRecursion (Contains names) ns → AllByRecursion (λ (name : List ℕ). IsFile (path_of directory name, image)) ns
+              each-named [] has = tt
+              each-named (name ∷ ns) has = (
+                record {
+                  texts = texts;
+                  problems = problems;
+                  used = used;
+                  blocks = blocks;
+                  at = at;
+                  own = low;
+                  whole = get_or (source_texts source) at [];
+                  there = there;
+                  single = single;
+                  stands = stands;
+                  bytes = earlier.bytes;
+                  is = is;
+                  spelled = found.2.bytes;
+                  with_characters = earlier.with_characters;
+                  named = found.2.named;
+                  name = name;
+                  owned = has.0;
+                  path = refl;
+                  reads = reads;
+                  reads_spelled = reads_spelled;
+                  reads_named = read-with_names laws.alike laws.names (get_or (source_texts source) at []) found.2.bytes image reads_spelled.given single
+                      found.2.named reads_spelled.reads reads_spelled.ends_well;
+                },
+                each-named ns has.1,
+              )
+
+          -- those of a block, none if it is not chosen or has no entry
+          of-block : (asked : Option (List ℕ)) (at : ℕ) → at < count → AllByRecursion IsFile (block_files directory asked texts given at)
+          of-block asked at within = by_choice (is_chosen asked (names_at texts at)) (entry_at given at) refl
+            where
+              by_choice : (chosen : Bool) (image : Option (List ℕ)) → entry_at given at ≡ image
+                  → AllByRecursion IsFile (cond chosen (option_map_or (entry_files directory texts at) image []) [])
+              by_choice false image is = tt
+              by_choice true None is = tt
+              by_choice true (Some image) is = named at image within (was-written given at (slice_get given at) image refl is)
+
+          -- those of the blocks of the source
+          of-blocks : (asked : Option (List ℕ)) → AllByRecursion IsFile (first_files directory asked texts given count)
+          of-blocks asked =
+              each-of-each IsFile (λ at. at < count) (block_files directory asked texts given) (range_with_len 0 count) (of-block asked)
+              (below count 0 count (omega arith))
 
         -- none if the source is only checked
-        of-source : (check : Bool) (asked : Option (List ℕ))
-            → AllByRecursion IsFile (cond check [] (first_files directory asked texts (cond check drawn given) count))
-        of-source true asked = tt
-        of-source false asked = of-blocks asked
+        of-source : (check : Bool) (asked : Option (List ℕ)) → AreWithCharacters check drawn spelled
+            → AllByRecursion IsFile (cond check [] (first_files directory asked texts (cond check spelled given) count))
+        of-source true asked are_spelled = tt
+        of-source false asked are_spelled = of-blocks are_spelled asked
 
 -- ---- what comes of a source
 
@@ -233,7 +252,7 @@ module _ (known : DrawnEntriesReadBack) (laws : AreNamed) (come_first : SourcesC
         → AreFiles asked.draws files directories asked.directory source before after made.files
     of-all texts problems made taken used (inl refused) =
         subst (λ (m : Made). AreFiles asked.draws files directories asked.directory source before after m.files) (sym refused.3) tt
-    of-all texts problems made taken used (inr (few, states, are, drawn, are_drawn, is)) =
+    of-all texts problems made taken used (inr (few, states, are, drawn, are_drawn, spelled, are_spelled, is)) =
         let singles = are-blocks (source_texts source) taken in
         let fitted_blocks : AllByRecursion OneBlock (map fitted (source_texts source)) =
         recursion_from_All OneBlock (map fitted (source_texts source))
@@ -245,7 +264,7 @@ module _ (known : DrawnEntriesReadBack) (laws : AreNamed) (come_first : SourcesC
         let there : AreWrittenStates OwnFirst true asked.draws texts drawn = subst (λ (b : Bool). AreWrittenStates OwnFirst b asked.draws texts drawn) user are_drawn in
         subst (λ (m : Made). AreFiles asked.draws files directories asked.directory source before after m.files) (sym is)
         (of-source known laws asked.draws files directories asked.directory source before after texts problems used singles
-        (All-from_recursion OneBlock texts blocks) behind.0 behind.1 drawn there asked.check asked.entries)
+        (All-from_recursion OneBlock texts blocks) behind.0 behind.1 drawn there spelled asked.check asked.entries are_spelled)
 
     of-plain : (made : Made) → ComesOfPlain asked files directories file source before after made
         → AreFiles asked.draws files directories asked.directory source before after made.files

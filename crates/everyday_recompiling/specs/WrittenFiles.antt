@@ -24,6 +24,8 @@ use Rattle.user_recompiling.specs.Entries.{CompilesTo}
 use Rattle.user_recompiling.specs.Shown.{IsShownFrom}
 use Rattle.everyday_names.specs.Entries.{with_names}
 use Rattle.everyday_names.specs.Fields.{fitted, long_field}
+use Rattle.everyday_constants.specs.Entries.{IsWithCharacters}
+use Rattle.everyday_constants.specs.Laws.{ReadsWithCharacters}
 use Rattle.everyday_graphics.specs.Entries.{IsDrawnState}
 use Rattle.everyday_graphics.specs.Graphics.{lacks_acsc}
 use Rattle.everyday_graphics.specs.ReadBack.{DrawnReadsBack}
@@ -45,8 +47,9 @@ pub record IsReadWithNames (whole bytes named : List ℕ) (contents : Contents) 
 -- a file holds the entry of a block of a source with user-defined capabilities, with the installed
 -- entries that the source uses as further blocks after its own, and is that of a name which the
 -- block owns. A names field that is too long for the profile is compiled in part; the entry is read as
--- what the block says, by the rule of `ti-tic`, with line graphics if they are drawn, and the file as
--- the same with the whole names field.
+-- what the block says, by the rule of `ti-tic`, with line graphics if they are drawn; with its
+-- constants as characters as the same, but for the strings that have them; and the file as that with
+-- the whole names field.
 pub record IsEntryFile (draws : Bool) (files : Option Files) (directories : List (List ℕ)) (directory source : List ℕ) (before after : ℕ) (file : FileAt)
     : Type 0 where
   pub texts : List (List ℕ)
@@ -61,12 +64,15 @@ pub record IsEntryFile (draws : Bool) (files : Option Files) (directories : List
   pub stands : slice_get texts at ≡ Some (fitted whole)
   pub bytes : List ℕ
   pub is : IsDrawnState draws OwnFirst texts (fitted whole) (written bytes)
-  pub named : written file.1 ≡ named_state (long_field whole) (written bytes)
+  pub spelled : List ℕ
+  pub with_characters : IsWithCharacters bytes spelled
+  pub named : written file.1 ≡ named_state (long_field whole) (written spelled)
   pub name : List ℕ
   pub owned : Contains (own_names (readings texts) at (names_at texts at)) name
   pub path : file.0 ≡ path_of directory name
   pub reads : DrawnReadsBack draws OwnFirst texts at (fitted whole) bytes
-  pub reads_named : IsReadWithNames whole bytes file.1 reads.contents
+  pub reads_spelled : ReadsWithCharacters (reading_of_text (fitted whole)).field bytes spelled reads.contents
+  pub reads_named : IsReadWithNames whole spelled file.1 reads_spelled.given
 
 -- Each file that comes of a source with `-x` is so.
 abbrev pub WrittenFilesAreRead : Type 0
@@ -87,7 +93,8 @@ abbrev pub shown_as : Extended → List ℕ → Extended
 shown_as shown field = record { entry = record { names = field; contents = shown.entry.contents }; rows = shown.rows }
 
 -- a listing compiles back to a file: the entry to which it compiles, with its names field in part, is
--- that to which the block of the file did, and with its whole names field it is the file
+-- that to which the block of the file did, with its constants as characters, and with its whole names
+-- field it is the file
 pub record CompilesBack (texts : List (List ℕ)) (listing whole bytes file : List ℕ) (shown : Extended) : Type 0 where
   pub shows : IsShownFrom bytes (shown_as shown (reading_of_text (fitted whole)).field) texts
   pub source : IsSourceOf listing (listing ∷ [])
@@ -101,7 +108,7 @@ abbrev pub WrittenFilesCompileBack : Type 0
 WrittenFilesCompileBack =
     (draws : Bool) (files : Option Files) (directories : List (List ℕ)) (directory source : List ℕ) (before after : ℕ) (file : FileAt) (shown : Extended)
     (layout : Layout) → (is : IsEntryFile draws files directories directory source before after file) → IsShownOf is.texts file.1 shown
-    → CompilesBack is.texts (extended_listing shown layout) is.whole is.bytes file.1 shown
+    → CompilesBack is.texts (extended_listing shown layout) is.whole is.spelled file.1 shown
 
 -- So each file that comes of the listing with `-x`, wherever and with whatever else is asked for,
 -- has the same bytes, if nothing is drawn of it: with `-U`, or if it does not lack `acsc`. It lacks it

@@ -4,7 +4,7 @@ ghost use Rattle.everyday_recompiling.specs.WrittenFiles.{ListedFilesComeBack, W
 /// Each file that comes of a source with user-defined capabilities holds the entry of a block of the
 /// source, and is read as what the block says by the rule of ncurses: its names field, also if that is
 /// too long for the profile, the value of each capability of the tables, with line graphics if they are
-/// drawn, and the value of each user-defined name. What is listed of it, in any layout, compiles back to
+/// drawn and with the constants of its string as characters, and the value of each user-defined name. What is listed of it, in any layout, compiles back to
 /// it, byte for byte, and each file that comes of that source has the same bytes, if the entry does not
 /// lack `acsc` or nothing is drawn.
 pub fn written_files_are_read()
@@ -17,6 +17,8 @@ pub fn written_files_are_read()
     everyday_sources::laws::sources_come_first();
     user_compiling::laws::entries_read_back();
     everyday_graphics::laws::drawn_entries_read_back();
+    everyday_constants::laws::one_with_characters();
+    everyday_constants::laws::characters_are_read();
     everyday_names::laws::fitted_blocks_read_alike();
     everyday_names::laws::named_entries_read();
     ti_layout::laws::one_reading();

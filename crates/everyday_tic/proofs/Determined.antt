@@ -11,12 +11,15 @@ use Rattle.user_values.specs.Limit.{IsOverLimitAt, distinct_after, name_count, n
 use Rattle.user_values.proofs.Naming.{distinct_after-append, distinct_after-longer}
 use Rattle.source_plain.specs.Reading.{plain_source}
 use Rattle.everyday_sources.specs.Used.{ProblemSeen, UsedEntriesAreDetermined}
+use Rattle.everyday_constants.specs.Laws.{OneWithCharacters}
 use Rattle.everyday_graphics.specs.Laws.{WrittenStatesAreDetermined}
 use Rattle.everyday_names.specs.Fields.{fitted, long_field}
 use Rattle.everyday_tic.specs.Entries.{BecomeThese}
 use Rattle.everyday_tic.specs.Laws.{OutcomesAreDetermined}
 use Rattle.everyday_tic.specs.Outcomes.{Asked, ComesOf, ComesOfBlocks, ComesOfPlain, Made, compilation, made_of, names_refusal, refusal_of, termcap_refusal, written_of}
+use Rattle.everyday_tic.specs.Characters.{AreWithCharacters}
 use Rattle.everyday_tic.specs.Termcap.{IsFirstTermcap}
+use Rattle.everyday_tic.proofs.Spelled.{one-spelled}
 
 -- ---- the block with one user-defined name too many
 
@@ -95,7 +98,9 @@ one_list determined rule false texts states others g h = g ∙ sym h
 
 -- ---- what comes of the source
 
-module _ (determined : StatesAreDetermined) (written_states_are_determined : WrittenStatesAreDetermined) (rule : Rule) (asked : Asked) (file : List ℕ) where
+module _ (determined : StatesAreDetermined) (written_states_are_determined : WrittenStatesAreDetermined) (law : OneWithCharacters) (rule : Rule) (asked : Asked)
+    (file : List ℕ)
+  where
   one_of_all : (first : ℕ) (fields : List (Option (List ℕ))) (texts : List (List ℕ)) (count : ℕ) (problems : List ProblemSeen) (one other : Made)
       → ComesOf rule asked file first fields texts count problems one → ComesOf rule asked file first fields texts count problems other → one ≡ other
   one_of_all first fields texts count problems one other (inl g) (inl h) =
@@ -103,11 +108,13 @@ module _ (determined : StatesAreDetermined) (written_states_are_determined : Wri
   one_of_all first fields texts count problems one other (inl g) (inr h) = not_few texts g.1 g.2 (h.0 g.0)
   one_of_all first fields texts count problems one other (inr g) (inl h) = not_few texts h.1 h.2 (g.0 h.0)
   one_of_all first fields texts count problems one other (inr g) (inr h) =
-      g.5
-      ∙ ap (λ states. compilation rule asked file first texts count states (written_of asked fields g.3) problems) (one_list determined rule asked.user_defined texts g.1 h.1 g.2 h.2)
-      ∙ ap (λ drawn. compilation rule asked file first texts count h.1 (written_of asked fields drawn) problems)
-      (written_states_are_determined rule asked.user_defined asked.draws texts g.3 h.3 g.4 h.4)
-      ∙ sym h.5
+      let drawn = written_states_are_determined rule asked.user_defined asked.draws texts g.3 h.3 g.4 h.4 in
+      let again = subst (λ ss. AreWithCharacters asked.check ss h.5) (sym drawn) h.6 in
+      g.7
+      ∙ ap (λ states. compilation rule asked file first texts count states (written_of asked fields g.5) problems) (one_list determined rule asked.user_defined texts g.1 h.1 g.2 h.2)
+      ∙ ap (λ spelled. compilation rule asked file first texts count h.1 (written_of asked fields spelled) problems)
+      (one-spelled law asked.check g.3 g.5 h.5 g.6 again)
+      ∙ sym h.7
 
   one_of_blocks : UsedEntriesAreDetermined → (files : Files) (directories : List (List ℕ)) (first : ℕ) (fields : List (Option (List ℕ)))
       (blocks : List (List ℕ)) (before since : ℕ)
@@ -123,7 +130,7 @@ module _ (determined : StatesAreDetermined) (written_states_are_determined : Wri
       let by_problems = subst (λ ps. ComesOf rule asked file first fields g.1 (length blocks) ps other) (sym same.1) by_texts in
       one_of_all first fields g.1 (length blocks) g.2 one other g.4 by_problems
 
-module _ (determined : StatesAreDetermined) (drawn : WrittenStatesAreDetermined) (asked : Asked) (file : List ℕ) where
+module _ (determined : StatesAreDetermined) (drawn : WrittenStatesAreDetermined) (law : OneWithCharacters) (asked : Asked) (file : List ℕ) where
   one_of_plain : SourcesHaveOneRefusal → TakenSourcesAreNotRefused → UsedEntriesAreDetermined → (files : Files) (directories : List (List ℕ))
       (source : List ℕ) (before since : ℕ) (one other : Made) → ComesOfPlain asked (Some files) directories file source before before one
       → ComesOfPlain asked (Some files) directories file source since since other → one ≡ other
@@ -134,10 +141,10 @@ module _ (determined : StatesAreDetermined) (drawn : WrittenStatesAreDetermined)
   one_of_plain refused not_refused used files directories source before since one other (inr g) (inl h) =
       absurd (not_refused source h.0 g.0 h.1)
   one_of_plain refused not_refused used files directories source before since one other (inr g) (inr h) =
-      one_of_blocks determined drawn OwnFirst asked file used files directories (first_line source) (map long_field (source_texts source))
+      one_of_blocks determined drawn law OwnFirst asked file used files directories (first_line source) (map long_field (source_texts source))
       (map fitted (source_texts source)) before since one other g.1 h.1
 
 pub outcomes_are_determined : SourcesHaveOneRefusal → TakenSourcesAreNotRefused → UsedEntriesAreDetermined → StatesAreDetermined
-    → WrittenStatesAreDetermined → OutcomesAreDetermined
-outcomes_are_determined refused not_refused used determined drawn asked files directories file source before since one other g h =
-    one_of_plain determined drawn asked file refused not_refused used files directories (plain_source source) before since (made_of one) (made_of other) g h
+    → WrittenStatesAreDetermined → OneWithCharacters → OutcomesAreDetermined
+outcomes_are_determined refused not_refused used determined drawn law asked files directories file source before since one other g h =
+    one_of_plain determined drawn law asked file refused not_refused used files directories (plain_source source) before since (made_of one) (made_of other) g h

@@ -60,7 +60,7 @@ all_over R (t ∷ ts) (s ∷ ss) [] e f each = absurd (omega (arith, f))
 all_over R (t ∷ ts) (s ∷ ss) (o ∷ os) e f each =
     (each zero t s o refl refl refl, all_over R ts ss os (omega (arith, e)) (omega (arith, f)) (λ k. each (suc k)))
 
-pushed-at : {X : Type 0} (xs : List X) (x y : X) (k : ℕ) → slice_get (xs ++ x ∷ []) k ≡ Some y
+pub pushed-at : {X : Type 0} (xs : List X) (x y : X) (k : ℕ) → slice_get (xs ++ x ∷ []) k ≡ Some y
     → (slice_get xs k ≡ Some y) ⊎ ((k ≡ length xs) × (x ≡ y))
 pushed-at [] x y zero e = inr (refl, same_Some x y e)
 pushed-at [] x y (suc k) e = absurd (none-some y e)

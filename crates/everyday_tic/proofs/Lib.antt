@@ -4,6 +4,7 @@ pub mod Determined
 pub mod Drawn
 pub mod Filing
 pub mod Running
+pub mod Spelled
 pub mod Stopping
 pub mod WholeNames
 pub mod Winning

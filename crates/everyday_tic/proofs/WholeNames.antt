@@ -10,11 +10,11 @@ use Rattle.everyday_tic.specs.inside.States.{option_flat, over, put}
 
 -- ---- what is in the place of an entry
 
-over-none : (states : List EntryState) → over states [] ≡ states
+pub over-none : (states : List EntryState) → over states [] ≡ states
 over-none [] = refl
 over-none (s ∷ ss) = refl
 
-over-at : (states : List EntryState) (others : List (Option (List ℕ))) (at : ℕ) (state : EntryState) → slice_get states at ≡ Some state
+pub over-at : (states : List EntryState) (others : List (Option (List ℕ))) (at : ℕ) (state : EntryState) → slice_get states at ≡ Some state
     → slice_get (over states others) at ≡ Some (put state (option_flat (slice_get others at)))
 over-at [] others at state e = absurd (none-some state e)
 over-at (s ∷ ss) [] at state e = e
@@ -30,13 +30,13 @@ void-put oversized None (Some f) e = refl
 void-put (written bytes) None field e = absurd (none-some bytes (sym e))
 void-put state (Some bytes) field e = absurd (none-some bytes (sym e))
 
-was-written : (state : EntryState) (bytes : List ℕ) → entry_in state ≡ Some bytes → state ≡ written bytes
+pub was-written : (state : EntryState) (bytes : List ℕ) → entry_in state ≡ Some bytes → state ≡ written bytes
 was-written unresolved bytes e = absurd (none-some bytes e)
 was-written oversized bytes e = absurd (none-some bytes e)
 was-written (written found) bytes e = ap written (same_Some found bytes e)
 
 module _ (states : List EntryState) (others : List (Option (List ℕ))) (at : ℕ) (state : EntryState) (becomes : slice_get states at ≡ Some state) where
-  entry-there : entry_at (over states others) at ≡ entry_in (put state (option_flat (slice_get others at)))
+  pub entry-there : entry_at (over states others) at ≡ entry_in (put state (option_flat (slice_get others at)))
   entry-there = ap (option_and_then entry_in) (over-at states others at state becomes)
 
   pub no-names : (field : Option (List ℕ)) → entry_at (over states others) at ≡ None

@@ -1,4 +1,5 @@
 -- The definitions that the contracts of this crate cite.
+pub mod Characters
 pub mod Entries
 pub mod Laws
 pub mod Messages

@@ -16,6 +16,7 @@ use Rattle.user_compiling.specs.Faults.{ExtendedSourceFault, extended_faults_by,
 use Rattle.user_values.specs.Limit.{IsOverLimitAt, name_count, name_limit}
 use Rattle.everyday_graphics.specs.Entries.{AreWrittenStates}
 use Rattle.everyday_names.specs.Fields.{fitted, long_field}
+use Rattle.everyday_tic.specs.Characters.{AreWithCharacters}
 use Rattle.everyday_tic.specs.Named.{named_states}
 use Rattle.everyday_tic.specs.Entries.{BecomeThese, entry_count, first_files}
 use Rattle.everyday_tic.specs.Messages.{problem_line, unknown_lines}
@@ -122,15 +123,17 @@ abbrev pub FewNames : Bool → List (List ℕ) → Type 0
 FewNames user_defined texts = user_defined ≡ true → name_count texts (length texts) ≤ name_limit
 
 -- The same of a source with the entries that it uses after it: it has one user-defined name too
--- many, or each block becomes something, and that is written with its line graphics, and with these
--- names fields of the first blocks, where they are too long for the profile.
+-- many, or each block becomes something, and that is written with its line graphics, with the
+-- constants of its strings as characters, and with these names fields of the first blocks, where they
+-- are too long for the profile.
 abbrev pub ComesOf : Rule → Asked → List ℕ → ℕ → List (Option (List ℕ)) → List (List ℕ) → ℕ → List ProblemSeen → Made → Type 0
 ComesOf rule asked file first fields texts count problems made =
     ((asked.user_defined ≡ true) × (at : ℕ) × IsOverLimitAt texts at × (made ≡ names_refusal file first texts at))
     ⊎ (FewNames asked.user_defined texts
     × (states : List EntryState) × BecomeThese rule asked.user_defined texts states
     × (drawn : List EntryState) × AreWrittenStates rule asked.user_defined asked.draws texts drawn
-    × (made ≡ compilation rule asked file first texts count states (written_of asked fields drawn) problems))
+    × (spelled : List EntryState) × AreWithCharacters asked.check drawn spelled
+    × (made ≡ compilation rule asked file first texts count states (written_of asked fields spelled) problems))
 
 -- what comes of the blocks of a source, read by a rule, the first on the line of that number, with
 -- these names fields: it is refused if one of them is termcap

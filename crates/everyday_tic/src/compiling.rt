@@ -11,6 +11,7 @@ ghost use Rattle.user_compiling.specs.Report.{IsExtendedPlaced};
 ghost use Rattle.user_values.specs.Limit.{IsOverLimitAt};
 ghost use Rattle.user_values.specs.declared.fault.ValuesError.{ValuesError};
 ghost use Rattle.user_values.specs.declared.fault.ValuesError.TheVariants.{TooManyNames};
+ghost use Rattle.everyday_tic.specs.Characters.{AreWithCharacters};
 ghost use Rattle.everyday_tic.specs.Entries.{BecomeThese, entry_count, first_files};
 ghost use Rattle.everyday_tic.specs.Messages.{unknown_lines};
 ghost use Rattle.everyday_tic.specs.Notes.{note_lines};
@@ -28,6 +29,7 @@ ghost use Rattle.base_meaning.specs.Compiled.{EntryState};
 ghost use Rattle.everyday_graphics.specs.Entries.{AreWrittenStates};
 ghost use Rattle.everyday_names.specs.Fields.{fields_seen, fitted, long_field};
 
+use crate::characters::entries_with_characters;
 use crate::drawing::drawn_entries;
 use crate::entries::{EntryFiles, entry_files};
 use crate::messages::{write_problems, write_unknowns};
@@ -435,11 +437,13 @@ fn draw_all(
     requires kept { options.now.user_defined ≡ is_some compiled }
     ensures { IfOk result (λ outcome. (drawn : List EntryState)
         × AreWrittenStates database.now.rule options.now.user_defined options.now.draws database.now.texts drawn
+        × (spelled : List EntryState) × AreWithCharacters options.now.check drawn spelled
         × (made_of outcome ≡ compilation database.now.rule (asked_of options.now) file.now first_line database.now.texts count
         (states_of database.now.rule database.now.texts (option_map (λ c. c.now) compiled.entry))
-        (written_of (asked_of options.now) (fields_seen fields.now) drawn) (map problem_seen used.problems.items))) }
+        (written_of (asked_of options.now) (fields_seen fields.now) spelled) (map problem_seen used.problems.items))) }
 {
-    let others = drawn_entries(alloc, database, compiled, options.draws)?;
+    let drawn = drawn_entries(alloc, database, compiled, options.draws)?;
+    let others = entries_with_characters(alloc, database, compiled, drawn, options.check)?;
     let written = written_entries(alloc, database, compiled, others, fields, options.check)?;
     outcome(
         alloc, file, first_line, database, count, used, compiled, &written, options,

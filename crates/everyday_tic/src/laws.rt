@@ -18,4 +18,5 @@ pub fn outcomes_are_determined()
     everyday_sources::laws::used_entries_are_determined();
     user_kept::laws::states_are_determined();
     everyday_graphics::laws::written_states_are_determined();
+    everyday_constants::laws::one_with_characters();
 }

@@ -13,6 +13,7 @@
 //! - `drawing`: the entries with line graphics that are written in the places of compiled ones
 //! - `entries`: the files of the entries
 //! - `messages`: what is reported about files and names that were asked for
+//! - `characters`: the entries with the constants of their strings as characters
 //! - `naming`: the entries with names fields that are too long for the profile
 //! - `notes`: what is noted of entries that are checked: which get the `acsc` of a VT100
 //! - `compiling`: what comes of a source (`tic`)
@@ -27,6 +28,7 @@
 //! reported about its faults.
 #![tactic(auto)]
 
+mod characters;
 mod compiling;
 mod drawing;
 mod entries;

@@ -23,8 +23,8 @@ fn name_entry(alloc: Global, bytes: &[u8], field: &[u8]) -> Result<Vec<u8>, Allo
     Vec::from_slice(alloc, bytes)
 }
 
-// The entry that is written in the place of the compiled one of the block at a position, if one is.
-fn copy_other(
+/// The entry that is written in the place of the compiled one of the block at a position, if one is.
+pub(crate) fn copy_other(
     alloc: Global,
     others: &[Option<Vec<u8>>],
     at: usize,

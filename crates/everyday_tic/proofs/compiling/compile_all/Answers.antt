@@ -25,7 +25,7 @@ returns-in-Ok c =
     let rule = c.args.database.now.rule in
     let states = states_of rule db (option_map (λ (c : Bor (List Compiled)). c.now) c.slice_of.result) in
     let are = subst (BecomeThese rule c.args.options.now.user_defined db) (ap (states_of rule db) (sym c.slice_of.ensures.items)) c.in-Ok.ensures.states in
-    IfOk-weaker c.draw_all.result _ _ (λ outcome is. inr (c.in-Ok.ensures.few, states, are, is.0, is.1, is.2)) c.draw_all.ensures
+    IfOk-weaker c.draw_all.result _ _ (λ outcome is. inr (c.in-Ok.ensures.few, states, are, is.0, is.1, is.2, is.3, is.4)) c.draw_all.ensures
 
 pub not_compiled-requires : goal.not_compiled-requires
 not_compiled-requires c = record {
