@@ -101,34 +101,34 @@ one_list determined rule false texts states others g h = g ∙ sym h
 module _ (determined : StatesAreDetermined) (written_states_are_determined : WrittenStatesAreDetermined) (law : OneWithCharacters) (rule : Rule) (asked : Asked)
     (file : List ℕ)
   where
-  one_of_all : (first : ℕ) (fields : List (Option (List ℕ))) (texts : List (List ℕ)) (count : ℕ) (problems : List ProblemSeen) (one other : Made)
-      → ComesOf rule asked file first fields texts count problems one → ComesOf rule asked file first fields texts count problems other → one ≡ other
-  one_of_all first fields texts count problems one other (inl g) (inl h) =
-      g.3 ∙ ap (names_refusal file first texts) (one_place texts g.1 h.1 g.2 h.2) ∙ sym h.3
-  one_of_all first fields texts count problems one other (inl g) (inr h) = not_few texts g.1 g.2 (h.0 g.0)
-  one_of_all first fields texts count problems one other (inr g) (inl h) = not_few texts h.1 h.2 (g.0 h.0)
-  one_of_all first fields texts count problems one other (inr g) (inr h) =
-      let drawn = written_states_are_determined rule asked.user_defined asked.draws texts g.3 h.3 g.4 h.4 in
-      let again = subst (λ ss. AreWithCharacters asked.check ss h.5) (sym drawn) h.6 in
-      g.7
-      ∙ ap (λ states. compilation rule asked file first texts count states (written_of asked fields g.5) problems) (one_list determined rule asked.user_defined texts g.1 h.1 g.2 h.2)
-      ∙ ap (λ spelled. compilation rule asked file first texts count h.1 (written_of asked fields spelled) problems)
-      (one-spelled law asked.check g.3 g.5 h.5 g.6 again)
-      ∙ sym h.7
+    one_of_all : (first : ℕ) (fields : List (Option (List ℕ))) (texts : List (List ℕ)) (count : ℕ) (problems : List ProblemSeen) (one other : Made)
+        → ComesOf rule asked file first fields texts count problems one → ComesOf rule asked file first fields texts count problems other → one ≡ other
+    one_of_all first fields texts count problems one other (inl g) (inl h) =
+        g.3 ∙ ap (names_refusal file first texts) (one_place texts g.1 h.1 g.2 h.2) ∙ sym h.3
+    one_of_all first fields texts count problems one other (inl g) (inr h) = not_few texts g.1 g.2 (h.0 g.0)
+    one_of_all first fields texts count problems one other (inr g) (inl h) = not_few texts h.1 h.2 (g.0 h.0)
+    one_of_all first fields texts count problems one other (inr g) (inr h) =
+        let drawn = written_states_are_determined rule asked.user_defined asked.draws texts g.3 h.3 g.4 h.4 in
+        let again = subst (λ ss. AreWithCharacters asked.check ss h.5) (sym drawn) h.6 in
+        g.7
+        ∙ ap (λ states. compilation rule asked file first texts count states (written_of asked fields g.5) problems) (one_list determined rule asked.user_defined texts g.1 h.1 g.2 h.2)
+        ∙ ap (λ spelled. compilation rule asked file first texts count h.1 (written_of asked fields spelled) problems)
+        (one-spelled law asked.check g.3 g.5 h.5 g.6 again)
+        ∙ sym h.7
 
-  one_of_blocks : UsedEntriesAreDetermined → (files : Files) (directories : List (List ℕ)) (first : ℕ) (fields : List (Option (List ℕ)))
-      (blocks : List (List ℕ)) (before since : ℕ)
-      (one other : Made) → ComesOfBlocks rule asked (Some files) directories file first fields blocks before before one
-      → ComesOfBlocks rule asked (Some files) directories file first fields blocks since since other → one ≡ other
-  one_of_blocks used files directories first fields blocks before since one other (inl g) (inl h) =
-      g.3 ∙ ap (termcap_refusal file first blocks) (one_termcap blocks g.0 h.0 g.1 h.1) ∙ sym h.3
-  one_of_blocks used files directories first fields blocks before since one other (inl g) (inr h) = not_termcap blocks g.0 g.1 h.0
-  one_of_blocks used files directories first fields blocks before since one other (inr g) (inl h) = not_termcap blocks h.0 h.1 g.0
-  one_of_blocks used files directories first fields blocks before since one other (inr g) (inr h) =
-      let same = used rule asked.user_defined files directories blocks before since g.1 h.1 g.2 h.2 g.3 h.3 in
-      let by_texts = subst (λ ts. ComesOf rule asked file first fields ts (length blocks) h.2 other) (sym same.0) h.4 in
-      let by_problems = subst (λ ps. ComesOf rule asked file first fields g.1 (length blocks) ps other) (sym same.1) by_texts in
-      one_of_all first fields g.1 (length blocks) g.2 one other g.4 by_problems
+    one_of_blocks : UsedEntriesAreDetermined → (files : Files) (directories : List (List ℕ)) (first : ℕ) (fields : List (Option (List ℕ)))
+        (blocks : List (List ℕ)) (before since : ℕ)
+        (one other : Made) → ComesOfBlocks rule asked (Some files) directories file first fields blocks before before one
+        → ComesOfBlocks rule asked (Some files) directories file first fields blocks since since other → one ≡ other
+    one_of_blocks used files directories first fields blocks before since one other (inl g) (inl h) =
+        g.3 ∙ ap (termcap_refusal file first blocks) (one_termcap blocks g.0 h.0 g.1 h.1) ∙ sym h.3
+    one_of_blocks used files directories first fields blocks before since one other (inl g) (inr h) = not_termcap blocks g.0 g.1 h.0
+    one_of_blocks used files directories first fields blocks before since one other (inr g) (inl h) = not_termcap blocks h.0 h.1 g.0
+    one_of_blocks used files directories first fields blocks before since one other (inr g) (inr h) =
+        let same = used rule asked.user_defined files directories blocks before since g.1 h.1 g.2 h.2 g.3 h.3 in
+        let by_texts = subst (λ ts. ComesOf rule asked file first fields ts (length blocks) h.2 other) (sym same.0) h.4 in
+        let by_problems = subst (λ ps. ComesOf rule asked file first fields g.1 (length blocks) ps other) (sym same.1) by_texts in
+        one_of_all first fields g.1 (length blocks) g.2 one other g.4 by_problems
 
 module _ (determined : StatesAreDetermined) (drawn : WrittenStatesAreDetermined) (law : OneWithCharacters) (asked : Asked) (file : List ℕ) where
   one_of_plain : SourcesHaveOneRefusal → TakenSourcesAreNotRefused → UsedEntriesAreDetermined → (files : Files) (directories : List (List ℕ))

@@ -58,10 +58,11 @@ pub all-spelled : (states : List EntryState) (others made : List (Option (List �
     → ((k : ℕ) → IsSpelled states others made k) → AllZip IsStateWithCharacters (over states others) (over states made)
 all-spelled [] others made many each = tt
 all-spelled (s ∷ ss) others [] many each = absurd (omega (arith, many))
-all-spelled (s ∷ ss) [] (m ∷ ms) many each =
-    (each zero s m refl refl,
-    subst (λ (xs : List EntryState). AllZip IsStateWithCharacters xs (over ss ms)) (over-none ss)
-    (all-spelled ss [] ms (omega (arith, many)) (λ k state other becomes there. each (suc k) state other becomes there)))
+all-spelled (s ∷ ss) [] (m ∷ ms) many each = (
+  each zero s m refl refl,
+  subst (λ (xs : List EntryState). AllZip IsStateWithCharacters xs (over ss ms)) (over-none ss)
+      (all-spelled ss [] ms (omega (arith, many)) (λ k state other becomes there. each (suc k) state other becomes there)),
+)
 all-spelled (s ∷ ss) (o ∷ os) (m ∷ ms) many each = (each zero s m refl refl, all-spelled ss os ms (omega (arith, many)) (λ k. each (suc k)))
 
 pub one-more : (states : List EntryState) (others made next : List (Option (List ℕ))) (at : ℕ) (entry : Option (List ℕ)) → length made ≡ at
