@@ -122,7 +122,7 @@ _ti_infocmp() {
         -w) ;;
         *)
             if [[ $current == -* ]]; then
-                [[ -z $everyday ]] || _ti_words -x -C -T -E -e -0 -D
+                [[ -z $everyday ]] || _ti_words -x -C -r -T -E -e -0 -D
                 _ti_options -I -d -c -n -u -1 -w -s -A -B
                 return
             fi

@@ -6,6 +6,7 @@ use Rattle.ti_text.specs.Ascii as ascii
 use Rattle.tools_commands.specs.declared.jobs.InfocmpMode.{InfocmpMode}
 use Rattle.tools_commands.specs.declared.jobs.InfocmpMode.TheVariants as mode
 use Rattle.everyday_words.specs.Requests.{InfocmpWanted}
+use Rattle.everyday_infocmp.specs.TermcapListings.{is_termcap}
 
 -- whether a byte is this one
 abbrev pub is_byte : Option ℕ → ℕ → Bool
@@ -40,9 +41,9 @@ is_source mode.List = true
 is_source mode.Relative = true
 is_source _ = false
 
--- whether source is printed on one line, which termcap's form is not
+-- whether source is printed on one line; termcap's form has its own lines
 abbrev pub is_joined : InfocmpWanted → Bool
-is_joined wanted = wanted.joined && not wanted.termcap && is_source wanted.mode
+is_joined wanted = wanted.joined && not (is_termcap wanted.user_defined wanted.termcap wanted.mode) && is_source wanted.mode
 
 -- the text as it is asked for
 abbrev pub as_asked : InfocmpWanted → List ℕ → List ℕ

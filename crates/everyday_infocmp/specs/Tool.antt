@@ -19,7 +19,7 @@ use Rattle.everyday_infocmp.specs.Listings.{extended_text}
 use Rattle.everyday_infocmp.specs.Names.{all_names}
 use Rattle.everyday_infocmp.specs.PlainListings.{plain_text}
 use Rattle.everyday_infocmp.specs.Reading.{GivesFiles, sought_names}
-use Rattle.everyday_infocmp.specs.TermcapListings.{AreTermcaps, is_termcap, width_in}
+use Rattle.everyday_infocmp.specs.TermcapListings.{AreTermcaps, is_termcap, lines_in}
 
 -- what is printed of the first entry and of others
 abbrev pub printed : Bool → InfocmpMode → Extended → List Extended → Layout → List ℕ
@@ -29,7 +29,8 @@ printed true mode first others layout = extended_text mode first others layout
 -- the text is what is printed of the first entry and of others
 abbrev pub IsPrinted : (termcap : Bool) → InfocmpWanted → Extended → List Extended → List ℕ → Type 0
 IsPrinted false wanted first others text = text ≡ printed wanted.user_defined wanted.mode first others wanted.layout
-IsPrinted true wanted first others text = AreTermcaps wanted.limited (width_in wanted.layout) (entries_in (first ∷ others)) text
+IsPrinted true wanted first others text =
+    AreTermcaps wanted.limited wanted.all (lines_in wanted.joined wanted.layout) (entries_in (first ∷ others)) text
 
 -- what comes of files that were all read: what is printed of the entries that they are, or the first
 -- that is none

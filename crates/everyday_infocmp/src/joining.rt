@@ -4,6 +4,7 @@ ghost use Rattle.everyday_infocmp.specs.Entries.{IsBadFile};
 ghost use Rattle.everyday_words.specs.Requests.{infocmp_seen};
 ghost use Rattle.everyday_infocmp.specs.Joining.{byte_at, is_at, is_break, is_joined, is_source, joined};
 
+use crate::termcap_listings::is_termcap;
 use everyday_entries::Failure;
 use everyday_words::{InfocmpMode, InfocmpRequest};
 use std::alloc::{AllocError, Global};
@@ -85,5 +86,7 @@ fn is_source(mode: InfocmpMode) -> bool
 pub fn is_joined(request: &InfocmpRequest) -> bool
     ensures { result ≡ is_joined (infocmp_seen request.now) }
 {
-    request.joined && !request.termcap && is_source(request.mode)
+    request.joined
+        && !is_termcap(request.user_defined, request.termcap, request.mode)
+        && is_source(request.mode)
 }

@@ -76,7 +76,14 @@ fn termcap_print(
     let Some((_first, _others)) = views.split_first() else {
         return Err(Failure::Stopped(ToolError::Memory));
     };
-    match termcaps(alloc, &views, request.limited, &request.layout) {
+    match termcaps(
+        alloc,
+        &views,
+        request.limited,
+        request.all,
+        request.joined,
+        &request.layout,
+    ) {
         Ok(text) => Ok(text),
         Err(_) => Err(Failure::Stopped(ToolError::Memory)),
     }

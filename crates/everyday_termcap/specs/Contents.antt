@@ -78,6 +78,12 @@ only_reset table =
     or_else (text_said table (codes "rs"))
     (if is_there (text_said table (codes "r1")) || is_there (text_said table (codes "r3")) then None else text_said table (codes "r2"))
 
+-- `rs2` is left where `rs` did not take it
+abbrev pub second_reset : Contents → Option (List ℕ)
+second_reset table =
+    if is_there (text_said table (codes "rs")) || (is_there (text_said table (codes "r1")) || is_there (text_said table (codes "r3")))
+    then text_said table (codes "r2") else None
+
 -- `i3` is left where `i2` did not take it, and where it is not the reset
 abbrev pub third_start : Contents → Option (List ℕ)
 third_start table =
@@ -101,7 +107,8 @@ is_lost_key keys code =
 abbrev pub is_left_out : Kept → List ℕ → Bool
 is_left_out kept code =
     is_lost_key kept.keys code || ((bytes_eq code (codes "sa") && not kept.graphics)
-    || ((bytes_eq code (codes "as") || bytes_eq code (codes "ae")) && not kept.sets))
+    || (((bytes_eq code (codes "as") || bytes_eq code (codes "ae")) && not kept.sets)
+    || (bytes_eq code (codes "ac") && not kept.characters)))
 
 -- what an entry has by the code of a string, given its `me`
 abbrev pub text_shown : Contents → Kept → (plain : Option (List ℕ)) → List ℕ → Option (List ℕ)
@@ -111,5 +118,6 @@ text_shown table kept plain code =
     else (if bytes_eq code (codes "i2") then second_start table
     else (if bytes_eq code (codes "i3") then third_start table
     else (if bytes_eq code (codes "rs") then only_reset table
+    else (if bytes_eq code (codes "r2") then second_reset table
     else (if bytes_eq code (codes "im") || bytes_eq code (codes "ei") then inserting table code
-    else text_said table code)))))
+    else text_said table code))))))

@@ -1,5 +1,5 @@
--- The items of an entry in termcap's form, and their lines (termcap(5); infocmp(1), -C, -1 and -w).
-use Rattle.std.specs.Prelude.{ℕ, ◌+◌, ◌==◌, nat_le, Bool, if◌then◌else◌, List, [], ◌∷◌, ◌++◌, length, map, codes, Option, Some, None}
+-- The items of an entry in termcap's form, and their lines (termcap(5); infocmp(1), -C, -0, -1 and -w).
+use Rattle.std.specs.Prelude.{ℕ, ◌+◌, ◌==◌, nat_le, Bool, false, if◌then◌else◌, List, [], ◌∷◌, ◌++◌, length, map, codes, Option, Some, None}
 use Rattle.std.specs.List.{flat_map}
 use Rattle.std.specs.Fmt.{decimal}
 use Rattle.ti_text.specs.Ascii as ascii
@@ -8,6 +8,7 @@ use Rattle.everyday_termcap.specs.Contents.{flag_shown, number_shown, text_shown
 use Rattle.everyday_termcap.specs.Lists.{flag_codes, has_parameters, number_codes, text_codes}
 use Rattle.everyday_converting.specs.Strings.{source_text, termcap_text}
 use Rattle.everyday_termcap.specs.declared.contents.Kept.{Kept}
+use Rattle.everyday_termcap.specs.declared.items.Lines.{Lines}
 
 -- ---- items, without the colon that ends them
 
@@ -54,20 +55,29 @@ text_items table kept plain list =
 
 -- ---- lines
 
--- the columns that are taken after an item, if it is on the line that has begun; a tab takes 8
+-- whether an item is on the line of which so many columns are taken, if one has begun
+abbrev pub fits : ℕ → Option ℕ → List ℕ → Bool
+fits width None item = false
+fits width (Some taken) item = nat_le (taken + 1 + length item) width
+
+-- the columns that are taken after an item; a tab takes 8
 abbrev pub column_after : ℕ → Option ℕ → List ℕ → ℕ
 column_after width None item = 8 + length item
 column_after width (Some taken) item = if nat_le (taken + 1 + length item) width then taken + length item else 8 + length item
 
--- how a line ends and another begins, if the item is not on the line that has begun
-abbrev pub break_before : ℕ → Option ℕ → List ℕ → List ℕ
-break_before width None item = codes "\\\n\t:"
-break_before width (Some taken) item = if nat_le (taken + 1 + length item) width then [] else codes "\\\n\t:"
+-- how a line ends and another begins, unless all items are on one
+abbrev pub line_break : Lines → List ℕ
+line_break form = if form.joined then [] else codes "\\\n\t:"
+
+-- the same before an item that is not on the line that has begun
+abbrev pub break_before : Lines → Option ℕ → List ℕ → List ℕ
+break_before form line item = if fits form.width line item then [] else line_break form
 
 -- the items of a kind, of which the first begins a line, when so many columns are taken
-abbrev pub lines : ℕ → Option ℕ → List (List ℕ) → List ℕ
-lines width line [] = []
-lines width line (item ∷ items) = break_before width line item ++ (item ++ (ascii.colon ∷ lines width (Some (column_after width line item)) items))
+abbrev pub lines : Lines → Option ℕ → List (List ℕ) → List ℕ
+lines form line [] = []
+lines form line (item ∷ items) =
+    break_before form line item ++ (item ++ (ascii.colon ∷ lines form (Some (column_after form.width line item)) items))
 
 -- ---- an entry
 
@@ -76,8 +86,8 @@ abbrev pub header : List ℕ → List ℕ
 header names = map (λ x. if x == ascii.colon then ascii.equals else x) names
 
 -- an entry, without the newline at its end
-unfoldable pub entry_text : List ℕ → Contents → Kept → Option (List ℕ) → ℕ → List ℕ
-entry_text names table kept plain width =
-    (((header names ++ codes ":") ++ lines width None (flag_items table flag_codes))
-    ++ lines width None (number_items table number_codes))
-    ++ lines width None (text_items table kept plain text_codes)
+unfoldable pub entry_text : List ℕ → Contents → Kept → Option (List ℕ) → Lines → List ℕ
+entry_text names table kept plain form =
+    (((header names ++ codes ":") ++ lines form None (flag_items table (flag_codes kept.all)))
+    ++ lines form None (number_items table (number_codes kept.all)))
+    ++ lines form None (text_items table kept plain (text_codes kept.all))

@@ -12,17 +12,20 @@ use Rattle.ti_layout.specs.View.{names_of, view_contents}
 use Rattle.everyday_termcap.specs.Contents.{is_there, text_said}
 use Rattle.everyday_termcap.specs.Items.{entry_text}
 use Rattle.everyday_termcap.specs.declared.contents.Kept.{Kept}
+use Rattle.everyday_termcap.specs.declared.items.Lines.{Lines}
 use Rattle.everyday_termcap.specs.declared.limits.Remark.{Remark}
 use Rattle.everyday_termcap.specs.declared.limits.Remark.TheVariants.{Untranslatable, Graphics, Consistency, Characters, TerminfoOnly, Keys, WarningFront, WarningEnd}
 use Rattle.everyday_termcap.specs.declared.limits.Source.{Source as Lent}
 
--- an entry, its `me` with its alternate character set and without, and the width of its lines
+-- an entry, its `me` with its alternate character set and without, whether all that has a code is
+-- written, or what termcap has, and its lines
 pub record Source : Type 0 where
   pub names : List ℕ
   pub table : Contents
   pub with_sets : Option (List ℕ)
   pub without_sets : Option (List ℕ)
-  pub width : ℕ
+  pub all : Bool
+  pub form : Lines
 
 -- the same of one in memory
 abbrev pub source_seen : Lent → Source
@@ -31,12 +34,13 @@ source_seen s = record {
   table = view_contents s.view;
   with_sets = option_copied s.with_sets;
   without_sets = option_copied s.without_sets;
-  width = s.width;
+  all = s.all;
+  form = s.form;
 }
 
 -- the entry with what is kept of it
 unfoldable pub shown : Source → Kept → List ℕ
-shown s kept = entry_text s.names s.table kept (if kept.sets then s.with_sets else s.without_sets) s.width
+shown s kept = entry_text s.names s.table kept (if kept.sets then s.with_sets else s.without_sets) s.form
 
 -- whether a text is short enough
 abbrev pub is_fit : List ℕ → Bool
@@ -44,12 +48,13 @@ is_fit text = nat_le (length text) 1023
 
 -- ---- what is kept
 
-abbrev pub all_kept : Kept
-all_kept = record { untranslatable = true; graphics = true; sets = true; keys = 10 }
+abbrev pub all_kept : (all : Bool) → Kept
+all_kept all = record { all = all; untranslatable = true; graphics = true; sets = true; characters = true; keys = 10 }
 
 -- of an entry that is too long
-abbrev pub kept_in_short : (graphics sets : Bool) (keys : ℕ) → Kept
-kept_in_short graphics sets keys = record { untranslatable = false; graphics = graphics; sets = sets; keys = keys }
+abbrev pub kept_in_short : (all graphics sets characters : Bool) (keys : ℕ) → Kept
+kept_in_short all graphics sets characters keys =
+    record { all = all; untranslatable = false; graphics = graphics; sets = sets; characters = characters; keys = keys }
 
 -- a line-drawing character is on each of these
 abbrev pub is_line : ℕ → Bool
@@ -112,38 +117,44 @@ warning text = if is_fit text then [] else (remark_text WarningFront ++ decimal 
 
 -- ---- what is written
 
--- too long without its graphics and sets too: function keys are left out
+-- too long without what only terminfo has too: function keys are left out
 unfoldable pub without_keys : Source → List ℕ → List ℕ
 without_keys s text =
-    let last = shown s (kept_in_short false (has_sets s.table) (first_lost s.table 10 (length text - 1023))) in
-    ((remark_text TerminfoOnly ++ remark_if (has_keys s.table 10) Keys) ++ warning last) ++ last
+    let last = shown s (kept_in_short false false (has_sets s.table) false (first_lost s.table 10 (length text - 1023))) in
+    (remark_if (has_keys s.table 10) Keys ++ warning last) ++ last
 
--- too long without its graphics: its sets are left out
+-- too long without its graphics and sets too: what only terminfo has is left out
+unfoldable pub without_others : Source → List ℕ
+without_others s =
+    let text = shown s (kept_in_short false false (has_sets s.table) false 10) in
+    remark_text TerminfoOnly ++ (if is_fit text then text else without_keys s text)
+
+-- too long without its graphics: its characters are left out, and its sets
 unfoldable pub without_sets : Source → List ℕ
 without_sets s =
     let sets = has_sets s.table in
-    let text = shown s (kept_in_short false sets 10) in
+    let text = shown s (kept_in_short s.all false sets false 10) in
     (remark_if (not sets) Consistency ++ remark_if (is_there (text_said s.table (codes "ac"))) Characters)
-    ++ (if is_fit text then text else without_keys s text)
+    ++ (if is_fit text then text else without_others s)
 
 -- too long without what termcap has no form for
 unfoldable pub without_graphics : Source → List ℕ
 without_graphics s =
-    let text = shown s (kept_in_short false true 10) in
+    let text = shown s (kept_in_short s.all false true true 10) in
     remark_if (is_there (text_said s.table (codes "sa"))) Graphics ++ (if is_fit text then text else without_sets s)
 
 -- too long as it is
 unfoldable pub shortened : Source → List ℕ
 shortened s =
-    let text = shown s (kept_in_short true true 10) in
+    let text = shown s (kept_in_short s.all true true true 10) in
     remark_text Untranslatable ++ (if is_fit text then text else without_graphics s)
 
--- short enough, or of any length
+-- short enough, or of any length: it keeps its sets if its characters are listed
 unfoldable pub as_it_is : Source → List ℕ
 as_it_is s =
-    let sets = has_sets s.table in
-    remark_if (not sets) Consistency ++ shown s (record all_kept { sets = sets })
+    let sets = s.all || has_sets s.table in
+    remark_if (not sets) Consistency ++ shown s (record (all_kept s.all) { sets = sets })
 
 -- an entry, with its comments, without the newline at its end
 unfoldable pub limited_text : Bool → Source → List ℕ
-limited_text limited s = if limited && not (is_fit (shown s all_kept)) then shortened s else as_it_is s
+limited_text limited s = if limited && not (is_fit (shown s (all_kept s.all))) then shortened s else as_it_is s

@@ -4,7 +4,7 @@ ghost use Rattle.std.specs.Option.{option_copied};
 ghost use Rattle.ti_layout.specs.Values.{content_seen};
 ghost use Rattle.ti_layout.specs.View.{view_contents};
 ghost use Rattle.everyday_termcap.specs.Contents.{are_same, flag_shown, inserting, is_left_out, is_lost_key, is_there, number_in, number_shown, only_reset};
-ghost use Rattle.everyday_termcap.specs.Contents.{said, second_start, text_said, text_shown, third_start, underline_blanks};
+ghost use Rattle.everyday_termcap.specs.Contents.{said, second_reset, second_start, text_said, text_shown, third_start, underline_blanks};
 
 use everyday_converting::byte_at;
 use ti_caps::Kind;
@@ -14,12 +14,16 @@ use ti_names::by_code;
 /// What is kept of an entry.
 #[derive(Clone, Copy)]
 pub(crate) struct Kept {
+    /// Whether all that has a code is, or what termcap has.
+    pub all: bool,
     /// Whether strings are that termcap has no form for.
     pub untranslatable: bool,
     /// Whether `sa` is.
     pub graphics: bool,
     /// Whether `as` and `ae` are.
     pub sets: bool,
+    /// Whether `ac` is.
+    pub characters: bool,
     /// The first function key that is not.
     pub keys: u8,
 }
@@ -124,6 +128,19 @@ fn only_reset<'a>(view: &View<'a>) -> Option<&'a [u8]>
     text_said(view, b"r2")
 }
 
+// The second reset, where it is not the only one.
+fn second_reset<'a>(view: &View<'a>) -> Option<&'a [u8]>
+    ensures { option_copied result ≡ second_reset (view_contents view.now) }
+{
+    if text_said(view, b"rs").is_some()
+        || text_said(view, b"r1").is_some()
+        || text_said(view, b"r3").is_some()
+    {
+        return text_said(view, b"r2");
+    }
+    None
+}
+
 // The third start, where it is left.
 fn third_start<'a>(view: &View<'a>) -> Option<&'a [u8]>
     ensures { option_copied result ≡ third_start (view_contents view.now) }
@@ -166,6 +183,7 @@ fn is_left_out(kept: Kept, code: &[u8]) -> bool
     is_lost_key(kept.keys, code)
         || (is(code, b"sa") && !kept.graphics)
         || ((is(code, b"as") || is(code, b"ae")) && !kept.sets)
+        || (is(code, b"ac") && !kept.characters)
 }
 
 /// The string of termcap that an entry has, given its `me`.
@@ -192,6 +210,9 @@ pub(crate) fn text_shown<'a>(
     }
     if is(code, b"rs") {
         return only_reset(view);
+    }
+    if is(code, b"r2") {
+        return second_reset(view);
     }
     if is(code, b"im") || is(code, b"ei") {
         return inserting(view, code);

@@ -2,7 +2,7 @@
 ghost use Rattle.std.specs.Prelude.{◌≡◌, ◌≤◌, ◌++◌, ◌∷◌, ℕ, List, None, Some, map, option_map, IfOk, OnOk};
 ghost use Rattle.std.specs.Option.{option_copied};
 ghost use Rattle.ti_layout.specs.View.{names_of, view_contents};
-ghost use Rattle.everyday_termcap.specs.Items.{entry_text, flag_items, header, if_any, lines, number_item, number_items, text_item, text_items, with_colons};
+ghost use Rattle.everyday_termcap.specs.Items.{entry_text, flag_items, header, if_any, line_break, lines, number_item, number_items, text_item, text_items, with_colons};
 
 use crate::contents::{Kept, flag_shown, number_shown, text_shown};
 use crate::lists::{flag_codes, has_parameters, number_codes, text_codes};
@@ -13,6 +13,15 @@ use ti_layout::View;
 
 // The columns that a tab at the front of a line takes.
 const TAB: usize = 8;
+
+/// How the items of an entry are laid out.
+#[derive(Clone, Copy)]
+pub struct Lines {
+    /// The most columns of a line that holds more than one item.
+    pub width: usize,
+    /// Whether all are on one line, whatever its width.
+    pub joined: bool,
+}
 
 // Appends a text with a backslash before each colon.
 fn push_with_colons(out: &mut Vec<u8>, text: &[u8]) -> Result<(), AllocError>
@@ -54,21 +63,31 @@ fn text_item(
     Ok(Some(out))
 }
 
+// Appends the end of a line and the front of another, unless all items are on one.
+fn push_break(out: &mut Vec<u8>, form: Lines) -> Result<(), AllocError>
+    ensures { OnOk result (out.new.items ≡ out.old.items ++ line_break form) }
+{
+    if !form.joined {
+        out.extend_from_slice(b"\\\n\t:")?;
+    }
+    Ok(())
+}
+
 // Appends an item with its colon, on the line or on a new one. `line` has the columns that are
 // taken, if a line has begun. Gives the columns that are then taken.
 fn push_item(
     out: &mut Vec<u8>,
-    width: usize,
+    form: Lines,
     line: Option<usize>,
     item: &[u8],
 ) -> Result<Option<usize>, AllocError>
     ensures { IfOk result (λ column. (later : List (List ℕ))
-        → out.new.items ++ lines width column later ≡ out.old.items ++ lines width line (item.now ∷ later)) }
+        → out.new.items ++ lines form column later ≡ out.old.items ++ lines form line (item.now ∷ later)) }
 {
     let column = match line {
-        Some(taken) if item.len() < width.saturating_sub(taken) => taken + item.len(),
+        Some(taken) if item.len() < form.width.saturating_sub(taken) => taken + item.len(),
         _ => {
-            out.extend_from_slice(b"\\\n\t:")?;
+            push_break(out, form)?;
             TAB + item.len()
         }
     };
@@ -80,16 +99,16 @@ fn push_item(
 // Appends the lines of the booleans of these codes.
 fn push_flags(
     out: &mut Vec<u8>,
-    width: usize,
+    form: Lines,
     view: &View<'_>,
     codes: &[&str],
 ) -> Result<(), AllocError>
-    ensures { OnOk result (out.new.items ≡ out.old.items ++ lines width None (flag_items (view_contents view.now) (map (λ code. code.now) codes.now))) }
+    ensures { OnOk result (out.new.items ≡ out.old.items ++ lines form None (flag_items (view_contents view.now) (map (λ code. code.now) codes.now))) }
 {
     let mut line = None;
     for code in codes {
         if flag_shown(view, code.as_bytes()) {
-            line = push_item(out, width, line, code.as_bytes())?;
+            line = push_item(out, form, line, code.as_bytes())?;
         }
     }
     Ok(())
@@ -109,17 +128,17 @@ fn number_item(alloc: Global, code: &[u8], number: u32) -> Result<Vec<u8>, Alloc
 fn push_numbers(
     alloc: Global,
     out: &mut Vec<u8>,
-    width: usize,
+    form: Lines,
     view: &View<'_>,
     codes: &[&str],
 ) -> Result<(), AllocError>
-    ensures { OnOk result (out.new.items ≡ out.old.items ++ lines width None (number_items (view_contents view.now) (map (λ code. code.now) codes.now))) }
+    ensures { OnOk result (out.new.items ≡ out.old.items ++ lines form None (number_items (view_contents view.now) (map (λ code. code.now) codes.now))) }
 {
     let mut line = None;
     for code in codes {
         if let Some(number) = number_shown(view, code.as_bytes()) {
             let item = number_item(alloc, code.as_bytes(), number)?;
-            line = push_item(out, width, line, &item)?;
+            line = push_item(out, form, line, &item)?;
         }
     }
     Ok(())
@@ -129,21 +148,21 @@ fn push_numbers(
 fn push_text(
     alloc: Global,
     out: &mut Vec<u8>,
-    width: usize,
+    form: Lines,
     line: Option<usize>,
     untranslatable: bool,
     code: &[u8],
     text: Option<&[u8]>,
 ) -> Result<Option<usize>, AllocError>
     ensures { IfOk result (λ column. (later : List (List ℕ))
-        → out.new.items ++ lines width column later
-        ≡ out.old.items ++ lines width line (if_any (text_item untranslatable code.now (option_copied text.entry)) ++ later)) }
+        → out.new.items ++ lines form column later
+        ≡ out.old.items ++ lines form line (if_any (text_item untranslatable code.now (option_copied text.entry)) ++ later)) }
 {
     let Some(text) = text else {
         return Ok(line);
     };
     match text_item(alloc, untranslatable, code, text)? {
-        Some(item) => push_item(out, width, line, &item),
+        Some(item) => push_item(out, form, line, &item),
         None => Ok(line),
     }
 }
@@ -152,7 +171,7 @@ fn push_text(
 fn push_texts<'a>(
     alloc: Global,
     out: &mut Vec<u8>,
-    width: usize,
+    form: Lines,
     view: &View<'a>,
     kept: Kept,
     plain: Option<&'a [u8]>,
@@ -160,7 +179,7 @@ fn push_texts<'a>(
 ) -> Result<(), AllocError>
     requires { kept.keys ≤ 10 }
     ensures { OnOk result (out.new.items ≡ out.old.items
-        ++ lines width None (text_items (view_contents view.now) kept (option_copied plain.entry) (map (λ code. code.now) codes.now))) }
+        ++ lines form None (text_items (view_contents view.now) kept (option_copied plain.entry) (map (λ code. code.now) codes.now))) }
 {
     let mut line = None;
     for code in codes {
@@ -168,7 +187,7 @@ fn push_texts<'a>(
         line = push_text(
             alloc,
             out,
-            width,
+            form,
             line,
             kept.untranslatable,
             code.as_bytes(),
@@ -202,16 +221,24 @@ pub(crate) fn entry_text<'a>(
     view: &View<'a>,
     kept: Kept,
     plain: Option<&'a [u8]>,
-    width: usize,
+    form: Lines,
 ) -> Result<Vec<u8>, AllocError>
     requires { kept.keys ≤ 10 }
-    ensures { IfOk result (λ out. out.items ≡ entry_text (names_of view.now) (view_contents view.now) kept (option_copied plain.entry) width) }
+    ensures { IfOk result (λ out. out.items ≡ entry_text (names_of view.now) (view_contents view.now) kept (option_copied plain.entry) form) }
 {
     let mut out = Vec::new(alloc);
     push_header(&mut out, view.names())?;
     out.extend_from_slice(b":")?;
-    push_flags(&mut out, width, view, flag_codes())?;
-    push_numbers(alloc, &mut out, width, view, number_codes())?;
-    push_texts(alloc, &mut out, width, view, kept, plain, text_codes())?;
+    push_flags(&mut out, form, view, flag_codes(kept.all))?;
+    push_numbers(alloc, &mut out, form, view, number_codes(kept.all))?;
+    push_texts(
+        alloc,
+        &mut out,
+        form,
+        view,
+        kept,
+        plain,
+        text_codes(kept.all),
+    )?;
     Ok(out)
 }

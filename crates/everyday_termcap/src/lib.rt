@@ -7,7 +7,8 @@
 //!     :bl=^G:cd=\EJ:ce=\EK:cl=\EH\EJ:cm=\EY%+ %+ :cr=\r:do=\n:\
 //! ```
 //!
-//! - `lists`: the capabilities that termcap has; `contents`: what an entry has of them
+//! - `lists`: the capabilities that have a code, and those that termcap has; `contents`: what an entry
+//!   has of them
 //! - `reset`: `me`, which is not quite `sgr0`
 //! - `items`: the items of an entry in lines
 //! - `limits`: what is left out of an entry that is too long
@@ -21,4 +22,5 @@ mod lists;
 mod reset;
 mod whole;
 
+pub use items::Lines;
 pub use whole::termcap;

@@ -3,11 +3,11 @@ ghost use Rattle.std.specs.Prelude.{◌≡◌, ◌≤◌, ◌<◌, ◌++◌, len
 ghost use Rattle.std.specs.Option.{option_copied};
 ghost use Rattle.ti_layout.specs.View.{names_of, view_contents};
 ghost use Rattle.everyday_termcap.specs.Limits.{all_kept, as_it_is, first_lost, has_keys, has_sets, is_fit, is_line, is_one_to_one, kept_in_short, limited_text};
-ghost use Rattle.everyday_termcap.specs.Limits.{remark_if, remark_text, shortened, shown, warning, without_graphics, without_keys, without_sets, source_seen};
+ghost use Rattle.everyday_termcap.specs.Limits.{remark_if, remark_text, shortened, shown, warning, without_graphics, without_keys, without_others, without_sets, source_seen};
 ghost use Rattle.everyday_termcap.specs.Contents.{is_there, text_said};
 
 use crate::contents::{Kept, text_said};
-use crate::items::entry_text;
+use crate::items::{Lines, entry_text};
 use itoa::Buffer;
 use std::alloc::{AllocError, Global};
 use ti_layout::View;
@@ -48,8 +48,10 @@ pub(crate) struct Source<'a> {
     pub with_sets: Option<&'a [u8]>,
     /// Its `me`, where that is not.
     pub without_sets: Option<&'a [u8]>,
-    /// The most columns of a line.
-    pub width: usize,
+    /// Whether all that has a code is written, or what termcap has.
+    pub all: bool,
+    /// Its lines.
+    pub form: Lines,
 }
 
 impl<'a> Source<'a> {
@@ -64,7 +66,7 @@ impl<'a> Source<'a> {
         } else {
             self.without_sets
         };
-        entry_text(alloc, &self.view, kept, plain, self.width)
+        entry_text(alloc, &self.view, kept, plain, self.form)
     }
 
     // Whether the entry has a string by a code.
@@ -86,13 +88,15 @@ impl<'a> Source<'a> {
 }
 
 // What is kept of an entry that is too long.
-fn kept_in_short(graphics: bool, sets: bool, keys: u8) -> Kept
-    ensures { result ≡ kept_in_short graphics sets keys }
+fn kept_in_short(all: bool, graphics: bool, sets: bool, characters: bool, keys: u8) -> Kept
+    ensures { result ≡ kept_in_short all graphics sets characters keys }
 {
     Kept {
+        all,
         untranslatable: false,
         graphics,
         sets,
+        characters,
         keys,
     }
 }
@@ -202,7 +206,7 @@ fn first_lost(view: &View<'_>, number: u8, too_many: usize) -> u8
     }
 }
 
-// Appends an entry that is too long without its graphics and sets too, given its text so far.
+// Appends an entry that is too long without what only terminfo has too, given its text so far.
 #[tactic(auto, unfolding(crate::specs::Limits::without_keys))]
 fn push_without_keys(
     alloc: Global,
@@ -213,11 +217,31 @@ fn push_without_keys(
     ensures { OnOk result (out.new.items ≡ out.old.items ++ without_keys (source_seen source.now) text.now) }
 {
     let lost = first_lost(&source.view, KEYS, text.len().saturating_sub(MOST));
-    let last = source.shown(alloc, kept_in_short(false, source.has_sets(), lost))?;
-    push_remark(out, true, Remark::TerminfoOnly)?;
+    let last = source.shown(
+        alloc,
+        kept_in_short(false, false, source.has_sets(), false, lost),
+    )?;
     push_remark(out, has_keys(&source.view, KEYS), Remark::Keys)?;
     push_warning(out, &last)?;
     out.extend_from_slice(&last)
+}
+
+// Appends an entry that is too long without its graphics and sets too.
+#[tactic(auto, unfolding(crate::specs::Limits::without_others))]
+fn push_without_others(
+    alloc: Global,
+    out: &mut Vec<u8>,
+    source: &Source<'_>,
+) -> Result<(), AllocError>
+    ensures { OnOk result (out.new.items ≡ out.old.items ++ without_others (source_seen source.now)) }
+{
+    let kept = kept_in_short(false, false, source.has_sets(), false, KEYS);
+    let text = source.shown(alloc, kept)?;
+    push_remark(out, true, Remark::TerminfoOnly)?;
+    if is_fit(&text) {
+        return out.extend_from_slice(&text);
+    }
+    push_without_keys(alloc, out, source, &text)
 }
 
 // Appends an entry that is too long without its graphics.
@@ -230,13 +254,13 @@ fn push_without_sets(
     ensures { OnOk result (out.new.items ≡ out.old.items ++ without_sets (source_seen source.now)) }
 {
     let sets = source.has_sets();
-    let text = source.shown(alloc, kept_in_short(false, sets, KEYS))?;
+    let text = source.shown(alloc, kept_in_short(source.all, false, sets, false, KEYS))?;
     push_remark(out, !sets, Remark::Consistency)?;
     push_remark(out, source.has(b"ac"), Remark::Characters)?;
     if is_fit(&text) {
         return out.extend_from_slice(&text);
     }
-    push_without_keys(alloc, out, source, &text)
+    push_without_others(alloc, out, source)
 }
 
 // Appends an entry that is too long without what termcap has no form for.
@@ -248,7 +272,7 @@ fn push_without_graphics(
 ) -> Result<(), AllocError>
     ensures { OnOk result (out.new.items ≡ out.old.items ++ without_graphics (source_seen source.now)) }
 {
-    let text = source.shown(alloc, kept_in_short(false, true, KEYS))?;
+    let text = source.shown(alloc, kept_in_short(source.all, false, true, true, KEYS))?;
     push_remark(out, source.has(b"sa"), Remark::Graphics)?;
     if is_fit(&text) {
         return out.extend_from_slice(&text);
@@ -261,7 +285,7 @@ fn push_without_graphics(
 fn push_shortened(alloc: Global, out: &mut Vec<u8>, source: &Source<'_>) -> Result<(), AllocError>
     ensures { OnOk result (out.new.items ≡ out.old.items ++ shortened (source_seen source.now)) }
 {
-    let text = source.shown(alloc, kept_in_short(true, true, KEYS))?;
+    let text = source.shown(alloc, kept_in_short(source.all, true, true, true, KEYS))?;
     push_remark(out, true, Remark::Untranslatable)?;
     if is_fit(&text) {
         return out.extend_from_slice(&text);
@@ -274,11 +298,13 @@ fn push_shortened(alloc: Global, out: &mut Vec<u8>, source: &Source<'_>) -> Resu
 fn push_as_it_is(alloc: Global, out: &mut Vec<u8>, source: &Source<'_>) -> Result<(), AllocError>
     ensures { OnOk result (out.new.items ≡ out.old.items ++ as_it_is (source_seen source.now)) }
 {
-    let sets = source.has_sets();
+    let sets = source.all || source.has_sets();
     let kept = Kept {
+        all: source.all,
         untranslatable: true,
         graphics: true,
         sets,
+        characters: true,
         keys: KEYS,
     };
     let text = source.shown(alloc, kept)?;
@@ -288,12 +314,14 @@ fn push_as_it_is(alloc: Global, out: &mut Vec<u8>, source: &Source<'_>) -> Resul
 
 // Whether an entry as it is is short enough.
 fn is_fit_as_it_is(alloc: Global, source: &Source<'_>) -> Result<bool, AllocError>
-    ensures { IfOk result (λ fit. fit ≡ is_fit (shown (source_seen source.now) all_kept)) }
+    ensures { IfOk result (λ fit. fit ≡ is_fit (shown (source_seen source.now) (all_kept source.now.all))) }
 {
     let kept = Kept {
+        all: source.all,
         untranslatable: true,
         graphics: true,
         sets: true,
+        characters: true,
         keys: KEYS,
     };
     let text = source.shown(alloc, kept)?;

@@ -1,20 +1,20 @@
-//! The capabilities that termcap has.
+//! The capabilities that have a code, and those of them that termcap has.
 ghost use Rattle.std.specs.Prelude.{◌≡◌, bytes_eq, map};
 ghost use Rattle.std.specs.List.{list_any};
 ghost use Rattle.everyday_termcap.specs.Lists.{flag_codes, has_parameters, number_codes, text_codes};
 
-// The codes of the booleans, by their bytes.
+// The codes of the booleans that termcap has, by their bytes.
 static FLAGS: [&str; 27] = [
     "NL", "am", "bs", "bw", "da", "db", "eo", "es", "gn", "hc", "hs", "hz", "in", "km", "mi", "ms",
     "nc", "ns", "os", "pt", "ul", "xb", "xn", "xo", "xr", "xs", "xt",
 ];
 
-// The codes of the numbers, by their bytes.
+// The codes of the numbers that termcap has, by their bytes.
 static NUMBERS: [&str; 14] = [
     "co", "dB", "dC", "dN", "dT", "it", "li", "lm", "ma", "pb", "sg", "ug", "vt", "ws",
 ];
 
-// The codes of the strings, by their bytes.
+// The codes of the strings that termcap has, by their bytes.
 static TEXTS: [&str; 110] = [
     "AL", "CC", "CM", "DC", "DL", "DO", "IC", "K1", "K2", "K3", "K4", "K5", "LE", "RI", "SF", "SR",
     "UP", "ae", "al", "as", "bc", "bl", "bt", "cd", "ce", "cl", "cm", "cr", "cs", "ct", "dc", "dl",
@@ -25,31 +25,81 @@ static TEXTS: [&str; 110] = [
     "sr", "st", "ta", "te", "ti", "ts", "uc", "ue", "up", "us", "vb", "ve", "vi", "vs",
 ];
 
-// The codes of the strings that have parameters.
-static WITH_PARAMETERS: [&str; 17] = [
-    "AL", "CM", "DC", "DL", "DO", "IC", "LE", "RI", "SF", "SR", "UP", "cm", "cs", "ec", "rp", "sa",
-    "ts",
+// The codes of all booleans, by their bytes.
+static ALL_FLAGS: [&str; 44] = [
+    "5i", "HC", "MT", "ND", "NL", "NP", "NR", "YA", "YB", "YC", "YD", "YE", "YF", "YG", "am", "bs",
+    "bw", "cc", "da", "db", "eo", "es", "gn", "hc", "hl", "hs", "hz", "in", "km", "mi", "ms", "nc",
+    "ns", "nx", "os", "pt", "ul", "ut", "xb", "xn", "xo", "xr", "xs", "xt",
 ];
 
-/// The codes of the booleans, by their bytes.
-pub(crate) fn flag_codes() -> &'static [&'static str]
-    ensures { map (λ code. code.now) result.now ≡ flag_codes }
+// The codes of all numbers, by their bytes.
+static ALL_NUMBERS: [&str; 39] = [
+    "BT", "Co", "MW", "NC", "Nl", "Ya", "Yb", "Yc", "Yd", "Ye", "Yf", "Yg", "Yh", "Yi", "Yj", "Yk",
+    "Yl", "Ym", "Yn", "Yo", "Yp", "co", "dB", "dC", "dN", "dT", "it", "kn", "lh", "li", "lm", "lw",
+    "ma", "pa", "pb", "sg", "ug", "vt", "ws",
+];
+
+// The codes of all strings, by their bytes.
+static ALL_TEXTS: [&str; 413] = [
+    "!1", "!2", "!3", "#1", "#2", "#3", "#4", "%0", "%1", "%2", "%3", "%4", "%5", "%6", "%7", "%8",
+    "%9", "%a", "%b", "%c", "%d", "%e", "%f", "%g", "%h", "%i", "%j", "&0", "&1", "&2", "&3", "&4",
+    "&5", "&6", "&7", "&8", "&9", "*0", "*1", "*2", "*3", "*4", "*5", "*6", "*7", "*8", "*9", "@0",
+    "@1", "@2", "@3", "@4", "@5", "@6", "@7", "@8", "@9", "AB", "AF", "AL", "CC", "CM", "CW", "DC",
+    "DI", "DK", "DL", "DO", "F1", "F2", "F3", "F4", "F5", "F6", "F7", "F8", "F9", "FA", "FB", "FC",
+    "FD", "FE", "FF", "FG", "FH", "FI", "FJ", "FK", "FL", "FM", "FN", "FO", "FP", "FQ", "FR", "FS",
+    "FT", "FU", "FV", "FW", "FX", "FY", "FZ", "Fa", "Fb", "Fc", "Fd", "Fe", "Ff", "Fg", "Fh", "Fi",
+    "Fj", "Fk", "Fl", "Fm", "Fn", "Fo", "Fp", "Fq", "Fr", "G1", "G2", "G3", "G4", "GC", "GD", "GH",
+    "GL", "GR", "GU", "GV", "Gm", "HU", "IC", "Ic", "Ip", "K1", "K2", "K3", "K4", "K5", "Km", "LE",
+    "LF", "LO", "Lf", "MC", "ML", "MR", "MT", "Mi", "PA", "PU", "QD", "RA", "RC", "RF", "RI", "RQ",
+    "RX", "S1", "S2", "S3", "S4", "S5", "S6", "S7", "S8", "SA", "SC", "SF", "SR", "SX", "Sb", "Sf",
+    "TO", "UP", "WA", "WG", "XF", "XN", "Xh", "Xl", "Xo", "Xr", "Xt", "Xv", "Xy", "YI", "YZ", "Yv",
+    "Yw", "Yx", "Yy", "Yz", "ZA", "ZB", "ZC", "ZD", "ZE", "ZF", "ZG", "ZH", "ZI", "ZJ", "ZK", "ZL",
+    "ZM", "ZN", "ZO", "ZP", "ZQ", "ZR", "ZS", "ZT", "ZU", "ZV", "ZW", "ZX", "ZY", "ZZ", "Za", "Zb",
+    "Zc", "Zd", "Ze", "Zf", "Zg", "Zh", "Zi", "Zj", "Zk", "Zl", "Zm", "Zn", "Zo", "Zp", "Zq", "Zr",
+    "Zs", "Zt", "Zu", "Zv", "Zw", "Zx", "Zy", "Zz", "ac", "ae", "al", "as", "bc", "bl", "bt", "bx",
+    "cb", "cd", "ce", "ch", "ci", "cl", "cm", "cr", "cs", "ct", "cv", "dc", "dl", "dm", "do", "ds",
+    "dv", "eA", "ec", "ed", "ei", "ff", "fh", "fs", "hd", "ho", "hu", "i1", "i2", "i3", "iP", "ic",
+    "if", "im", "ip", "is", "k0", "k1", "k2", "k3", "k4", "k5", "k6", "k7", "k8", "k9", "k;", "kA",
+    "kB", "kC", "kD", "kE", "kF", "kH", "kI", "kL", "kM", "kN", "kP", "kR", "kS", "kT", "ka", "kb",
+    "kd", "ke", "kh", "kl", "ko", "kr", "ks", "kt", "ku", "l0", "l1", "l2", "l3", "l4", "l5", "l6",
+    "l7", "l8", "l9", "la", "le", "ll", "ma", "mb", "md", "me", "mh", "mk", "ml", "mm", "mo", "mp",
+    "mr", "mu", "nd", "nl", "nw", "oc", "op", "pO", "pc", "pf", "pk", "pl", "pn", "po", "ps", "px",
+    "r1", "r2", "r3", "rP", "rc", "rf", "rp", "rs", "s0", "s1", "s2", "s3", "sA", "sa", "sc", "se",
+    "sf", "so", "sp", "sr", "st", "ta", "te", "ti", "ts", "u0", "u1", "u2", "u3", "u4", "u5", "u6",
+    "u7", "u8", "u9", "uc", "ue", "up", "us", "vb", "ve", "vi", "vs", "wi", "xl",
+];
+
+// The codes of the strings that have parameters.
+static WITH_PARAMETERS: [&str; 78] = [
+    "AB", "AF", "AL", "CM", "CW", "DC", "DI", "DL", "DO", "Gm", "IC", "Ic", "Ip", "LE", "ML", "MT",
+    "QD", "RI", "S1", "SC", "SF", "SR", "Sb", "Sf", "UP", "WG", "Xy", "YI", "YZ", "Yw", "Yz", "ZA",
+    "ZB", "ZC", "ZD", "ZE", "ZY", "Zc", "Zf", "Zg", "Zh", "Zi", "Zj", "Zl", "Zm", "Zn", "Zp", "Zq",
+    "Zr", "Zt", "Zy", "ch", "cm", "cs", "cv", "ec", "pO", "pk", "pl", "pn", "px", "rp", "sA", "sa",
+    "sp", "ts", "u0", "u1", "u2", "u3", "u4", "u5", "u6", "u7", "u8", "u9", "wi", "xl",
+];
+
+#[tactic(auto, using(crate::proofs::Tables::flags_are, crate::proofs::Tables::all_flags_are))]
+/// The codes of the booleans, by their bytes: of all, or of those that termcap has.
+pub(crate) fn flag_codes(all: bool) -> &'static [&'static str]
+    ensures { map (λ code. code.now) result.now ≡ flag_codes all }
 {
-    &FLAGS
+    if all { &ALL_FLAGS } else { &FLAGS }
 }
 
-/// The codes of the numbers, by their bytes.
-pub(crate) fn number_codes() -> &'static [&'static str]
-    ensures { map (λ code. code.now) result.now ≡ number_codes }
+#[tactic(auto, using(crate::proofs::Tables::numbers_are, crate::proofs::Tables::all_numbers_are))]
+/// The codes of the numbers, by their bytes: of all, or of those that termcap has.
+pub(crate) fn number_codes(all: bool) -> &'static [&'static str]
+    ensures { map (λ code. code.now) result.now ≡ number_codes all }
 {
-    &NUMBERS
+    if all { &ALL_NUMBERS } else { &NUMBERS }
 }
 
-/// The codes of the strings, by their bytes.
-pub(crate) fn text_codes() -> &'static [&'static str]
-    ensures { map (λ code. code.now) result.now ≡ text_codes }
+#[tactic(auto, using(crate::proofs::Tables::texts_are, crate::proofs::Tables::all_texts_are))]
+/// The codes of the strings, by their bytes: of all, or of those that termcap has.
+pub(crate) fn text_codes(all: bool) -> &'static [&'static str]
+    ensures { map (λ code. code.now) result.now ≡ text_codes all }
 {
-    &TEXTS
+    if all { &ALL_TEXTS } else { &TEXTS }
 }
 
 // Whether a code is among these.

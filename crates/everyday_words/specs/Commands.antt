@@ -4,11 +4,12 @@ use Rattle.std.specs.Prelude.{◌≡◌, codes, map, [], ◌∷◌}
 use Rattle.ti_text.specs.Ascii.{byte_of}
 use Rattle.clap.specs.Simple.{App, with_rule}
 use Rattle.tools_commands.specs.Commands.{rate_max}
-use Rattle.tools_commands.specs.InfocmpWords.{IsOrders, first_mode_rules, layout_rules, name_rules, other_mode_rules, width_max, width_min}
-use Rattle.tools_commands.specs.Rules.{Choices, flag_rule, long_number_rule, number_rule, operand_rule, operands_rule, option_rule}
+use Rattle.tools_commands.specs.InfocmpWords.{IsOrders, first_mode_rules, name_rules, other_mode_rules, width_max, width_min}
+use Rattle.tools_commands.specs.Rules.{Choices, choice_rule, flag_rule, long_number_rule, number_rule, operand_rule, operands_rule, option_rule}
 use Rattle.everyday_arguments.specs.Lines.{everyday_app}
 use Rattle.tools_commands.specs.Rules.{long_choice_rule, long_flag_rule}
 use Rattle.everyday_words.specs.Foreign.{with_foreign}
+use Rattle.everyday_words.specs.InfocmpWords.{columns_max}
 use Rattle.everyday_arguments.specs.declared.names.Tool.{Tool}
 use Rattle.everyday_arguments.specs.declared.names.Tool.TheVariants as tool
 
@@ -33,20 +34,30 @@ infocmp_flag_app = with_rule (everyday_app (codes "ti-infocmp")) (flag_rule (cod
 
 -- the options for termcap's form
 abbrev pub termcap_rules : App → App
-termcap_rules app = with_rule (with_rule app (flag_rule (codes "termcap") (byte_of "C"))) (flag_rule (codes "unlimited") (byte_of "T"))
+termcap_rules app = with_rule (with_rule (with_rule app
+    (flag_rule (codes "termcap") (byte_of "C")))
+    (flag_rule (codes "all") (byte_of "r")))
+    (flag_rule (codes "unlimited") (byte_of "T"))
 
 -- the options for C
 abbrev pub initializer_rules : App → App
 initializer_rules app = with_rule (with_rule app (flag_rule (codes "tables") (byte_of "E"))) (flag_rule (codes "structure") (byte_of "e"))
 
+-- the options for the layout; lines have any width that C has a number for
+abbrev pub line_rules : Choices → App → App
+line_rules orders app = with_rule (with_rule (with_rule app
+    (flag_rule (codes "one") (byte_of "1")))
+    (number_rule (codes "width") (byte_of "w") 0 columns_max))
+    (choice_rule (codes "sort") (byte_of "s") orders)
+
 -- the option for one line
 abbrev pub joined_rule : App → App
 joined_rule app = with_rule app (flag_rule (codes "joined") (byte_of "0"))
 
--- `ti-infocmp [-x] [-I|-d|-c|-n|-u] [-C] [-T] [-E] [-e] [-0] [-1] [-w N] [-s d|i] [-D] [-A DIR] [-B DIR] [NAME..]`
+-- `ti-infocmp [-x] [-I|-d|-c|-n|-u] [-C] [-r] [-T] [-E] [-e] [-0] [-1] [-w N] [-s d|i] [-D] [-A DIR] [-B DIR] [NAME..]`
 abbrev pub infocmp_app : Choices → App
 infocmp_app orders = name_rules (with_rule
-    (layout_rules orders (joined_rule (initializer_rules (termcap_rules (other_mode_rules (first_mode_rules infocmp_flag_app))))))
+    (line_rules orders (joined_rule (initializer_rules (termcap_rules (other_mode_rules (first_mode_rules infocmp_flag_app))))))
     (flag_rule (codes "directories") (byte_of "D")))
 
 -- `ti-tput [-x] [-T TERM] [--rate N] ..`

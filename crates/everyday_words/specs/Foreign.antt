@@ -29,7 +29,7 @@ taken_values _ = []
 -- options that are on or off, and are refused
 abbrev pub refused_flags : Tool → List ℕ
 refused_flags tool.Tic = codes "aCIL"
-refused_flags tool.Infocmp = codes "FfGgiKLprW"
+refused_flags tool.Infocmp = codes "FfGgiKLpW"
 refused_flags _ = []
 
 -- options with a value that are refused

@@ -31,7 +31,8 @@ pub record TicWanted : Type 0 where
   pub file : Option Text
 
 -- of `ti-infocmp`: whether user-defined capabilities are taken, the mode, the names, the layout, whether
--- entries are listed in termcap's form, and whether they are then limited in their length, whether the
+-- entries are listed in termcap's form, whether then with what only terminfo has, and whether they are
+-- limited in their length, whether the
 -- first is printed as the initializer of a structure of C and as tables of C, whether each entry is listed
 -- on one line, the only directory for the first name, and that for the others
 pub record InfocmpWanted : Type 0 where
@@ -40,6 +41,7 @@ pub record InfocmpWanted : Type 0 where
   pub names : List Text
   pub layout : Layout
   pub termcap : Bool
+  pub all : Bool
   pub limited : Bool
   pub structure : Bool
   pub tables : Bool
@@ -133,6 +135,7 @@ infocmp_seen r = record {
   names = map string_bytes r.names.items;
   layout = r.layout;
   termcap = r.termcap;
+  all = r.all;
   limited = r.limited;
   structure = r.structure;
   tables = r.tables;

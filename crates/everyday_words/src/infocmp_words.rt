@@ -1,9 +1,10 @@
 //! What the words after `ti-infocmp` are, for clap, and what they ask for.
-ghost use Rattle.std.specs.Prelude.{◌≡◌, length, map, option_map};
+ghost use Rattle.std.specs.Prelude.{◌≡◌, Some, codes, length, map, option_map};
+ghost use Rattle.clap.specs.Walk.{first_of};
 ghost use Rattle.tools_commands.specs.InfocmpWords.{choice_from};
 ghost use Rattle.tools_commands.specs.Matches.{matched_rows};
 ghost use Rattle.tools_commands.specs.InfocmpWords.{name_words};
-ghost use Rattle.everyday_words.specs.InfocmpWords.{compares, conflict, infocmp_asked, is_initializer, is_termcap, is_wrapped, listing_asked, listing_with, mode_of, takes_two};
+ghost use Rattle.everyday_words.specs.InfocmpWords.{columns_for, compares, conflict, infocmp_asked, is_initializer, is_octal, is_termcap, is_wrapped, listing_asked, listing_with, mode_of, takes_two};
 ghost use Rattle.everyday_words.specs.inside.Answers.{Answers};
 
 use crate::commands::VERSION_IN_PLACE;
@@ -15,11 +16,17 @@ use everyday_arguments::CommandLine;
 use std::alloc::Global;
 use ti_list::Layout;
 use tools_commands::{
-    Argument, Form, InfocmpMode, Mistake, ModeChoice, WIDTH_MAX, WIDTH_MIN, choice_of, is_on,
-    order_of, text, texts, value, values, width_of,
+    Argument, Form, InfocmpMode, Mistake, ModeChoice, choice_of, is_on, order_of, text, texts,
+    value, values,
 };
 
-/// `ti-infocmp [-x] [-I|-d|-c|-n|-u] [-C] [-T] [-E] [-e] [-0] [-1] [-w N] [-s d|i] [-D] [-A DIR] [-B DIR] [NAME..]`.
+// The width of a listing's lines if none is given.
+const COLUMNS: usize = 60;
+
+// The greatest width of lines that may be asked for.
+const COLUMNS_MAX: usize = 0x7fff_ffff;
+
+/// `ti-infocmp [-x] [-I|-d|-c|-n|-u] [-C] [-r] [-T] [-E] [-e] [-0] [-1] [-w N] [-s d|i] [-D] [-A DIR] [-B DIR] [NAME..]`.
 pub(crate) const INFOCMP: CommandLine<'static> = CommandLine {
     name: "ti-infocmp",
     version: VERSION_IN_PLACE,
@@ -61,6 +68,11 @@ pub(crate) const INFOCMP: CommandLine<'static> = CommandLine {
             help: "List entries in termcap's form, by their codes",
         },
         Argument {
+            id: "all",
+            form: Form::Flag('r'),
+            help: "With -C, list also what only terminfo has",
+        },
+        Argument {
             id: "unlimited",
             form: Form::Flag('T'),
             help: "With -C, list entries of any length whole [default: 1023 bytes]",
@@ -87,8 +99,8 @@ pub(crate) const INFOCMP: CommandLine<'static> = CommandLine {
         },
         Argument {
             id: "width",
-            form: Form::Number('w', "N", WIDTH_MIN as u64, WIDTH_MAX as u64),
-            help: "Lines of at most N columns, from 20 to 4096 [default: 60]",
+            form: Form::Number('w', "N", 0, COLUMNS_MAX as u64),
+            help: "Lines of at most N columns [default: 60]",
         },
         Argument {
             id: "sort",
@@ -129,7 +141,6 @@ pub(crate) const INFOCMP: CommandLine<'static> = CommandLine {
         foreign!(Refused, "K", 'K'),
         foreign!(Refused, "L", 'L'),
         foreign!(Refused, "p", 'p'),
-        foreign!(Refused, "r", 'r'),
         foreign!(Refused, "W", 'W'),
         foreign!(RefusedValue, "Q", 'Q'),
         foreign!(RefusedValue, "R", 'R'),
@@ -221,10 +232,40 @@ pub(crate) fn conflict(matches: &ArgMatches<'_>) -> Option<&'static str>
         Some("-q is not supported in comparisons")
     } else if is_on(matches, "joined") && is_wrapped(matches) {
         Some("-0 excludes -1 and -w")
-    } else if is_on(matches, "joined") && is_termcap(matches) {
-        Some("-0 is not supported with -C")
+    } else if is_octal(matches) {
+        Some("-w takes a decimal number")
     } else {
         None
+    }
+}
+
+// Whether the width has a digit 0 before others, which would make it a number of base 8.
+fn is_octal(matches: &ArgMatches<'_>) -> bool
+    ensures { result ≡ is_octal (first_of (codes "width") (matched_rows matches.now)) }
+{
+    match value(matches, "width") {
+        Some(text) => text.len() > 1 && text.as_bytes()[0] == b'0',
+        None => false,
+    }
+}
+
+// The width of a listing's lines that is given, or 60.
+fn columns_of(matches: &ArgMatches<'_>) -> Option<usize>
+    ensures { result ≡ columns_for (first_of (codes "width") (matched_rows matches.now)) }
+{
+    match value(matches, "width") {
+        Some(text) => columns_in(text),
+        None => Some(COLUMNS),
+    }
+}
+
+// The width of lines that a text spells.
+fn columns_in(text: &str) -> Option<usize>
+    ensures { result ≡ columns_for (Some text.now) }
+{
+    match text.parse::<usize>() {
+        Ok(columns) if columns <= COLUMNS_MAX => Some(columns),
+        _ => None,
     }
 }
 
@@ -243,7 +284,7 @@ fn listing_of(alloc: Global, matches: &ArgMatches<'_>, names: &[&str]) -> Result
         Ok(mode) => mode,
         Err(mistake) => return Err(NoRequest::Wrong(mistake)),
     };
-    let (Some(width), Some(order)) = (width_of(matches), order_of(matches)) else {
+    let (Some(width), Some(order)) = (columns_of(matches), order_of(matches)) else {
         return Err(NoRequest::Wrong(Mistake::NoCommandLine));
     };
     let names = texts(alloc, names)?;
@@ -261,6 +302,7 @@ fn listing_of(alloc: Global, matches: &ArgMatches<'_>, names: &[&str]) -> Result
         names,
         layout,
         termcap,
+        all: is_on(matches, "all"),
         limited: !is_on(matches, "unlimited"),
         structure: is_on(matches, "structure"),
         tables: is_on(matches, "tables"),

@@ -34,6 +34,8 @@ pub struct InfocmpRequest {
     pub layout: Layout,
     /// List entries in termcap's form.
     pub termcap: bool,
+    /// List also what only terminfo has in termcap's form.
+    pub all: bool,
     /// Leave out what makes an entry too long for older readers of termcap.
     pub limited: bool,
     /// Print the first entry as the initializer of a structure of C.

@@ -6,5 +6,5 @@ use Rattle.everyday_termcap.proofs.items.push_numbers.Given as goal
 -- what was written, and the lines of the codes that are left
 abbrev pub invariant-loop-code : goal.invariant-loop-code
 invariant-loop-code l =
-    l.out.items ++ lines l.width l.line (number_items (view_contents l.view) (map (λ code. code.now) (drop l.code-index l.codes)))
-    ≡ l.initial.out.items ++ lines l.width None (number_items (view_contents l.view) (map (λ code. code.now) l.codes))
+    l.out.items ++ lines l.form l.line (number_items (view_contents l.view) (map (λ code. code.now) (drop l.code-index l.codes)))
+    ≡ l.initial.out.items ++ lines l.form None (number_items (view_contents l.view) (map (λ code. code.now) l.codes))
