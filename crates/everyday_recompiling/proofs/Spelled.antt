@@ -93,13 +93,13 @@ module _ (laws : IsKnown) (draws : Bool) (texts : List (List ℕ)) (at : ℕ) (t
               < length (entry (reading_of_text text).field (drawn_values draws d.has.mentions) d.has.rows)))
               → rows_after bytes ≡ as_read d.has.rows
           by_chosen (inl other) =
-              let back = laws.entries OwnFirst texts at (entry_with (reading_of_text text) d.has.mentions d.has.rows) blocks stands
+              let back = laws.entries OwnFirst texts at text (entry_with (reading_of_text text) d.has.mentions d.has.rows) blocks stands
               (own-state draws OwnFirst texts text bytes d) in
               ap rows_after other.0
               ∙ (read-other laws.well laws.read laws.user_defined draws OwnFirst texts at text bytes blocks stands d back other.1).are_rows
           by_chosen (inr kept) =
               let h = d.has in
-              let back = laws.entries OwnFirst texts at (entry_with (reading_of_text text) h.mentions h.rows) blocks stands
+              let back = laws.entries OwnFirst texts at text (entry_with (reading_of_text text) h.mentions h.rows) blocks stands
               (own-state draws OwnFirst texts text bytes d) in
               let named = (laws.well text (block-at texts at text blocks stands)).named (whole OwnFirst texts text h.mentions h.expands) in
               let user = laws.user_defined OwnFirst texts at text h.user_mentions h.rows blocks stands h.user_expands h.are_rows in
