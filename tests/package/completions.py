@@ -45,7 +45,7 @@ CANDIDATES = [
     ("ti-lint -", "--strict", "-T"),
     ("ti-lint --format g", "github", "json"),
     ("ti-lint --fix --color never lan", "lantern.ti", "dumb.ti"),
-    ("ti-infocmp -", "-D", "-r"),
+    ("ti-infocmp -", "-D", "-L"),
     ("ti-infocmp -x ho", "homely", "dumb"),
     ("ti-infocmp ./out/d/du", "./out/d/dumb", "lantern3"),
     ("ti-infocmp -d -A more homely lantern", "lantern3", "homely"),
